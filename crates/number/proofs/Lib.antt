@@ -1,0 +1,16 @@
+pub mod Frac
+pub mod Bits
+pub mod Hull
+pub mod Grid
+pub mod Round
+pub mod Finite
+pub mod Ops
+pub mod Units
+pub mod Rank
+pub mod Neighbour
+pub mod Between
+pub mod Power
+pub mod Walk
+pub mod Rel
+pub mod Absolute
+pub mod Signed

@@ -1,0 +1,59 @@
+-- The elementary functions and the constants as the formulas see them. Each call of a run gets the float run's answer to that call.
+use Prim.Native.Nat.{ℕ}
+use mathlib.Core.Bool.{Bool}
+use lib.Ieee.{Float}
+use Rattle.number.specs.Ans.{Ans, held, _>>=_}
+use Rattle.number.specs.Arith.{Arith, bits, decimal}
+
+-- what the elementary functions answer: the port's own, or any others. An argument gives a value or a refusal
+pub record Answers : Type 0 where
+  pub sqrt : Float → Ans Float
+  pub ln : Float → Ans Float
+  pub ln1p : Float → Ans Float
+  pub exp : Float → Ans Float
+  pub expm1 : Float → Ans Float
+  pub tanh : Float → Ans Float
+  pub powf : Float → Float → Ans Float
+
+-- what a formula takes beside its arithmetic
+pub record Functions (N : Type 0) : Type 0 where
+  pub sqrt : N → Ans N
+  pub ln : N → Ans N
+  pub ln1p : N → Ans N
+  pub exp : N → Ans N
+  pub expm1 : N → Ans N
+  pub tanh : N → Ans N
+  pub powf : N → N → Ans N
+  -- std::f64::consts::{PI, FRAC_PI_6, TAU}
+  pub pi : N
+  pub frac-pi-6 : N
+  pub tau : N
+  -- a decimal of a quadrature rule: sign, digits, places
+  pub node : Bool → ℕ → ℕ → N
+
+module _ (A : Arith) where
+  open Arith A using (Num, lit, val, after)
+
+  -- A call looks at the float run's argument; the answer is a point. The argument was worked on the way.
+  unfoldable pub call : (Float → Ans Float) → Num → Ans Num
+  call f x = f (val x) >>= λ v. held (after x (lit v))
+
+  unfoldable pub call₂ : (Float → Float → Ans Float) → Num → Num → Ans Num
+  call₂ f x y = f (val x) (val y) >>= λ v. held (after x (after y (lit v)))
+
+  -- the functions of a run, from the answers; constants are points
+  abbrev pub calls : Answers → Functions Num
+  calls E =
+      record {
+        sqrt = call (E .sqrt);
+        ln = call (E .ln);
+        ln1p = call (E .ln1p);
+        exp = call (E .exp);
+        expm1 = call (E .expm1);
+        tanh = call (E .tanh);
+        powf = call₂ (E .powf);
+        pi = lit (bits 0x4009_21fb_5444_2d18);
+        frac-pi-6 = lit (bits 0x3fe0_c152_382d_7366);
+        tau = lit (bits 0x4019_21fb_5444_2d18);
+        node = λ s digits places. lit (decimal s digits places);
+      }

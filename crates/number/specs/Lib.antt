@@ -1,0 +1,9 @@
+pub mod Frac
+pub mod Ans
+pub mod Answer
+pub mod Neighbour
+pub mod Power
+pub mod Arith
+pub mod Functions
+pub mod Walk
+pub mod Side
