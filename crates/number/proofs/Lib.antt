@@ -14,3 +14,4 @@ pub mod Walk
 pub mod Rel
 pub mod Absolute
 pub mod Signed
+pub mod Order

@@ -6,7 +6,7 @@ use mathlib.Core.Bool.{Bool, true, false, cond}
 use mathlib.Core.List.{List, [], _∷_}
 use Rattle.number.specs.Arith.{Arith}
 use Rattle.number.specs.Ans.{Ans, held, refused, _>>=_}
-use Rattle.number.specs.Functions.{Functions, Answers, calls, call, call₂}
+use Rattle.number.specs.Functions.{Functions, Answers, answered, answered₂, calls, call, call₂}
 use Rattle.number.specs.Walk.{turns, walk}
 use Rattle.number.specs.Power.{digits, powDigits, powUp}
 
@@ -88,23 +88,21 @@ module _ (A B : Arith) (K : Rel A B) where
   open Rel K using (R, r-add, r-sub, r-mul, r-div, r-neg, r-pow, r-down, r-lit, r-val, r-after)
 
   -- ---- elementary calls
-  answer-rel : (a : Ans Float) {x : A .Num} {u : B .Num} → R x u → Both R (a >>= λ v. held (A .after x (A .lit v))) (a >>= λ v. held (B .after u (B .lit v)))
-  unfolding _>>=_
-  answer-rel (held v) p = both-held (r-after p (r-lit v))
-  answer-rel (refused n) p = both-refused
+  answered-rel : (a : Ans Float) {x : A .Num} {u : B .Num} → R x u → Both R (answered A a x) (answered B a u)
+  unfolding answered _>>=_
+  answered-rel (held v) p = both-held (r-after p (r-lit v))
+  answered-rel (refused n) p = both-refused
+
+  answered₂-rel : (a : Ans Float) {x y : A .Num} {u v : B .Num} → R x u → R y v → Both R (answered₂ A a x y) (answered₂ B a u v)
+  unfolding answered₂ _>>=_
+  answered₂-rel (held z) p q = both-held (r-after p (r-after q (r-lit z)))
+  answered₂-rel (refused n) p q = both-refused
 
   pub call-rel : (f : Float → Ans Float) {x : A .Num} {u : B .Num} → R x u → Both R (call A f x) (call B f u)
-  unfolding call
-  call-rel f {u = u} p = rw (r-val p) (answer-rel (f (B .val u)) p)
-
-  answer₂-rel : (a : Ans Float) {x y : A .Num} {u v : B .Num} → R x u → R y v → Both R (a >>= λ z. held (A .after x (A .after y (A .lit z)))) (a >>= λ z. held (B .after u (B .after v (B .lit z))))
-  unfolding _>>=_
-  answer₂-rel (held z) p q = both-held (r-after p (r-after q (r-lit z)))
-  answer₂-rel (refused n) p q = both-refused
+  call-rel f {u = u} p = rw (r-val p) (answered-rel (f (B .val u)) p)
 
   pub call₂-rel : (f : Float → Float → Ans Float) {x y : A .Num} {u v : B .Num} → R x u → R y v → Both R (call₂ A f x y) (call₂ B f u v)
-  unfolding call₂
-  call₂-rel f {u = u} {v = v} p q = rw (r-val p, r-val q) (answer₂-rel (f (B .val u) (B .val v)) p q)
+  call₂-rel f {u = u} {v = v} p q = rw (r-val p, r-val q) (answered₂-rel (f (B .val u) (B .val v)) p q)
 
   pub calls-rel : (E : Answers) → FunRel R (calls A E) (calls B E)
   calls-rel E =

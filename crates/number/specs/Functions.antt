@@ -34,12 +34,19 @@ pub record Functions (N : Type 0) : Type 0 where
 module _ (A : Arith) where
   open Arith A using (Num, lit, val, after)
 
-  -- A call looks at the float run's argument; the answer is a point. The argument was worked on the way.
-  unfoldable pub call : (Float → Ans Float) → Num → Ans Num
-  call f x = f (val x) >>= λ v. held (after x (lit v))
+  -- An answer is a point, after its arguments: these were worked on the way.
+  unfoldable pub answered : Ans Float → Num → Ans Num
+  answered a x = a >>= λ v. held (after x (lit v))
 
-  unfoldable pub call₂ : (Float → Float → Ans Float) → Num → Num → Ans Num
-  call₂ f x y = f (val x) (val y) >>= λ v. held (after x (after y (lit v)))
+  unfoldable pub answered₂ : Ans Float → Num → Num → Ans Num
+  answered₂ a x y = a >>= λ v. held (after x (after y (lit v)))
+
+  -- A call looks at the float run's arguments alone.
+  abbrev pub call : (Float → Ans Float) → Num → Ans Num
+  call f x = answered (f (val x)) x
+
+  abbrev pub call₂ : (Float → Float → Ans Float) → Num → Num → Ans Num
+  call₂ f x y = answered₂ (f (val x) (val y)) x y
 
   -- the functions of a run, from the answers; constants are points
   abbrev pub calls : Answers → Functions Num

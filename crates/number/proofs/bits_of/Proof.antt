@@ -1,17 +1,15 @@
+-- `number::bits_of` meets its contract. Assumes nothing.
 use Rattle.number.proofs.Bits.{own-yes, own-no}
 use borrow.Author.Needs.{needs}
 use Rattle.number.proofs.bits_of.Statement.{statement}
 use Rattle.number.proofs.bits_of.Tie as tie
 
--- src/lib.rt:37:9
 float-to-bits-result : tie.Need-float-to-bits-result
 float-to-bits-result c = own-yes (c .before .args .x) (c .if1 .taken)
 
--- src/lib.rt:33:1
 returns : tie.Need-returns
 returns c = search needs
 
--- src/lib.rt:33:1
 returns-2 : tie.Need-returns-2
 returns-2 c = own-no (c .before .args .x) (c .if1 .left)
 

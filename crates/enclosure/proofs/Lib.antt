@@ -1,0 +1,2 @@
+pub mod Relations
+pub mod TwoEnds

@@ -1,0 +1,30 @@
+-- `enclosure::answered` meets its contract. Assumes nothing.
+use Rattle.number.specs.Ans.{_>>=_}
+use Rattle.number.specs.Functions.{answered}
+use borrow.Author.Needs.{needs}
+use Rattle.enclosure.proofs.answered.Statement.{statement}
+use Rattle.enclosure.proofs.answered.Tie as tie
+
+enum-known-a : tie.Need-enum-known-a
+enum-known-a c = search needs
+
+enum-told : tie.Need-enum-told
+enum-told c = search needs
+
+returns : tie.Need-returns
+unfolding answered _>>=_
+returns c = rw (c .enum-told .given .1)
+
+point-requires : tie.Need-point-requires
+point-requires c κs = search needs
+
+after-requires : tie.Need-after-requires
+after-requires c κs = search needs
+
+returns-2 : tie.Need-returns-2
+unfolding answered _>>=_
+returns-2 c = rw (c .before .before .before .a .given .1, c .after .ensures, c .before .point .ensures)
+
+pub answered-spec : {M : Type 1} → statement M
+answered-spec =
+    tie.close (tie.spec enum-known-a enum-told returns point-requires after-requires returns-2)

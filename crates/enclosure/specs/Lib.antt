@@ -1,0 +1,4 @@
+pub mod Enclosure
+pub mod Exact
+pub mod Answer
+pub mod Ends
