@@ -7,3 +7,4 @@ pub mod Arith
 pub mod Functions
 pub mod Walk
 pub mod Side
+pub mod Lists

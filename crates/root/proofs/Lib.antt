@@ -1,0 +1,12 @@
+pub mod Advance
+pub mod Align
+pub mod Arms
+pub mod Correct
+pub mod Domain
+pub mod Midpoint
+pub mod Pattern
+pub mod Rounded
+pub mod Rows
+pub mod Start
+pub mod Table
+pub mod Whole

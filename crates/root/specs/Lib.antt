@@ -1,0 +1,3 @@
+pub mod Root
+pub mod Reciprocals
+pub mod Stage

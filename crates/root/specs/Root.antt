@@ -1,0 +1,44 @@
+-- The square root of document 01: correctly rounded, -0 gives -0, below zero or not finite is outside, which is 6.
+use mathlib.Core.Bool.{Bool, true, false, cond}
+use Prim.Native.Nat.{ℕ, zero, suc, _+_, _*_, _/_, _^_, _≤_, _<_}
+use lib.IntN.{ℤ}
+use lib.Dec.{T, leb}
+use lib.Ieee.{Float, nan, inf, fin, binary64, fits, ofBits, size, up, down}
+use lib.Ieee.Scale.{finite}
+use Rattle.number.specs.Ans.{Ans, held, refused}
+use Rattle.number.specs.Frac.{Frac, frac, leF, ltF, zeroF, addF, mulF, valF}
+
+-- the whole root of an n below 4 ^ k, digit by digit: the largest number whose square is at most n
+unfoldable pub wholeRoot : ℕ → ℕ → ℕ
+wholeRoot zero n = 0
+wholeRoot (suc k) n = let r = 2 * wholeRoot k (n / 4) in cond (leb ((r + 1) * (r + 1)) n) (r + 1) r
+
+-- The root of n units of 2 ^ -1074, for a positive float's n. Moved by an even number of places, n has 107 or 108 digits and its whole root 54;
+-- half of that, rounded up, is the significand of 53 digits. The significand's leading digit adds one to the exponent's field f.
+unfoldable pub positiveRoot : ℕ → Float
+positiveRoot n =
+    let f = (size n + 969) / 2 in
+    ofBits binary64 (f * 2 ^ 52 + (wholeRoot 54 (n * 2 ^ 1076 / 2 ^ (2 * f)) + 1) / 2)
+
+unfoldable pub root : Float → Ans Float
+root nan = refused 6
+root (inf s) = refused 6
+root (fin s zero e) = held (fin s zero e)
+root (fin true (suc m) e) = refused 6
+root (fin false (suc m) e) = held (positiveRoot (suc m * up e * 2 ^ 1074 / down e))
+
+-- ---- what IEEE 754 asks of it: no float is as near to the exact root
+
+abbrev pub midpoint : Float → Float → Frac
+midpoint x y = mulF (frac 1 0 2) (addF (valF x) (valF y))
+
+abbrev pub square : Frac → Frac
+square q = mulF q q
+
+-- r is correctly rounded: each other float y that is not negative lies farther from the root of x, on whose side of the midpoint of r and y
+-- the root lies being told by squares. Being strict both ways, it says that no tie occurs.
+pub record Nearest (r x : Float) : Type 0 where
+  pub held : T (fits binary64 r)
+  pub sized : T (finite r)
+  pub above : (y : Float) → T (fits binary64 y) → T (finite y) → ltF (valF r) (valF y) → ltF (valF x) (square (midpoint r y))
+  pub below : (y : Float) → T (fits binary64 y) → T (finite y) → leF zeroF (valF y) → ltF (valF y) (valF r) → ltF (square (midpoint r y)) (valF x)
