@@ -40,3 +40,10 @@ own-no nan h = refl
 own-no (inf true) h = absurd (true≢false h)
 own-no (inf false) h = absurd (true≢false h)
 own-no (fin s m e) h = absurd (true≢false (sym (self s (m * up e * down e)) ∙ h))
+
+pub own-is : (x : Float) → eq x x ≡ not (isNan x)
+unfolding eq isNan
+own-is nan = refl
+own-is (inf true) = refl
+own-is (inf false) = refl
+own-is (fin s m e) = self s (m * up e * down e)
