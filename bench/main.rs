@@ -2,9 +2,15 @@
 use std::hint::black_box;
 use std::time::Instant;
 
+#[link(name = "interval_bench", kind = "static")]
 extern "C" {
     fn domthelv_bench_float(op: u8, x: f64, y: f64, n: u64) -> f64;
     fn domthelv_bench_interval(op: u8, x: f64, y: f64, n: u64) -> f64;
+}
+
+#[link(name = "domthelv", kind = "static")]
+extern "C" {
+    fn domthelv_sqrt(x: f64, out: &mut f64) -> u8;
 }
 
 /// Best nanoseconds a turn of `f(turns)`, of several rounds.
@@ -20,22 +26,53 @@ fn best(turns: u64, f: impl Fn(u64) -> f64) -> f64 {
 
 fn intervals() {
     println!("intervals: one operation after another, each waiting for the last");
-    println!("{:<12} {:>9} {:>9} {:>7} {:>6}", "operation", "float ns", "ends ns", "ratio", "goal");
+    println!("{:<14} {:>9} {:>9} {:>7} {:>6}", "operation", "float ns", "ends ns", "ratio", "goal");
     let rows = [
         ("sum", 0u8, 1.0, 1e-9, 8.0),
         ("difference", 1, 1.0, 1e-9, 8.0),
         ("product", 2, 1.0, 1.0 + 1e-9, 12.0),
-        ("product, -", 2, 1.0, -1.0 - 1e-9, 12.0),
+        ("product, by -1", 2, 1.0, -1.0 - 1e-9, 12.0),
         ("quotient", 3, 1.0, 1.0 + 1e-9, 12.0),
     ];
     for (name, op, x, y, goal) in rows {
         let n = 200_000;
         let float = best(n, |n| unsafe { domthelv_bench_float(op, x, y, n) });
         let ends = best(n, |n| unsafe { domthelv_bench_interval(op, x, y, n) });
-        println!("{:<12} {:>9.2} {:>9.2} {:>6.1}x {:>5.0}x", name, float, ends, ends / float, goal);
+        println!("{:<14} {:>9.2} {:>9.2} {:>6.1}x {:>5.0}x", name, float, ends, ends / float, goal);
     }
+}
+
+/// Arguments between two ends, the same in each run.
+fn arguments(low: f64, high: f64) -> Vec<f64> {
+    let mut seed = 0x9e37_79b9_7f4a_7c15u64;
+    let mut next = || {
+        seed ^= seed << 13;
+        seed ^= seed >> 7;
+        seed ^= seed << 17;
+        (seed >> 11) as f64 / 9007199254740992.0
+    };
+    (0..4096).map(|_| low + (high - low) * next()).collect()
+}
+
+/// A row of an elementary function: independent calls on random arguments.
+fn elementary(name: &str, low: f64, high: f64, goal: f64, ours: unsafe extern "C" fn(f64, &mut f64) -> u8, platform: fn(f64) -> f64) {
+    let list = arguments(low, high);
+    let turns = 50 * list.len() as u64;
+    let over = |f: &dyn Fn(f64) -> f64| {
+        best(turns, |n| (0..n as usize).map(|i| f(list[i % 4096])).sum())
+    };
+    let a = over(&|x| {
+        let mut r = 0.0;
+        unsafe { ours(x, &mut r) };
+        r
+    });
+    let b = over(&|x| platform(black_box(x)));
+    println!("{:<14} {:>9.2} {:>9.2} {:>6.1}x {:>5.1}x", name, b, a, a / b, goal);
 }
 
 fn main() {
     intervals();
+    println!("elementary functions: independent calls on random arguments");
+    println!("{:<14} {:>9} {:>9} {:>7} {:>6}", "function", "platf. ns", "port ns", "ratio", "goal");
+    elementary("sqrt", 0.5, 4.5, 12.0, domthelv_sqrt, f64::sqrt);
 }

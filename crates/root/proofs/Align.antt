@@ -1,13 +1,11 @@
 -- A float's significand m with its leading digit moved to the top, so that the exponent is even: what `positiveRoot` is for m 2 ^ e units. Assumes nothing.
-use mathlib.Core.Path.{_≡_, refl, sym, ap, _∙_, subst}
-use mathlib.Core.Bool.{not}
-use Prim.Native.Nat.{ℕ, zero, suc, _+_, _-_, _*_, _/_, _%_, _^_, _≤_, _<_}
-use native.Mathlib.Nat.{le-trans, le-antisymm, lt-of-le-of-lt, lt-of-lt-of-le, lt-of-not-le, lt-irrefl, mul-assoc, mul-le-mul-right, mul-lt-mul-of-pos-right, mod-eq-of-lt}
+use mathlib.Core.Path.{_≡_, sym, ap, _∙_, subst}
+use Prim.Native.Nat.{ℕ, suc, _+_, _-_, _*_, _/_, _%_, _^_, _≤_, _<_}
+use native.Mathlib.Nat.{le-trans, le-antisymm, lt-of-le-of-lt, lt-of-lt-of-le, lt-of-not-le, lt-irrefl, mul-assoc, mul-le-mul-right}
 use native.Mathlib.Omega.{arith}
 use native.Mathlib.Decide.{decLe}
-use lib.Dec.{T}
 use lib.Count.{leadingZeros, leading-top}
-use lib.Pow.{pow-pos, pow-mono, pow-add, shl-lt, shl-shr}
+use lib.Pow.{pow-mono, pow-add, shl-lt, shl-shr}
 use lib.Ieee.{binary64, ofBits, size}
 use lib.Ieee.Digits.{size-lt, size-le}
 use Rattle.root.specs.Root.{wholeRoot, positiveRoot}

@@ -1,6 +1,6 @@
 -- The default of a match on 0, 1, .., k - 1: the number is at least k. Assumes nothing.
 use mathlib.Core.Path.{_≡_}
-use Prim.Native.Nat.{ℕ, zero, suc, _≤_, _<_}
+use Prim.Native.Nat.{ℕ, zero, suc, _≤_}
 use native.Mathlib.Omega.{arith}
 
 -- j is none of 0, 1, .., k - 1

@@ -12,7 +12,7 @@ use lib.Ieee.Bits.{is-true, is-false, ofBits-toBits, toBits-lt}
 use lib.Ieee.Fits.{up-pos, down-pos, and-l}
 use lib.Ieee.Exact.{HasValue, odd-sign}
 use lib.Ieee.Positive.{positive}
-use Rattle.number.specs.Ans.{Ans, held, refused}
+use Rattle.number.specs.Ans.{held, refused}
 use Rattle.root.specs.Root.{root, positiveRoot}
 use Rattle.root.proofs.Pattern.{value-small, value-normal}
 

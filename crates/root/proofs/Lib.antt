@@ -2,6 +2,7 @@ pub mod Advance
 pub mod Align
 pub mod Arms
 pub mod Correct
+pub mod Digit
 pub mod Domain
 pub mod Midpoint
 pub mod Pattern
@@ -9,4 +10,5 @@ pub mod Rounded
 pub mod Rows
 pub mod Start
 pub mod Table
+pub mod Units
 pub mod Whole

@@ -1,9 +1,9 @@
 -- From units of 2 ^ -1074 to fractions: the square of a midpoint against a number. Assumes nothing.
-use mathlib.Core.Path.{_≡_, refl, sym, ap, _∙_, subst, subst₂}
-use Prim.Native.Nat.{ℕ, zero, suc, _+_, _-_, _*_, _≤_, _<_}
-use native.Mathlib.Nat.{mul-pos, mul-one, one-mul, zero-mul, mul-zero, add-zero, zero-add, mul-lt-mul-of-pos-right, lt-of-mul-lt-mul-right}
+use mathlib.Core.Path.{_≡_, sym, ap, _∙_, subst₂}
+use Prim.Native.Nat.{ℕ, _+_, _*_, _<_}
+use native.Mathlib.Nat.{mul-pos, one-mul, zero-mul, mul-zero, add-zero, zero-add, mul-lt-mul-of-pos-right, lt-of-mul-lt-mul-right}
 use native.Mathlib.Omega.{arith}
-use Rattle.number.specs.Frac.{Frac, frac, ltF, addF, mulF}
+use Rattle.number.specs.Frac.{frac, ltF, addF, mulF}
 use Rattle.number.proofs.Frac.{ring}
 use Rattle.root.specs.Root.{square}
 

@@ -1,13 +1,12 @@
 -- The bit patterns of the floats that are not negative: what number each stands for. Assumes nothing.
-use mathlib.Core.Path.{_≡_, refl, sym, ap, _∙_, subst}
+use mathlib.Core.Path.{_≡_, sym, ap, _∙_, subst}
 use mathlib.Core.Logic.{_⊎_, inl, inr}
-use mathlib.Core.Bool.{Bool, true, false, not, cond}
-use Prim.Native.Nat.{ℕ, zero, suc, _+_, _-_, _*_, _/_, _%_, _^_, _≤_, _<_}
-use native.Mathlib.Nat.{lt-irrefl, lt-of-lt-of-le, not-le-of-lt, mod-eq-of-lt, mul-assoc, mul-one, pow-succ', eq-or-lt-of-le}
+use mathlib.Core.Bool.{Bool, false, not, cond}
+use Prim.Native.Nat.{ℕ, suc, _+_, _-_, _*_, _/_, _%_, _^_, _≤_, _<_}
+use native.Mathlib.Nat.{lt-irrefl, lt-of-lt-of-le, not-le-of-lt, mod-eq-of-lt, mul-assoc, pow-succ', eq-or-lt-of-le}
 use native.Mathlib.Omega.{arith}
-use native.Mathlib.Decide.{decLe}
 use lib.Dec.{T, leb, ltb, eqb, leb→le, ltb→lt, eqb→eq, not-T}
-use lib.Ieee.{Float, nan, inf, fin, nanBits, binary64, odd, ofFields, ofBits}
+use lib.Ieee.{Float, nan, inf, nanBits, binary64, odd, ofFields, ofBits}
 use lib.Ieee.Bits.{is-false, cond-no, nanBits-above}
 use lib.Ieee.Exact.{HasValue, odd-sign}
 

@@ -1,9 +1,7 @@
 -- The root is correctly rounded: no float is as near, and no tie occurs. Assumes nothing.
-use mathlib.Core.Path.{_≡_, refl, sym, ap, _∙_, subst}
-use mathlib.Core.Logic.{_⊎_, inl, inr}
-use mathlib.Core.Bool.{Bool, true, false}
-use Prim.Native.Nat.{ℕ, zero, suc, _+_, _-_, _*_, _/_, _%_, _^_, _≤_, _<_}
-use native.Mathlib.Nat.{le-refl, le-trans, le-of-eq, le-of-lt, lt-irrefl, lt-of-le-of-lt, lt-of-lt-of-le, lt-of-not-le, mul-assoc, mul-comm, mul-le-mul, mul-le-mul-left, mul-le-mul-right, mul-pos, suc-mul, mul-lt-mul-of-pos-right, lt-of-mul-lt-mul-right, add-sub-of-le, pow-succ'}
+use mathlib.Core.Path.{_≡_, sym, ap, _∙_, subst}
+use Prim.Native.Nat.{ℕ, zero, suc, _+_, _-_, _*_, _/_, _^_, _≤_, _<_}
+use native.Mathlib.Nat.{le-trans, le-of-eq, le-of-lt, lt-irrefl, lt-of-le-of-lt, lt-of-lt-of-le, lt-of-not-le, mul-assoc, mul-le-mul, mul-le-mul-left, mul-le-mul-right, mul-pos, suc-mul, mul-lt-mul-of-pos-right, lt-of-mul-lt-mul-right, pow-succ'}
 use native.Mathlib.Omega.{arith}
 use native.Mathlib.Decide.{decLe}
 use lib.Pow.{pow-pos, pow-mono, pow-add}

@@ -2,8 +2,7 @@
 use mathlib.Core.Path.{_≡_, refl}
 use mathlib.Core.Bool.{true, false}
 use lib.IntN.{pos, negsuc}
-use lib.Count.{trailingZeros}
-use lib.Ieee.{fin, ofBits, ofFields, odd, size, span, climb}
+use lib.Ieee.{fin, ofBits, size}
 use Rattle.number.specs.Ans.{held}
 use Rattle.root.specs.Root.{wholeRoot, positiveRoot, root}
 

@@ -1,8 +1,8 @@
 -- The rule of the table of reciprocals, by one computed test, and the stage from which the passes start. Assumes nothing.
-use mathlib.Core.Path.{_≡_, refl, sym, ap, _∙_, subst}
-use mathlib.Core.Bool.{Bool, true, false, _&&_}
+use mathlib.Core.Path.{_≡_, subst}
+use mathlib.Core.Bool.{Bool, true, _&&_}
 use mathlib.Core.List.{List, [], _∷_}
-use Prim.Native.Nat.{ℕ, zero, suc, _+_, _-_, _*_, _/_, _%_, _^_, _≤_, _<_}
+use Prim.Native.Nat.{ℕ, _+_, _-_, _*_, _/_, _%_, _^_, _≤_, _<_}
 use native.Mathlib.Nat.{le-trans, mul-one}
 use native.Mathlib.Omega.{arith}
 use lib.Dec.{T, leb, leb→le}
@@ -61,6 +61,9 @@ abbrev pub chosen : ℕ → ℕ
 chosen a = getD reciprocals (first a - 64) 0
 
 module _ (a : ℕ) (long : 2 ^ 62 ≤ a) (fits : a < 2 ^ 64) where
+  abbrev g : ℕ
+  g = guess (first a) (chosen a)
+
   holds : Holds (entry (first a) (chosen a))
   holds = looked (first a) (omega arith) (omega arith)
 
@@ -70,19 +73,19 @@ module _ (a : ℕ) (long : 2 ^ 62 ≤ a) (fits : a < 2 ^ 64) where
       lin : (y : ℕ) → y + 1 ≤ 65536 → y < 65536
       lin y h = omega arith
 
-  pub start-square : guess (first a) (chosen a) * guess (first a) (chosen a) ≤ a / 1099511627776
+  pub start-square : g * g ≤ a / 1099511627776
   start-square = le-trans (holds .1 .1 .1 .0) (digits-le a)
     where
       digits-le : (a : ℕ) → a / 72057594037927936 * 65536 ≤ a / 1099511627776
       digits-le a = omega arith
 
-  pub start-stage : Stage (chosen a) 0 (guess (first a) (chosen a)) (a / 1099511627776 - guess (first a) (chosen a) * guess (first a) (chosen a))
+  pub start-stage : Stage (chosen a) 0 g (a / 1099511627776 - g * g)
   unfolding slack
   start-stage = record {
     few = start-y;
     many = holds .0;
-    left = left a (guess (first a) (chosen a)) (guess (first a) (chosen a) * guess (first a) (chosen a)) (holds .1 .1 .1 .1 .0);
-    over = rw (mul-one (2 ^ 33 / chosen a)) (le-trans (over a (guess (first a) (chosen a) * guess (first a) (chosen a)) start-square) (holds .1 .1 .0));
+    rest = left a g (g * g) (holds .1 .1 .1 .1 .0);
+    over = rw (mul-one (2 ^ 33 / chosen a)) (le-trans (over a (g * g) start-square) (holds .1 .1 .0));
     near = holds .1 .1 .1 .1 .1 .0;
   }
     where
@@ -92,8 +95,8 @@ module _ (a : ℕ) (long : 2 ^ 62 ≤ a) (fits : a < 2 ^ 64) where
       over : (a gg : ℕ) → gg ≤ a / 1099511627776 → (gg + (a / 1099511627776 - gg) + 1) * 4096 ≤ (a / 72057594037927936 + 1) * 268435456
       over a gg h = omega arith
 
-  pub start-digits : digits (guess (first a) (chosen a)) (a / 1099511627776 - guess (first a) (chosen a) * guess (first a) (chosen a)) (a % 1099511627776 * 16777216) ≡ a * 2 ^ 24
-  start-digits = go a (guess (first a) (chosen a) * guess (first a) (chosen a)) start-square
+  pub start-digits : digits g (a / 1099511627776 - g * g) (a % 1099511627776 * 16777216) ≡ a * 2 ^ 24
+  start-digits = go a (g * g) start-square
     where
       go : (a gg : ℕ) → gg ≤ a / 1099511627776 → (gg + (a / 1099511627776 - gg)) * 18446744073709551616 + a % 1099511627776 * 16777216 ≡ a * 16777216
       go a gg h = omega arith

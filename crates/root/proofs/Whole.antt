@@ -1,21 +1,13 @@
 -- The whole root is the largest number whose square is at most n, and the corrections reach it. Assumes nothing.
-use mathlib.Core.Path.{_≡_, refl, sym, ap, _∙_, subst}
+use mathlib.Core.Path.{_≡_, subst}
 use mathlib.Core.Bool.{Bool, true, false, not, cond}
-use Prim.Native.Nat.{ℕ, zero, suc, _+_, _-_, _*_, _/_, _%_, _^_, _≤_, _<_}
-use native.Mathlib.Nat.{le-trans, le-of-eq, le-antisymm, lt-irrefl, lt-of-le-of-lt, lt-of-lt-of-le, mul-le-mul, mul-le-mul-right, lt-of-not-le, mul-lt-mul-of-pos-right, add-sub-of-le, pow-succ'}
+use Prim.Native.Nat.{ℕ, zero, suc, _+_, _-_, _*_, _/_, _^_, _≤_, _<_}
+use native.Mathlib.Nat.{le-trans, le-of-eq, le-antisymm, lt-of-le-of-lt, mul-le-mul-right, mul-lt-mul-of-pos-right, add-sub-of-le, pow-succ'}
 use native.Mathlib.Omega.{arith}
-use native.Mathlib.Decide.{decLe}
 use lib.Dec.{T, leb, leb→le, nleb→lt}
 use Rattle.number.proofs.Frac.{ring}
 use Rattle.root.specs.Root.{wholeRoot}
-use Rattle.root.proofs.Advance.{root-le}
-
-pub root-lt : (r c : ℕ) → r * r < c * c → r < c
-root-lt r c h = go (decLe c r)
-  where
-    go : Dec (c ≤ r) → r < c
-    go (yes p) = absurd (lt-irrefl (r * r) (lt-of-lt-of-le h (mul-le-mul p p)))
-    go (no n) = lt-of-not-le n
+use Rattle.root.proofs.Digit.{root-lt}
 
 -- r is the whole root of n
 abbrev pub Whole : ℕ → ℕ → Type 0

@@ -1,7 +1,6 @@
 -- The square root of document 01: correctly rounded, -0 gives -0, below zero or not finite is outside, which is 6.
-use mathlib.Core.Bool.{Bool, true, false, cond}
-use Prim.Native.Nat.{ℕ, zero, suc, _+_, _*_, _/_, _^_, _≤_, _<_}
-use lib.IntN.{ℤ}
+use mathlib.Core.Bool.{true, false, cond}
+use Prim.Native.Nat.{ℕ, zero, suc, _+_, _*_, _/_, _^_}
 use lib.Dec.{T, leb}
 use lib.Ieee.{Float, nan, inf, fin, binary64, fits, ofBits, size, up, down}
 use lib.Ieee.Scale.{finite}
@@ -27,7 +26,7 @@ root (fin s zero e) = held (fin s zero e)
 root (fin true (suc m) e) = refused 6
 root (fin false (suc m) e) = held (positiveRoot (suc m * up e * 2 ^ 1074 / down e))
 
--- ---- what IEEE 754 asks of it: no float is as near to the exact root
+-- ---- what IEEE 754 asks of a square root that is correctly rounded: no float is as near to the exact root
 
 abbrev pub midpoint : Float → Float → Frac
 midpoint x y = mulF (frac 1 0 2) (addF (valF x) (valF y))
@@ -35,10 +34,11 @@ midpoint x y = mulF (frac 1 0 2) (addF (valF x) (valF y))
 abbrev pub square : Frac → Frac
 square q = mulF q q
 
--- r is correctly rounded: each other float y that is not negative lies farther from the root of x, on whose side of the midpoint of r and y
--- the root lies being told by squares. Being strict both ways, it says that no tie occurs.
+-- r is nearer to the root of x than any other float y that is not negative: the root lies on r's side of the midpoint of r and y, which is told by squares.
+-- Since the root is never at a midpoint, no tie occurs. Two such r are equal as fractions.
 pub record Nearest (r x : Float) : Type 0 where
-  pub held : T (fits binary64 r)
-  pub sized : T (finite r)
+  pub is-float : T (fits binary64 r)
+  pub is-finite : T (finite r)
+  pub not-negative : leF zeroF (valF r)
   pub above : (y : Float) → T (fits binary64 y) → T (finite y) → ltF (valF r) (valF y) → ltF (valF x) (square (midpoint r y))
-  pub below : (y : Float) → T (fits binary64 y) → T (finite y) → leF zeroF (valF y) → ltF (valF y) (valF r) → ltF (square (midpoint r y)) (valF x)
+  pub below : (y : Float) → T (fits binary64 y) → T (finite y) → leF zeroF (valF y) → ltF (valF y) (valF r) → ltF (square (midpoint y r)) (valF x)

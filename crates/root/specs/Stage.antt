@@ -11,7 +11,7 @@ slack (suc i) = (34 * slack i + 192) / 64
 pub record Stage (y i r rho : ℕ) : Type 0 where
   pub few : y < 65536
   pub many : 16384 ≤ y
-  pub left : rho ≤ slack i * r
+  pub rest : rho ≤ slack i * r
   pub over : (r * r + rho + 1) * 4096 ≤ 2 ^ 33 / y * 2 ^ (6 * i) * (2 ^ 33 / y * 2 ^ (6 * i))
   pub near : 40629 * (2 ^ 34 * 2 ^ (6 * i)) ≤ 5242880 * (r * y)
 

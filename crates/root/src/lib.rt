@@ -1,9 +1,9 @@
 // The square root, correctly rounded, in whole numbers alone: no division or remainder but by fixed powers of two, nine passes of loops.
-// Method: x is m 2^e units of 2^-1074. a is m with its leading digit moved to the top of 64, or one place lower to make the exponent even.
-// The whole root of a 2^44, 54 digits, starts from 12 digits and a reciprocal looked up by a's first eight, gains six digits a pass in
-// seven passes, and is corrected twice. Half of it, rounded up, is the result's significand.
-// Error budget: none. A digit is never too large, what the passes leave is at most 6 times the root, so that two corrections reach the
-// whole root, and no midpoint of two floats is the root of a float.
+// Method: x is m 2^e units of 2^-1074. a is m with its leading digit moved to the top of 64 places, or one lower to make the exponent even.
+// The whole root of a 2^44 has 54 digits. It starts from 12 digits and a reciprocal looked up by a's first eight, gains six digits a pass
+// in seven passes, and is corrected twice. Half of it, rounded up, is the result's significand.
+// Error budget: none. A pass's digit is never too large, what all passes leave is at most 6 times the root, so that two corrections reach
+// the whole root, and no midpoint of two floats is the root of a float.
 ghost use mathlib.Core.Path.{_≡_};
 ghost use Prim.Native.Nat.{_+_, _*_, _^_, _≤_, _<_};
 ghost use lib.ListN.{getD};
@@ -13,14 +13,113 @@ ghost use Rattle.root.specs.Reciprocals.{reciprocals};
 ghost use Rattle.root.specs.Stage.{Stage, digits};
 use number::FloatAnswer;
 
+const TWO_24: u64 = 1 << 24;
+
+const TWO_34: u64 = 1 << 34;
+
+const TWO_40: u64 = 1 << 40;
+
+const TWO_52: u64 = 1 << 52;
+
+const TWO_56: u64 = 1 << 56;
+
 // A root's first digits, what is left of the number's first digits, and the number's further digits, the next ones at the top.
 struct Digits {
     root: u64,
     rest: u64,
-    left: u64,
+    further: u64,
 }
 
-// The table of reciprocals.
+// Six more digits t of the root, from the reciprocal y: with R = 64 root, (R + t)² takes 2 R t + t² from what is left.
+fn pass(d: Digits, y: u64, i: u64) -> Digits
+    requires { ⌜ i < 7 ⌝ }
+    requires { ⌜ Stage y i (d .root) (d .rest) ⌝ }
+    ensures stage { λ r. ⌜ Stage y (i + 1) (r .root) (r .rest) ⌝ }
+    ensures same { λ r. ⌜ digits (r .root) (r .rest) (r .further) ≡ digits (d .root) (d .rest) (d .further) * 4096 ⌝ }
+    ensures few { λ r. ⌜ r .further < 2 ^ 64 ⌝ }
+{
+    let n = d.rest * 4096 + d.further / TWO_52;
+    let t = (n >> (6 * i)) * y / TWO_34;
+    Digits {
+        root: d.root * 64 + t,
+        rest: n - t * (d.root * 128 + t),
+        further: d.further % TWO_52 * 4096,
+    }
+}
+
+// The root's digits after all passes, from a first guess of 12.
+fn leading(a: u64) -> Digits
+    requires { ⌜ 2 ^ 62 ≤ a ⌝ }
+    ensures { λ r. ⌜ (r .root * r .root + r .rest ≡ a * 2 ^ 44) × (r .rest ≤ 6 * r .root) ⌝ }
+{
+    let j = a / TWO_56;
+    let y = reciprocal(j - 64);
+    let s = (2 * j + 1) * y / 4096;
+    let mut d = Digits {
+        root: s,
+        rest: a / TWO_40 - s * s,
+        further: a % TWO_40 * TWO_24,
+    };
+    for i in 0u64..7u64 {
+        d = pass(d, y, i);
+    }
+    d
+}
+
+// The whole root of a 2^44: what the passes leave is worth two units at most.
+fn whole_root(a: u64) -> u64
+    requires { ⌜ 2 ^ 62 ≤ a ⌝ }
+    ensures { λ r. ⌜ r ≡ wholeRoot 54 (a * 2 ^ 44) ⌝ }
+{
+    let d = leading(a);
+    let mut r = d.root;
+    let mut rest = d.rest;
+    for k in 0u64..2u64 {
+        if 2 * r < rest {
+            rest = rest - (2 * r + 1);
+            r = r + 1;
+        }
+    }
+    r
+}
+
+// The root of m 2^e units of 2^-1074. The move by l - 1 or l places makes the exponent even.
+fn nearest_root(m: u64, e: u64) -> f64
+    requires { ⌜ (0 < m) × (m < 2 ^ 53) × (e ≤ 2045) ⌝ }
+    ensures { λ r. ⌜ r ≡ positiveRoot (m * 2 ^ e) ⌝ }
+{
+    let l = u64::leading_zeros(m) as u64;
+    let f = 1033 + e - l;
+    let a = m << (l - 1 + f % 2);
+    let r = whole_root(a);
+    f64::from_bits(f / 2 * TWO_52 + (r + 1) / 2)
+}
+
+// The square root, correctly rounded; either zero gives itself; below zero or not finite is outside.
+// That `root` is what IEEE 754 asks is the law `nearest` of proofs/Correct.antt.
+pub fn sqrt(x: f64) -> FloatAnswer
+    ensures { λ r. ⌜ answer r ≡ root x ⌝ }
+{
+    if x == 0.0 {
+        return FloatAnswer::Value(x);
+    }
+    let infinity = f64::from_bits(0x7ff0_0000_0000_0000);
+    let inside = (0.0 < x) & (x < infinity);
+    if !inside {
+        return FloatAnswer::Outside;
+    }
+    let b = f64::to_bits(x);
+    let f = b / TWO_52;
+    let m = b % TWO_52;
+    if f == 0 {
+        let small = nearest_root(m, 0);
+        return FloatAnswer::Value(small);
+    }
+    let r = nearest_root(m + TWO_52, f - 1);
+    FloatAnswer::Value(r)
+}
+
+// A little less than 2^19 / √(65 + j): a match, since a constant array would be built anew at each call.
 fn reciprocal(j: u64) -> u64
     requires { ⌜ j < 192 ⌝ }
     ensures { λ r. ⌜ r ≡ getD reciprocals j 0 ⌝ }
@@ -219,92 +318,4 @@ fn reciprocal(j: u64) -> u64
         190 => 32832,
         _ => 32767,
     }
-}
-
-// Six more digits of the root: the next one to base 64 from the reciprocal y, never too large.
-fn pass(d: Digits, y: u64, i: u64) -> Digits
-    requires { ⌜ i < 7 ⌝ }
-    requires { ⌜ Stage y i (d .root) (d .rest) ⌝ }
-    ensures stage { λ r. ⌜ Stage y (i + 1) (r .root) (r .rest) ⌝ }
-    ensures same { λ r. ⌜ digits (r .root) (r .rest) (r .left) ≡ digits (d .root) (d .rest) (d .left) * 4096 ⌝ }
-    ensures few { λ r. ⌜ r .left < 2 ^ 64 ⌝ }
-{
-    let n = d.rest * 4096 + d.left / 4503599627370496;
-    let t = (n >> (6 * i)) * y / 17179869184;
-    Digits {
-        root: d.root * 64 + t,
-        rest: n - t * (d.root * 128 + t),
-        left: d.left % 4503599627370496 * 4096,
-    }
-}
-
-// The root's digits after all passes: r² + rest = a 2^44.
-fn leading(a: u64) -> Digits
-    requires { ⌜ 2 ^ 62 ≤ a ⌝ }
-    ensures { λ r. ⌜ (r .root * r .root + r .rest ≡ a * 2 ^ 44) × (r .rest ≤ 6 * r .root) ⌝ }
-{
-    let j = a / 72057594037927936;
-    let y = reciprocal(j - 64);
-    let s = (2 * j + 1) * y / 4096;
-    let mut d = Digits {
-        root: s,
-        rest: a / 1099511627776 - s * s,
-        left: a % 1099511627776 * 16777216,
-    };
-    for i in 0u64..7u64 {
-        d = pass(d, y, i);
-    }
-    d
-}
-
-// The whole root of a 2^44: what the passes leave is worth at most two units.
-fn whole_root(a: u64) -> u64
-    requires { ⌜ 2 ^ 62 ≤ a ⌝ }
-    ensures { λ r. ⌜ r ≡ wholeRoot 54 (a * 2 ^ 44) ⌝ }
-{
-    let d = leading(a);
-    let mut r = d.root;
-    let mut rest = d.rest;
-    for k in 0u64..2u64 {
-        if 2 * r < rest {
-            rest = rest - (2 * r + 1);
-            r = r + 1;
-        }
-    }
-    r
-}
-
-// The root of m 2^e units of 2^-1074. The move by l - 1 or l places makes the exponent even.
-fn nearest_root(m: u64, e: u64) -> f64
-    requires { ⌜ (0 < m) × (m < 2 ^ 53) × (e ≤ 2045) ⌝ }
-    ensures { λ r. ⌜ r ≡ positiveRoot (m * 2 ^ e) ⌝ }
-{
-    let l = u64::leading_zeros(m) as u64;
-    let f = 1033 + e - l;
-    let a = m << (l - 1 + f % 2);
-    let r = whole_root(a);
-    f64::from_bits(f / 2 * 4503599627370496 + (r + 1) / 2)
-}
-
-// The square root, correctly rounded; either zero gives itself; below zero or not finite is outside.
-pub fn sqrt(x: f64) -> FloatAnswer
-    ensures { λ r. ⌜ answer r ≡ root x ⌝ }
-{
-    if x == 0.0 {
-        return FloatAnswer::Value(x);
-    }
-    let infinity = f64::from_bits(0x7ff0_0000_0000_0000);
-    let inside = (0.0 < x) & (x < infinity);
-    if !inside {
-        return FloatAnswer::Outside;
-    }
-    let b = f64::to_bits(x);
-    let f = b / 4503599627370496;
-    let m = b % 4503599627370496;
-    if f == 0 {
-        let small = nearest_root(m, 0);
-        return FloatAnswer::Value(small);
-    }
-    let r = nearest_root(m + 4503599627370496, f - 1);
-    FloatAnswer::Value(r)
 }

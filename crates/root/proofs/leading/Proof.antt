@@ -1,25 +1,18 @@
 -- `leading` meets its contract. The loop's invariant: the stage that i passes reach, and that no digit of the number is lost. Assumes nothing.
 use borrow.Author.Needs.{needs}
-use mathlib.Core.Path.{_≡_, refl, sym, ap, _∙_, subst}
-use Prim.Native.Nat.{ℕ, _+_, _-_, _*_, _/_, _%_, _^_, _≤_, _<_}
-use native.Mathlib.Nat.{le-of-lt, lt-of-le-of-lt, mul-le-mul, mul-assoc, mul-one}
+use mathlib.Core.Path.{_≡_, sym, _∙_}
+use Prim.Native.Nat.{_+_, _-_, _*_, _^_, _≤_, _<_}
+use native.Mathlib.Nat.{le-of-lt, lt-of-le-of-lt, mul-le-mul, mul-one}
 use native.Mathlib.Omega.{arith}
-use lib.Pow.{pow-add, shr-le}
 use mir.Facts.{fits-bits}
-use lib.ListN.{getD}
-use Rattle.root.specs.Reciprocals.{reciprocals}
 use Rattle.root.specs.Stage.{Stage, digits}
-use Rattle.root.proofs.Advance.{finish}
-use Rattle.root.proofs.Start.{first, chosen, guess, start-y, start-square, start-stage, start-digits}
+use Rattle.root.proofs.Advance.{one-more, finish}
+use Rattle.root.proofs.Start.{first, chosen, start-y, start-square, start-stage, start-digits}
 use Rattle.root.proofs.leading.Statement.{statement}
 use Rattle.root.proofs.leading.Tie as tie
-use Rattle.root.proofs.leading.Reads as reads
-use Rattle.root.proofs.leading.Lts as lts
-use Rattle.root.proofs.pass.Reads as pass-reads
-use Rattle.root.proofs.reciprocal.Reads as reciprocal-reads
 
 abbrev Inv-loop : tie.InvT-loop
-Inv-loop a j y s d₀ i₀ d i = (i ≤ 7) × Stage y i (d .root) (d .rest) × (digits (d .root) (d .rest) (d .left) ≡ a * 2 ^ 24 * 4096 ^ i) × (d .left < 2 ^ 64)
+Inv-loop a j y s d₀ i₀ d i = (i ≤ 7) × Stage y i (d .root) (d .rest) × (digits (d .root) (d .rest) (d .further) ≡ a * 2 ^ 24 * 4096 ^ i) × (d .further < 2 ^ 64)
 
 abbrev μ-loop : tie.MeasureT-loop
 μ-loop a j y s d₀ i₀ d i = 7 - i
@@ -71,7 +64,7 @@ loop-again : tie.Need-loop-again Inv-loop μ-loop
 loop-again c = (
   search needs,
   c .pass .ensures .0,
-  c .pass .ensures .1 .0 ∙ ap (λ (z : ℕ). z * 4096) (c .before .before .loop .inv .2) ∙ mul-assoc (c .before .before .before .before .args .a * 16777216) (4096 ^ c .before .before .loop .i) 4096 ∙ ap (λ (z : ℕ). c .before .before .before .before .args .a * 16777216 * z) (sym (pow-add 4096 (c .before .before .loop .i) 1)),
+  one-more _ _ (c .before .before .before .before .args .a * 2 ^ 24) (c .before .before .loop .i) (c .pass .ensures .1 .0) (c .before .before .loop .inv .2),
   c .pass .ensures .1 .1,
 )
 

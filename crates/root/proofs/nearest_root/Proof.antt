@@ -1,7 +1,7 @@
 -- `nearest_root` meets its contract: the significand moved, its whole root, and the pattern. Assumes nothing.
 use borrow.Author.Needs.{needs}
 use mathlib.Core.Path.{_≡_, sym, ap, _∙_}
-use Prim.Native.Nat.{ℕ, _+_, _-_, _*_, _/_, _%_, _^_, _≤_, _<_}
+use Prim.Native.Nat.{ℕ, _+_, _*_, _/_, _%_, _^_, _≤_, _<_}
 use native.Mathlib.Nat.{mod-eq-of-lt}
 use native.Mathlib.Omega.{arith}
 use lib.Ieee.{binary64, ofBits}
@@ -11,9 +11,6 @@ use Rattle.root.proofs.Pattern.{no-nan}
 use Rattle.root.proofs.Whole.{digits-54}
 use Rattle.root.proofs.nearest_root.Statement.{statement}
 use Rattle.root.proofs.nearest_root.Tie as tie
-use Rattle.root.proofs.nearest_root.Reads as reads
-use Rattle.root.proofs.nearest_root.Lts as lts
-use Rattle.root.proofs.whole_root.Reads as whole-root-reads
 
 few : (c : tie.Start) → (11 ≤ zeros (c .args .m)) × (zeros (c .args .m) ≤ 63)
 few c = zeros-few (c .args .m) (c .args .e) (c .pre .0) (c .pre .1)

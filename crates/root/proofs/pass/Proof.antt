@@ -1,27 +1,27 @@
 -- `pass` meets its contract, by the laws of one pass. Assumes nothing.
-use Prim.Native.Nat.{ℕ, _+_, _*_, _/_, _^_, _≤_, _<_}
+use borrow.Author.Needs.{needs}
+use Prim.Native.Nat.{_+_, _*_, _/_, _^_, _≤_, _<_}
 use native.Mathlib.Omega.{arith}
 use native.Mathlib.Nat.{lt-of-le-of-lt}
 use mir.Facts.{fits-bits}
-use Rattle.root.proofs.Advance.{fed, digit, next-fits, next-taken, next-stage, next-digits}
-use borrow.Author.Needs.{needs}
+use Rattle.root.proofs.Advance.{extended, digit, next-fits, next-takes, next-stage, next-digits}
 use Rattle.root.proofs.pass.Statement.{statement}
 use Rattle.root.proofs.pass.Tie as tie
 
 -- the next 12 digits
-few : (c : tie.Start) → c .args .d .left / 4503599627370496 < 4096
+few : (c : tie.Start) → c .args .d .further / 4503599627370496 < 4096
 few c = search needs
 
 room : (c : tie.Start) →
-    let n = fed (c .args .d .rest) (c .args .d .left / 4503599627370496) in
-    (n < 2 ^ 64) × (n / 2 ^ (6 * c .args .i) * c .args .y < 2 ^ 64) × (c .args .d .root * 128 + digit (c .args .y) (2 ^ (6 * c .args .i)) n < 2 ^ 64)
-room c = next-fits (c .args .y) (c .args .i) (c .args .d .root) (c .args .d .rest) (c .args .d .left / 4503599627370496) (c .pre .1) (few c) (c .pre .0)
+    let n = extended (c .args .d .rest) (c .args .d .further / 4503599627370496) in
+    (n < 2 ^ 64) × (n / 2 ^ (6 * c .args .i) * c .args .y < 2 ^ 64) × (c .args .d .root * 128 + digit (c .args .y) (c .args .i) n < 2 ^ 64)
+room c = next-fits (c .args .y) (c .args .i) (c .args .d .root) (c .args .d .rest) (c .args .d .further / 4503599627370496) (c .pre .1) (few c) (c .pre .0)
 
 taken : (c : tie.Start) →
-    let n = fed (c .args .d .rest) (c .args .d .left / 4503599627370496) in
-    let t = digit (c .args .y) (2 ^ (6 * c .args .i)) n in
+    let n = extended (c .args .d .rest) (c .args .d .further / 4503599627370496) in
+    let t = digit (c .args .y) (c .args .i) n in
     t * (c .args .d .root * 128 + t) ≤ n
-taken c = next-taken (c .args .y) (c .args .i) (c .args .d .root) (c .args .d .rest) (c .args .d .left / 4503599627370496) (c .pre .1) (few c)
+taken c = next-takes (c .args .y) (c .args .i) (c .args .d .root) (c .args .d .rest) (c .args .d .further / 4503599627370496) (c .pre .1) (few c)
 
 mul-n : tie.Need-mul-n
 mul-n c = let h = room (c .before) in omega arith
@@ -60,10 +60,9 @@ mul-t13 : tie.Need-mul-t13
 mul-t13 c = search needs
 
 returns : tie.Need-returns
-returns c = (
-  next-stage (c .before .before .before .before .before .args .y) (c .before .before .before .before .before .args .i) (c .before .before .before .before .before .args .d .root) (c .before .before .before .before .before .args .d .rest) (c .before .before .before .before .before .args .d .left / 4503599627370496) (c .before .before .before .before .before .pre .1) (few (c .before .before .before .before .before)),
-  (next-digits (c .before .before .before .before .before .args .y) (c .before .before .before .before .before .args .i) (c .before .before .before .before .before .args .d .root) (c .before .before .before .before .before .args .d .rest) (c .before .before .before .before .before .args .d .left) (c .before .before .before .before .before .pre .1) (few (c .before .before .before .before .before)), search needs),
-)
+returns c =
+    let s = c .before .before .before .before .before in
+    (next-stage (s .args .y) (s .args .i) (s .args .d .root) (s .args .d .rest) (s .args .d .further / 4503599627370496) (s .pre .1) (few s), (next-digits (s .args .y) (s .args .i) (s .args .d .root) (s .args .d .rest) (s .args .d .further) (s .pre .1) (few s), search needs))
 
 pub pass-spec : {M : Type 1} → statement M
 pass-spec =

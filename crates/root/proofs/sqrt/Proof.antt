@@ -1,19 +1,15 @@
 -- `sqrt` meets its contract: the domain's laws, then the root of what the pattern stands for. Assumes nothing.
 use borrow.Author.Needs.{needs}
-use mathlib.Core.Path.{_≡_, sym, ap, _∙_, subst}
-use Prim.Native.Nat.{ℕ, _+_, _-_, _*_, _/_, _%_, _^_, _≤_, _<_}
+use mathlib.Core.Path.{sym, ap, _∙_, subst}
 use native.Mathlib.Omega.{arith}
 use lib.Dec.{T}
-use lib.Ieee.{Float, binary64, fits}
+use lib.Ieee.{binary64, fits}
 use lib.Ieee.Positive.{positive}
 use Rattle.number.specs.Ans.{held}
 use Rattle.root.proofs.Domain.{zero-root, outside-root, inside-positive, positive-no-nan, root-of, pattern, value-small-of, value-normal-of}
 use Rattle.root.proofs.Pattern.{no-nan}
 use Rattle.root.proofs.sqrt.Statement.{statement}
 use Rattle.root.proofs.sqrt.Tie as tie
-use Rattle.root.proofs.sqrt.Reads as reads
-use Rattle.root.proofs.sqrt.Lts as lts
-use Rattle.root.proofs.nearest_root.Reads as nearest-root-reads
 
 -- the argument is a float, and behind both tests a positive one
 float : (c : tie.Start) → T (fits binary64 (c .args .x))

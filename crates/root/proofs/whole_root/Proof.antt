@@ -1,15 +1,11 @@
 -- `whole_root` meets its contract. The loop's invariant: r squared and the rest are the number, and each turn leaves twice the root less. Assumes nothing.
 use borrow.Author.Needs.{needs}
-use mathlib.Core.Path.{_≡_}
 use mathlib.Core.Logic.{⊎-elim}
-use Prim.Native.Nat.{ℕ, _+_, _-_, _*_, _^_, _≤_, _<_}
+use Prim.Native.Nat.{_-_}
 use native.Mathlib.Omega.{arith}
 use Rattle.root.proofs.Whole.{Turned, short, one-up, stays, corrected}
 use Rattle.root.proofs.whole_root.Statement.{statement}
 use Rattle.root.proofs.whole_root.Tie as tie
-use Rattle.root.proofs.whole_root.Reads as reads
-use Rattle.root.proofs.whole_root.Lts as lts
-use Rattle.root.proofs.leading.Reads as leading-reads
 
 abbrev Inv-loop : tie.InvT-loop
 Inv-loop a r₀ rest₀ k₀ r rest k = Turned a k r rest
