@@ -11,6 +11,12 @@ extern "C" {
 #[link(name = "domthelv", kind = "static")]
 extern "C" {
     fn domthelv_sqrt(x: f64, out: &mut f64) -> u8;
+    fn domthelv_ln(x: f64, out: &mut f64) -> u8;
+    fn domthelv_ln_1p(x: f64, out: &mut f64) -> u8;
+    fn domthelv_exp(x: f64, out: &mut f64) -> u8;
+    fn domthelv_exp_m1(x: f64, out: &mut f64) -> u8;
+    fn domthelv_tanh(x: f64, out: &mut f64) -> u8;
+    fn domthelv_powf(base: f64, exponent: f64, out: &mut f64) -> u8;
 }
 
 /// Best nanoseconds a turn of `f(turns)`, of several rounds.
@@ -70,9 +76,31 @@ fn elementary(name: &str, low: f64, high: f64, goal: f64, ours: unsafe extern "C
     println!("{:<14} {:>9.2} {:>9.2} {:>6.1}x {:>5.1}x", name, b, a, a / b, goal);
 }
 
+/// One power a turn, of random bases and exponents.
+fn power() {
+    let (bases, exponents) = (arguments(0.3, 3.0), arguments(3.0, 20.0));
+    let turns = 50 * bases.len() as u64;
+    let over = |f: &dyn Fn(f64, f64) -> f64| {
+        best(turns, |n| (0..n as usize).map(|i| f(bases[i % 4096], exponents[(i * 7) % 4096])).sum())
+    };
+    let a = over(&|x, y| {
+        let mut r = 0.0;
+        unsafe { domthelv_powf(x, y, &mut r) };
+        r
+    });
+    let b = over(&|x, y| black_box(x).powf(black_box(y)));
+    println!("{:<14} {:>9.2} {:>9.2} {:>6.1}x {:>5.1}x", "powf", b, a, a / b, 1.5);
+}
+
 fn main() {
     intervals();
     println!("elementary functions: independent calls on random arguments");
     println!("{:<14} {:>9} {:>9} {:>7} {:>6}", "function", "platf. ns", "port ns", "ratio", "goal");
     elementary("sqrt", 0.5, 4.5, 12.0, domthelv_sqrt, f64::sqrt);
+    elementary("ln", 0.001, 1000.0, 6.0, domthelv_ln, f64::ln);
+    elementary("ln_1p", -0.9, 10.0, 6.0, domthelv_ln_1p, f64::ln_1p);
+    elementary("exp", -20.0, 20.0, 1.6, domthelv_exp, f64::exp);
+    elementary("exp_m1", -20.0, 20.0, 1.6, domthelv_exp_m1, f64::exp_m1);
+    elementary("tanh", -5.0, 5.0, 1.8, domthelv_tanh, f64::tanh);
+    power();
 }

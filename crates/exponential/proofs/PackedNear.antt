@@ -1,0 +1,125 @@
+-- A packed number against a true value that is within a units of it: the distance 2 ^ -48. Assumes nothing.
+use mathlib.Core.Path.{_≡_, refl, sym, ap, _∙_, subst}
+use mathlib.Core.Bool.{Bool, true, false}
+use Prim.Native.Nat.{ℕ, zero, suc, _+_, _-_, _*_, _/_, _%_, _^_, _≤_, _<_}
+use native.Mathlib.Nat.{add-mul, mul-add, mul-assoc, mul-comm, mul-left-comm, mul-zero, zero-mul, one-mul, mul-one, add-zero, zero-add, add-comm, le-trans, le-of-eq, mul-pos, mul-le-mul-left, mul-le-mul-right, le-of-mul-le-mul-right}
+use native.Mathlib.Omega.{arith}
+use lib.Dec.{T, lit<, lit≤}
+use lib.Pow.{pow-pos, pow-add}
+use lib.Ieee.{Float}
+use lib.Ieee.Exact.{HasValue}
+use Rattle.number.specs.Frac.{Frac, frac, Pos, leF, negF, addF, subF, mulF, sgn, valF}
+use Rattle.number.proofs.Frac.{ring, le-transF, le-reflF, add-monoF, neg-antiF, addF-pos, negF-pos, valF-pos}
+use Rattle.series.specs.Sums.{natF, absF, eqF}
+use Rattle.series.specs.Distance.{within}
+use Rattle.fixed_point.specs.Pack.{packed}
+use Rattle.fixed_point.proofs.Packed.{flag, size, packed-value, packed-up, packed-down}
+use Rattle.exponential.proofs.Bounds.{Bound, bound-eq}
+use Rattle.exponential.proofs.Value.{Within, within-of}
+use Rattle.exponential.proofs.RaiseNear.{value-of}
+
+-- ---- on plain numbers, in units: the true value is from y - a to y + a, P - N its w times, e the packed number's
+apart : (a y : ℕ) → 32 * (2 ^ 48 + 1) * a ≤ 31 * y → 32 * (2 ^ 48 * a) + 32 * a ≤ 31 * y
+apart a y h = omega arith
+
+near-nums : (y a e N P w : ℕ) → 32 * (2 ^ 48 + 1) * a ≤ 31 * y → y * w + N ≤ P + a * w → P ≤ (y + a) * w + N → e * 2 ^ 53 ≤ y * w * (2 ^ 53 + 1) → y * w * (2 ^ 53 - 1) ≤ e * 2 ^ 53
+    → (2 ^ 48 * (e + N) + N ≤ P + 2 ^ 48 * P) × (2 ^ 48 * P + N ≤ P + 2 ^ 48 * (e + N))
+near-nums y a e N P w k l u p q =
+    let k' = le-trans (le-of-eq (sym (mul-assoc (32 * (2 ^ 48 + 1)) a w))) (le-trans (mul-le-mul-right w k) (le-of-eq (mul-assoc 31 y w))) in
+    let u' = le-trans u (le-of-eq (ap (λ (z : ℕ). z + N) (add-mul y a w))) in
+    (one (y * w) (a * w) e N P k' l p, two (y * w) (a * w) e N P k' l u' q)
+  where
+    -- b times the facts, b being 2 ^ 48
+    one : (y a e N P : ℕ) → 32 * (2 ^ 48 + 1) * a ≤ 31 * y → y + N ≤ P + a → e * 2 ^ 53 ≤ y * (2 ^ 53 + 1) → 2 ^ 48 * (e + N) + N ≤ P + 2 ^ 48 * P
+    one y a e N P k l p = subst (λ (x : ℕ). x + N ≤ P + 2 ^ 48 * P) (sym (mul-add (2 ^ 48) e N)) (lin y a (2 ^ 48 * a) (2 ^ 48 * e) (2 ^ 48 * y) (2 ^ 48 * N) (2 ^ 48 * P) N P (apart a y k) l (times l) (units e y p))
+      where
+        lin : (y a A E G M Q N P : ℕ) → 32 * A + 32 * a ≤ 31 * y → y + N ≤ P + a → G + M ≤ Q + A → 32 * E ≤ 32 * G + y → E + M + N ≤ P + Q
+        lin y a A E G M Q N P k l m p = omega arith
+
+        units : (e y : ℕ) → e * 2 ^ 53 ≤ y * (2 ^ 53 + 1) → 32 * (2 ^ 48 * e) ≤ 32 * (2 ^ 48 * y) + y
+        units e y h = omega arith
+
+        times : y + N ≤ P + a → 2 ^ 48 * y + 2 ^ 48 * N ≤ 2 ^ 48 * P + 2 ^ 48 * a
+        times h = le-trans (le-of-eq (sym (mul-add (2 ^ 48) y N))) (le-trans (mul-le-mul-left (2 ^ 48) h) (le-of-eq (mul-add (2 ^ 48) P a)))
+
+    two : (y a e N P : ℕ) → 32 * (2 ^ 48 + 1) * a ≤ 31 * y → y + N ≤ P + a → P ≤ y + a + N → y * (2 ^ 53 - 1) ≤ e * 2 ^ 53 → 2 ^ 48 * P + N ≤ P + 2 ^ 48 * (e + N)
+    two y a e N P k l u q = subst (λ (x : ℕ). 2 ^ 48 * P + N ≤ P + x) (sym (mul-add (2 ^ 48) e N)) (lin y a (2 ^ 48 * a) (2 ^ 48 * e) (2 ^ 48 * y) (2 ^ 48 * N) (2 ^ 48 * P) N P (apart a y k) l (times u) (units e y q))
+      where
+        lin : (y a A E G M Q N P : ℕ) → 32 * A + 32 * a ≤ 31 * y → y + N ≤ P + a → Q ≤ G + A + M → 32 * G ≤ 32 * E + y → Q + N ≤ P + (E + M)
+        lin y a A E G M Q N P k l m p = omega arith
+
+        units : (e y : ℕ) → y * (2 ^ 53 - 1) ≤ e * 2 ^ 53 → 32 * (2 ^ 48 * y) ≤ 32 * (2 ^ 48 * e) + y
+        units e y h = omega arith
+
+        times : P ≤ y + a + N → 2 ^ 48 * P ≤ 2 ^ 48 * y + 2 ^ 48 * a + 2 ^ 48 * N
+        times h = le-trans (mul-le-mul-left (2 ^ 48) h) (le-of-eq (mul-add (2 ^ 48) (y + a) N ∙ ap (λ (x : ℕ). x + 2 ^ 48 * N) (mul-add (2 ^ 48) y a)))
+
+-- ---- as fractions: W / D the unit, r = z / c, D = 2048 c
+module _ (y a z c W p n d : ℕ) (C : 0 < c) (budget : 32 * (2 ^ 48 + 1) * a ≤ 31 * y) (l : leF (frac (y * W) (a * W) (c * 2048)) (frac p n d)) (u : leF (frac p n d) (frac ((y + a) * W) 0 (c * 2048)))
+    (up : z * 2048 * 2 ^ 53 ≤ y * W * (2 ^ 53 + 1)) (down : y * W * (2 ^ 53 - 1) ≤ z * 2048 * 2 ^ 53) where
+  both : (2 ^ 48 * (z * 2048 * d + n * (c * 2048)) + n * (c * 2048) ≤ p * (c * 2048) + 2 ^ 48 * (p * (c * 2048))) × (2 ^ 48 * (p * (c * 2048)) + n * (c * 2048) ≤ p * (c * 2048) + 2 ^ 48 * (z * 2048 * d + n * (c * 2048)))
+  both =
+      near-nums y a (z * 2048 * d) (n * (c * 2048)) (p * (c * 2048)) (W * d) budget
+      (le-trans (le-of-eq (ap (λ (x : ℕ). x + n * (c * 2048)) (sym (mul-assoc y W d)))) (le-trans l (le-of-eq (ap (λ (x : ℕ). p * (c * 2048) + x) (mul-assoc a W d)))))
+      (le-trans (le-of-eq (sym (drop (p * (c * 2048)) d))) (le-trans u (le-of-eq (ap (λ (x : ℕ). x + n * (c * 2048)) (mul-assoc (y + a) W d)))))
+      (le-trans (le-of-eq (turn (z * 2048) d (2 ^ 53))) (le-trans (mul-le-mul-right d up) (le-of-eq (move y W d (2 ^ 53 + 1)))))
+      (le-trans (le-of-eq (sym (move y W d (2 ^ 53 - 1)))) (le-trans (mul-le-mul-right d down) (le-of-eq (sym (turn (z * 2048) d (2 ^ 53))))))
+    where
+      drop : (x d : ℕ) → x + 0 * d ≡ x
+      drop x d = ap (λ (y : ℕ). x + y) (zero-mul d) ∙ add-zero x
+
+      turn : (x d k : ℕ) → x * d * k ≡ x * k * d
+      turn x d k = simp (mul-assoc, mul-comm)
+
+      move : (y w d k : ℕ) → y * w * k * d ≡ y * (w * d) * k
+      move y w d k = simp (mul-assoc, mul-comm, mul-left-comm)
+
+  pub near-bound : Bound (subF (frac z 0 c) (frac p n d)) (mulF (frac 1 0 (2 ^ 48)) (frac p n d))
+  near-bound = (first z c p n d (mul-le-mul-right d (both .0)), second z c p n d (mul-le-mul-right d (both .1)))
+    where
+      first : (z c p n d : ℕ) → (2 ^ 48 * (z * 2048 * d + n * (c * 2048)) + n * (c * 2048)) * d ≤ (p * (c * 2048) + 2 ^ 48 * (p * (c * 2048))) * d → leF (subF (frac z 0 c) (frac p n d)) (mulF (frac 1 0 (2 ^ 48)) (frac p n d))
+      first z c p n d h = let k = simp ring at h in simp (ring, one-mul, zero-mul, add-zero, zero-add) (omega arith)
+
+      second : (z c p n d : ℕ) → (2 ^ 48 * (p * (c * 2048)) + n * (c * 2048)) * d ≤ (p * (c * 2048) + 2 ^ 48 * (z * 2048 * d + n * (c * 2048))) * d → leF (negF (subF (frac z 0 c) (frac p n d))) (mulF (frac 1 0 (2 ^ 48)) (frac p n d))
+      second z c p n d h = let k = simp ring at h in simp (ring, one-mul, zero-mul, add-zero, zero-add) (omega arith)
+
+-- ---- the packed number, with its sign
+-- t's size is from (y - a) 2 ^ (e - 1085) to (y + a) 2 ^ (e - 1085)
+abbrev pub Sized : ℕ → ℕ → ℕ → Frac → Type 0
+Sized y a e t = leF (frac (y * 2 ^ e) (a * 2 ^ e) (2 ^ 1085)) t × leF t (frac ((y + a) * 2 ^ e) 0 (2 ^ 1085))
+
+one-times : (r t : Frac) → Within (2 ^ 48) 1 r t → within (2 ^ 48) r t
+one-times (frac p n d) (frac q m c) h = go (2 ^ 48 * ((p * c + m * d - (n * c + q * d)) + (n * c + q * d - (p * c + m * d))) + 0 * 0) ((q - m) + (m - q)) (1 * (d * c)) c (2 ^ 48 * 0 + 0 * ((p * c + m * d - (n * c + q * d)) + (n * c + q * d - (p * c + m * d)))) h
+  where
+    go : (x y z c u : ℕ) → x * (1 * c) + (1 * 0 + 0 * y) * z ≤ (1 * y + 0 * 0) * z + u * (1 * c) → x * c + 0 * z ≤ y * z + u * c
+    go x y z c u h = let k = simp (one-mul, zero-mul, add-zero, zero-add) at h in simp (zero-mul, add-zero) k
+
+pos-near : (r t : Frac) (y a z e : ℕ) → Pos r → Pos t → 32 * (2 ^ 48 + 1) * a ≤ 31 * y → Sized y a e t → eqF r (frac z 0 (2 ^ 1074)) → z * 2048 * 2 ^ 53 ≤ y * 2 ^ e * (2 ^ 53 + 1) → y * 2 ^ e * (2 ^ 53 - 1) ≤ z * 2048 * 2 ^ 53 → within (2 ^ 48) r t
+pos-near r (frac p n d) y a z e R T₁ k (l, u) q up down =
+    let t = frac p n d in
+    let s = frac z 0 (2 ^ 1074) in
+    one-times r t (within-of r t 1 (2 ^ 48) T₁ (lit< tt)
+    (bound-eq (subF s t) (subF r t) (mulF (frac 1 0 (2 ^ 48)) t) (addF-pos s (negF t) (pow-pos 1074) (negF-pos t T₁))
+    (add-monoF r s (negF t) (negF t) (q .0) (le-reflF (negF t)), add-monoF s r (negF t) (negF t) (q .1) (le-reflF (negF t)))
+    (near-bound y a z (2 ^ 1074) (2 ^ e) p n d (pow-pos 1074) k l u up down)))
+
+-- the size of a difference does not know its sign
+turned : (r t : Frac) → within (2 ^ 48) (negF r) (negF t) → within (2 ^ 48) r t
+turned (frac p n d) (frac q m c) h = go (p * c + m * d) (n * c + q * d) q m c (1 * (d * c)) h
+  where
+    go : (x y q m c z : ℕ) → (2 ^ 48 * ((y - x) + (x - y)) + 0 * 0) * c + 0 * z ≤ ((m - q) + (q - m)) * z + (2 ^ 48 * 0 + 0 * ((y - x) + (x - y))) * c
+        → (2 ^ 48 * ((x - y) + (y - x)) + 0 * 0) * c + 0 * z ≤ ((q - m) + (m - q)) * z + (2 ^ 48 * 0 + 0 * ((x - y) + (y - x))) * c
+    go x y q m c z h = subst (λ (u : ℕ). (2 ^ 48 * u + 0 * 0) * c + 0 * z ≤ ((q - m) + (m - q)) * z + (2 ^ 48 * 0 + 0 * u) * c) (add-comm (y - x) (x - y)) (subst (λ (u : ℕ). (2 ^ 48 * ((y - x) + (x - y)) + 0 * 0) * c + 0 * z ≤ u * z + (2 ^ 48 * 0 + 0 * ((y - x) + (x - y))) * c) (add-comm (m - q) (q - m)) h)
+
+-- the law: the packed number is within 2 ^ -48 of a true value, or of its negative
+module _ (y a e : ℕ) (t : Frac) (P : 0 < y) (F : y < 2 ^ 64) (E : 64 ≤ e) (E' : e ≤ 2044) (T₁ : Pos t) (budget : 32 * (2 ^ 48 + 1) * a ≤ 31 * y) where
+  pub packed-plus : Sized y a e t → within (2 ^ 48) (valF (packed 0 y e)) t
+  packed-plus s = pos-near (valF (packed 0 y e)) t y a (size y e) e (valF-pos (packed 0 y e)) T₁ budget s (value-of (packed 0 y e) false (size y e) (2 ^ 1074) (pow-pos 1074) (packed-value false y e P F E')) (packed-up y e P F E) (packed-down y e P F E)
+
+  pub packed-minus : Sized y a e (negF t) → within (2 ^ 48) (valF (packed 1 y e)) t
+  packed-minus s =
+      turned (valF (packed 1 y e)) t
+      (pos-near (negF (valF (packed 1 y e))) (negF t) y a (size y e) e (negF-pos (valF (packed 1 y e)) (valF-pos (packed 1 y e))) (negF-pos t T₁) budget s (flip (valF (packed 1 y e)) (size y e) (value-of (packed 1 y e) true (size y e) (2 ^ 1074) (pow-pos 1074) (packed-value true y e P F E'))) (packed-up y e P F E) (packed-down y e P F E))
+    where
+      flip : (x : Frac) (z : ℕ) → eqF x (frac 0 z (2 ^ 1074)) → eqF (negF x) (frac z 0 (2 ^ 1074))
+      flip x z h = (neg-antiF (frac 0 z (2 ^ 1074)) x (h .1), neg-antiF x (frac 0 z (2 ^ 1074)) (h .0))

@@ -1,0 +1,36 @@
+use borrow.Author.Needs.{needs}
+use borrow.Author.Tests.{not-true, not-false}
+use mathlib.Core.Path.{_≡_, subst, sym}
+use lib.Dec.{T}
+use lib.Ieee.{binary64, toBits}
+use Rattle.exponential.proofs.TanhPart.{tanh-accepted, tanh-no-nan, tanh-bits-le, twice-low, twice-field-le, twice-binary-le, tanh-outside, tanh-tiny, tanh-away}
+use Rattle.exponential.proofs.tanh.Statement.{statement}
+use Rattle.exponential.proofs.tanh.Tie as tie
+
+tanh-inside-requires : tie.Need-tanh-inside-requires
+tanh-inside-requires c κs = search needs
+
+returns : tie.Need-returns
+returns c = tanh-outside _ _ (c .before .tanh-inside .ensures) (not-true _ (c .if1 .taken))
+
+float-to-bits-b : tie.Need-float-to-bits-b
+float-to-bits-b c = tanh-no-nan (c .before .before .args .x) (tanh-accepted (c .before .before .args .x) (c .before .tanh-inside .result) (c .before .tanh-inside .ensures) (not-false _ (c .if1 .left)))
+
+tanh-value-requires : tie.Need-tanh-value-requires
+tanh-value-requires c κs =
+    let a = c .before .before .before in
+    let x = a .args .x in
+    let b = toBits binary64 x in
+    let u = tanh-bits-le x (subst T (sym (a .good .0 .1)) tt) (tanh-accepted x (c .before .before .tanh-inside .result) (c .before .before .tanh-inside .ensures) (not-false _ (c .before .if1 .left))) in
+    (c .if2 .left, twice-field-le b u (c .if2 .left), twice-binary-le b u (c .if2 .left), twice-low b u)
+
+returns-2 : tie.Need-returns-2
+returns-2 c = tanh-tiny _ _ (c .before .before .tanh-inside .ensures) (not-false _ (c .before .if1 .left)) (c .if2 .taken)
+
+returns-3 : tie.Need-returns-3
+returns-3 c = tanh-away _ _ (c .before .before .before .tanh-inside .ensures) (c .tanh-value .result) (not-false _ (c .before .before .if1 .left)) (c .before .if2 .left) (c .tanh-value .ensures)
+
+pub tanh-spec : {M : Type 1} → statement M
+tanh-spec =
+    tie.close
+    (tie.spec tanh-inside-requires returns float-to-bits-b tanh-value-requires returns-2 returns-3)

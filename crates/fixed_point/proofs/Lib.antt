@@ -1,0 +1,14 @@
+pub mod Polynomial
+pub mod Columns
+pub mod Powers
+pub mod Horner
+pub mod HornerTwo
+pub mod Chain
+pub mod Mean
+pub mod TwoDigits
+pub mod Patterns64
+pub mod Packed
+pub mod Decode
+pub mod Table
+pub mod Arms
+pub mod Bernstein

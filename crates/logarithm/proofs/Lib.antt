@@ -1,0 +1,14 @@
+pub mod CoreBounds
+pub mod Ranges
+pub mod Domain
+pub mod Fractions
+pub mod OddSeries
+pub mod Near
+pub mod Split
+pub mod Bracket
+pub mod Joined
+pub mod LnNear
+pub mod TinyNear
+pub mod PlusNear
+pub mod Values
+pub mod Exists

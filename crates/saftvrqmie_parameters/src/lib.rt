@@ -1,0 +1,451 @@
+// SAFT-VRQ Mie parameters (saftvrqmie/parameters.rs): from component lists to the set of pair values.
+ghost use mathlib.Core.Path.{_≡_};
+ghost use mathlib.Core.Bool.{true};
+ghost use Prim.Native.Nat.{_*_, _<_, _≤_, max};
+ghost use lib.ListN.{length};
+ghost use lib.Ieee.{eq};
+ghost use Rattle.number.specs.Ans.{refused};
+ghost use Rattle.number.specs.Answer.{answer};
+ghost use Rattle.number.specs.Arith.{floats, one64};
+ghost use Rattle.number.specs.Functions.{calls};
+ghost use Rattle.number.specs.Lists.{at};
+ghost use Rattle.number.specs.Side.{side, sheet};
+ghost use Rattle.number.specs.Walk.{walk};
+ghost use Rattle.elementary.specs.Port.{port};
+ghost use Rattle.limits.specs.Limits.{square, components};
+ghost use Rattle.saftvrqmie_parameters.specs.Combine.{sigmaIj, massIj, epsilonKIj, lambdaIj, cIj};
+ghost use Rattle.saftvrqmie_parameters.specs.Parameters.{Lists, outcome, numberOf, pairAnswer, rightLengths, withinLimits, recordM, pairOrders, orderRow, orderWalk, pairParameters, storePair, sheetsRow, orderOf, ordersRow, ordersOf, inPlaces, saftVRQMiePars, given};
+use limits::Component;
+use number::FloatAnswer;
+use number::SHEET;
+use number::SIDE;
+
+pub enum FeynmanHibbsOrder {
+    FH0,
+    FH1,
+    FH2,
+}
+
+pub struct OrderRecord {
+    pub order: FeynmanHibbsOrder,
+}
+
+// Held, or the refusal's number.
+pub enum ParameterAnswer {
+    Held,
+    Refused(u8),
+}
+
+pub struct SaftVRQMiePars {
+    pub count: usize,
+    pub m: [f64; 8],
+    pub sheets: [f64; 384],
+    pub orders: [OrderRecord; 64],
+}
+
+pub struct ParameterSet {
+    pub answer: ParameterAnswer,
+    pub set: SaftVRQMiePars,
+}
+
+pub struct PairParameters {
+    pub sigma: f64,
+    pub epsilon_k: f64,
+    pub c: f64,
+    pub lr: f64,
+    pub la: f64,
+    pub mass: f64,
+}
+
+pub enum PairAnswer {
+    At(PairParameters),
+    Outside,
+}
+
+pub fn number(a: ParameterAnswer) -> u8
+    ensures { λ r. ⌜ r ≡ numberOf a ⌝ }
+{
+    match a {
+        ParameterAnswer::Held => 0,
+        ParameterAnswer::Refused(n) => n,
+    }
+}
+
+fn refused_with(number: u8) -> ParameterSet
+    ensures { λ r. ⌜ r ≡ given (refused number) ⌝ }
+{
+    let m = [0.0; 8];
+    let sheets = [0.0; 384];
+    let orders = [OrderRecord {
+        order: FeynmanHibbsOrder::FH0,
+    }; 64];
+    let set = SaftVRQMiePars {
+        count: 0,
+        m,
+        sheets,
+        orders,
+    };
+    ParameterSet {
+        answer: ParameterAnswer::Refused(number),
+        set,
+    }
+}
+
+fn pair_orders(a: u8, b: u8) -> ParameterAnswer
+    ensures { λ r. ⌜ outcome r true ≡ pairOrders a b ⌝ }
+{
+    if 2 < a {
+        return ParameterAnswer::Refused(4);
+    }
+    if 2 < b {
+        return ParameterAnswer::Refused(4);
+    }
+    if a * b == 2 {
+        return ParameterAnswer::Refused(5);
+    }
+    ParameterAnswer::Held
+}
+
+fn order_row(n: usize, fh: &[u8], i: usize) -> ParameterAnswer
+    requires { ⌜ (i < n) × (length (now fh) ≡ n) ⌝ }
+    ensures { λ r. ⌜ outcome r true ≡ orderRow n (now (fh .entry)) i ⌝ }
+{
+    for j in 0usize..n {
+        let answer = pair_orders(fh[i], fh[j]);
+        let ParameterAnswer::Held = answer else {
+            return answer;
+        };
+    }
+    ParameterAnswer::Held
+}
+
+fn order_walk(n: usize, fh: &[u8]) -> ParameterAnswer
+    requires { ⌜ length (now fh) ≡ n ⌝ }
+    ensures { λ r. ⌜ outcome r true ≡ orderWalk n (now (fh .entry)) ⌝ }
+{
+    for i in 0usize..n {
+        let answer = order_row(n, fh, i);
+        let ParameterAnswer::Held = answer else {
+            return answer;
+        };
+    }
+    ParameterAnswer::Held
+}
+
+fn sigma_ij(si: f64, sj: f64, l: f64) -> f64
+    ensures { λ r. ⌜ r ≡ sigmaIj floats si sj l ⌝ }
+{
+    (1.0 - l) * 0.5 * (si + sj)
+}
+
+fn mass_ij(mi: f64, mj: f64) -> f64
+    ensures { λ r. ⌜ r ≡ massIj floats mi mj ⌝ }
+{
+    2.0 * mi * mj / (mi + mj)
+}
+
+fn epsilon_k_ij(si: f64, sj: f64, ei: f64, ej: f64, sigma: f64, k: f64) -> FloatAnswer
+    ensures { λ r. ⌜ answer r ≡ epsilonKIj floats (calls floats port) si sj ei ej sigma k ⌝ }
+{
+    let FloatAnswer::Value(cubes) = elementary::sqrt(number::pow_up(si, 3) * number::pow_up(sj, 3))
+    else {
+        return FloatAnswer::Outside;
+    };
+    let FloatAnswer::Value(energies) = elementary::sqrt(ei * ej) else {
+        return FloatAnswer::Outside;
+    };
+    FloatAnswer::Value((1.0 - k) * (cubes / number::pow_up(sigma, 3) * energies))
+}
+
+fn lambda_ij(li: f64, lj: f64) -> FloatAnswer
+    ensures { λ r. ⌜ answer r ≡ lambdaIj floats (calls floats port) li lj ⌝ }
+{
+    let FloatAnswer::Value(r) = elementary::sqrt((li - 3.0) * (lj - 3.0)) else {
+        return FloatAnswer::Outside;
+    };
+    FloatAnswer::Value(r + 3.0)
+}
+
+fn c_ij(lr: f64, la: f64) -> FloatAnswer
+    ensures { λ r. ⌜ answer r ≡ cIj floats (calls floats port) lr la ⌝ }
+{
+    let FloatAnswer::Value(p) = elementary::powf(lr / la, la / (lr - la)) else {
+        return FloatAnswer::Outside;
+    };
+    FloatAnswer::Value(lr / (lr - la) * p)
+}
+
+fn pair_parameters(a: Component, b: Component, ma: f64, mb: f64, k: f64, l: f64) -> PairAnswer
+    ensures { λ r. ⌜ pairAnswer r ≡ pairParameters a b ma mb k l ⌝ }
+{
+    let sigma = sigma_ij(a.sigma, b.sigma, l);
+    let FloatAnswer::Value(epsilon_k) = epsilon_k_ij(
+        a.sigma,
+        b.sigma,
+        a.epsilon_k,
+        b.epsilon_k,
+        sigma,
+        k,
+    ) else {
+        return PairAnswer::Outside;
+    };
+    let FloatAnswer::Value(lr) = lambda_ij(a.lr, b.lr) else {
+        return PairAnswer::Outside;
+    };
+    let FloatAnswer::Value(la) = lambda_ij(a.la, b.la) else {
+        return PairAnswer::Outside;
+    };
+    let FloatAnswer::Value(c) = c_ij(lr, la) else {
+        return PairAnswer::Outside;
+    };
+    let mass = mass_ij(ma, mb);
+    PairAnswer::At(PairParameters {
+        sigma,
+        epsilon_k,
+        c,
+        lr,
+        la,
+        mass,
+    })
+}
+
+fn store_pair(s: &mut [f64; 384], e: usize, p: PairParameters)
+    requires { ⌜ e < sheet ⌝ }
+    ensures { λ _. ⌜ now (s .exit) ≡ storePair (now (s .entry)) e p ⌝ }
+{
+    s[e] = p.sigma;
+    s[SHEET + e] = p.epsilon_k;
+    s[2 * SHEET + e] = p.c;
+    s[3 * SHEET + e] = p.lr;
+    s[4 * SHEET + e] = p.la;
+    s[5 * SHEET + e] = p.mass;
+}
+
+// Row i of the six sheets.
+fn sheets_row(
+    n: usize,
+    sigma: &[f64],
+    epsilon_k: &[f64],
+    lr: &[f64],
+    la: &[f64],
+    mass: &[f64],
+    k_ij: &[f64],
+    l_ij: &[f64],
+    i: usize,
+    s: &mut [f64; 384],
+) -> ParameterAnswer
+    requires { ⌜ (n ≤ side) × (i < n) × (length (now sigma) ≡ n) × (length (now «epsilon_k») ≡ n) × (length (now lr) ≡ n) × (length (now la) ≡ n) × (length (now mass) ≡ n) × (length (now «k_ij») ≡ n * n) × (length (now «l_ij») ≡ n * n) ⌝ }
+    ensures { λ r. ⌜ outcome r (now (s .exit)) ≡ sheetsRow n (components (now (sigma .entry)) (now («epsilon_k» .entry)) (now (lr .entry)) (now (la .entry))) (at (now (mass .entry))) (square n (now («k_ij» .entry))) (square n (now («l_ij» .entry))) i (now (s .entry)) ⌝ }
+{
+    let a = limits::component_at(sigma, epsilon_k, lr, la, i);
+    for j in 0usize..n {
+        let b = limits::component_at(sigma, epsilon_k, lr, la, j);
+        let PairAnswer::At(p) = pair_parameters(
+            a,
+            b,
+            mass[i],
+            mass[j],
+            k_ij[n * i + j],
+            l_ij[n * i + j],
+        ) else {
+            return ParameterAnswer::Refused(6);
+        };
+        store_pair(s, SIDE * i + j, p);
+    }
+    ParameterAnswer::Held
+}
+
+fn fill_sheets(
+    n: usize,
+    sigma: &[f64],
+    epsilon_k: &[f64],
+    lr: &[f64],
+    la: &[f64],
+    mass: &[f64],
+    k_ij: &[f64],
+    l_ij: &[f64],
+    s: &mut [f64; 384],
+) -> ParameterAnswer
+    requires { ⌜ (n ≤ side) × (length (now sigma) ≡ n) × (length (now «epsilon_k») ≡ n) × (length (now lr) ≡ n) × (length (now la) ≡ n) × (length (now mass) ≡ n) × (length (now «k_ij») ≡ n * n) × (length (now «l_ij») ≡ n * n) ⌝ }
+    ensures { λ r. ⌜ outcome r (now (s .exit)) ≡ walk n (sheetsRow n (components (now (sigma .entry)) (now («epsilon_k» .entry)) (now (lr .entry)) (now (la .entry))) (at (now (mass .entry))) (square n (now («k_ij» .entry))) (square n (now («l_ij» .entry)))) (now (s .entry)) ⌝ }
+{
+    for i in 0usize..n {
+        let answer = sheets_row(n, sigma, epsilon_k, lr, la, mass, k_ij, l_ij, i, s);
+        let ParameterAnswer::Held = answer else {
+            return answer;
+        };
+    }
+    ParameterAnswer::Held
+}
+
+fn larger(a: u8, b: u8) -> u8
+    ensures { λ r. ⌜ r ≡ max a b ⌝ }
+{
+    if a < b { b } else { a }
+}
+
+fn order_of(n: u8) -> FeynmanHibbsOrder
+    ensures { λ r. ⌜ r ≡ orderOf n ⌝ }
+{
+    if n == 0 {
+        return FeynmanHibbsOrder::FH0;
+    }
+    if n == 1 {
+        return FeynmanHibbsOrder::FH1;
+    }
+    FeynmanHibbsOrder::FH2
+}
+
+fn orders_row(s: [OrderRecord; 64], n: usize, fh: &[u8], i: usize) -> [OrderRecord; 64]
+    requires { ⌜ (n ≤ side) × (i < n) × (length (now fh) ≡ n) ⌝ }
+    ensures { λ r. ⌜ r ≡ ordersRow n (now (fh .entry)) i s ⌝ }
+{
+    let mut orders = s;
+    for j in 0usize..n {
+        let order = order_of(larger(fh[i], fh[j]));
+        orders[SIDE * i + j] = OrderRecord { order };
+    }
+    orders
+}
+
+fn orders_of(n: usize, fh: &[u8]) -> [OrderRecord; 64]
+    requires { ⌜ (n ≤ side) × (length (now fh) ≡ n) ⌝ }
+    ensures { λ r. ⌜ r ≡ ordersOf n (now (fh .entry)) ⌝ }
+{
+    let mut orders = [OrderRecord {
+        order: FeynmanHibbsOrder::FH0,
+    }; 64];
+    for i in 0usize..n {
+        let next = orders_row(orders, n, fh, i);
+        orders = next;
+    }
+    orders
+}
+
+fn in_places(n: usize, l: &[f64]) -> [f64; 8]
+    requires { ⌜ (n ≤ side) × (length (now l) ≡ n) ⌝ }
+    ensures { λ r. ⌜ r ≡ inPlaces n (now (l .entry)) ⌝ }
+{
+    let mut places = [0.0; 8];
+    for i in 0usize..n {
+        places[i] = l[i];
+    }
+    places
+}
+
+fn right_lengths(
+    count: usize,
+    m: &[f64],
+    sigma: &[f64],
+    epsilon_k: &[f64],
+    lr: &[f64],
+    la: &[f64],
+    mass: &[f64],
+    fh: &[u8],
+    k_ij: &[f64],
+    l_ij: &[f64],
+) -> bool
+    ensures { λ r. ⌜ r ≡ rightLengths (record { count = count; m = now (m .entry); sigma = now (sigma .entry); epsilon-k = now («epsilon_k» .entry); lr = now (lr .entry); la = now (la .entry); mass = now (mass .entry); fh = now (fh .entry); k-ij = now («k_ij» .entry); l-ij = now («l_ij» .entry) }) ⌝ }
+{
+    if !limits::count_within(count) {
+        return false;
+    }
+    let square = count * count;
+    (m.len() == count)
+        & (sigma.len() == count)
+        & (epsilon_k.len() == count)
+        & (lr.len() == count)
+        & (la.len() == count)
+        & (mass.len() == count)
+        & (fh.len() == count)
+        & (k_ij.len() == square)
+        & (l_ij.len() == square)
+}
+
+// The numbers' limits; the lists are as long as the count.
+fn within_limits(
+    n: usize,
+    sigma: &[f64],
+    epsilon_k: &[f64],
+    lr: &[f64],
+    la: &[f64],
+    mass: &[f64],
+    k_ij: &[f64],
+    l_ij: &[f64],
+) -> bool
+    requires { ⌜ (n ≤ side) × (length (now sigma) ≡ n) × (length (now «epsilon_k») ≡ n) × (length (now lr) ≡ n) × (length (now la) ≡ n) × (length (now mass) ≡ n) × (length (now «k_ij») ≡ n * n) × (length (now «l_ij») ≡ n * n) ⌝ }
+    ensures { λ r. ⌜ r ≡ withinLimits n (components (now (sigma .entry)) (now («epsilon_k» .entry)) (now (lr .entry)) (now (la .entry))) (at (now (mass .entry))) (square n (now («k_ij» .entry))) (square n (now («l_ij» .entry))) ⌝ }
+{
+    limits::components_within(n, sigma, epsilon_k, lr, la)
+        & limits::masses_within(n, mass)
+        & limits::pairs_within(n, k_ij)
+        & limits::pairs_within(n, l_ij)
+}
+
+// `SaftVRQMieRecord::new`'s test of m.
+pub fn record_m(m: f64) -> ParameterAnswer
+    ensures { λ r. ⌜ outcome r true ≡ recordM m ⌝ }
+{
+    if m == 1.0 {
+        ParameterAnswer::Held
+    } else {
+        ParameterAnswer::Refused(3)
+    }
+}
+
+// `SaftVRQMiePars::new`: the set, or the first refusal that applies.
+pub fn parameters(
+    count: usize,
+    m: &[f64],
+    sigma: &[f64],
+    epsilon_k: &[f64],
+    lr: &[f64],
+    la: &[f64],
+    mass: &[f64],
+    fh: &[u8],
+    k_ij: &[f64],
+    l_ij: &[f64],
+) -> ParameterSet
+    ensures { λ r. ⌜ r ≡ given (saftVRQMiePars (record { count = count; m = now (m .entry); sigma = now (sigma .entry); epsilon-k = now («epsilon_k» .entry); lr = now (lr .entry); la = now (la .entry); mass = now (mass .entry); fh = now (fh .entry); k-ij = now («k_ij» .entry); l-ij = now («l_ij» .entry) })) ⌝ }
+{
+    if !right_lengths(count, m, sigma, epsilon_k, lr, la, mass, fh, k_ij, l_ij) {
+        return refused_with(1);
+    }
+    if !within_limits(count, sigma, epsilon_k, lr, la, mass, k_ij, l_ij) {
+        return refused_with(2);
+    }
+    if !limits::all_one(count, m) {
+        return refused_with(3);
+    }
+    let walked = order_walk(count, fh);
+    let ParameterAnswer::Held = walked else {
+        return refused_with(number(walked));
+    };
+    let mut sheets = [0.0; 384];
+    let filled = fill_sheets(
+        count,
+        sigma,
+        epsilon_k,
+        lr,
+        la,
+        mass,
+        k_ij,
+        l_ij,
+        &mut sheets,
+    );
+    let ParameterAnswer::Held = filled else {
+        return refused_with(number(filled));
+    };
+    let places = in_places(count, m);
+    let orders = orders_of(count, fh);
+    let set = SaftVRQMiePars {
+        count,
+        m: places,
+        sheets,
+        orders,
+    };
+    ParameterSet {
+        answer: ParameterAnswer::Held,
+        set,
+    }
+}
