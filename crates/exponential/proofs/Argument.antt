@@ -1,20 +1,18 @@
 -- The exponential's argument x, from - 700 to 700: its size over ln 2 in fixed point. Assumes nothing.
-use mathlib.Core.Path.{_≡_, refl, sym, ap, _∙_, subst}
-use mathlib.Core.Bool.{Bool, true, false, _&&_, not, cond}
-use Prim.Native.Nat.{ℕ, zero, suc, _+_, _-_, _*_, _/_, _%_, _^_, _≤_, _<_}
-use native.Mathlib.Nat.{le-trans, le-of-eq, mul-assoc, mul-comm, mul-left-comm, mul-one, mul-le-mul-right, mul-le-mul-left, le-of-mul-le-mul-right, not-le-of-lt, div-le-of-le-mul}
+use mathlib.Core.Path.{_≡_, refl, sym, _∙_, subst}
+use mathlib.Core.Bool.{Bool, true, false, _&&_, not}
+use Prim.Native.Nat.{ℕ, _+_, _-_, _*_, _/_, _%_, _^_, _≤_, _<_}
+use native.Mathlib.Nat.{le-trans, le-of-eq, mul-assoc, mul-comm, mul-left-comm, mul-one, mul-le-mul-right, le-of-mul-le-mul-right, not-le-of-lt, div-le-of-le-mul}
 use native.Mathlib.Omega.{arith}
 use lib.IntN.{ℤ, pos}
 use lib.Dec.{T, leb, leb→le, le→leb, not-T, lit<, lit≤}
-use lib.Pow.{pow-pos}
-use lib.Ieee.{Float, nan, inf, fin, up, down, binary64, fits, isNan, toBits, ofBits, ofFields, odd, le, neg}
+use lib.Ieee.{Float, fin, up, down, binary64, fits, isNan, toBits, ofBits, ofFields, odd, le, neg}
 use lib.Ieee.Bits.{is-true, is-false}
-use lib.Ieee.Exact.{HasValue}
 use lib.Ieee.Fits.{down-pos}
-use Rattle.number.specs.Ans.{Ans, held, refused}
+use Rattle.number.specs.Ans.{held, refused}
 use Rattle.exponential.specs.Raise.{raiseOf}
-use Rattle.exponential.specs.Exp.{expInside, sizeOf, binaryOf, exponentAt, exponentOf, expOf}
-use Rattle.exponential.proofs.Decode.{unitsOf, sizeBy, decoded, inside-is, field-lt, size-le-of, size-lo, size-hi}
+use Rattle.exponential.specs.Exp.{expInside, binaryOf, exponentAt, exponentOf, expOf}
+use Rattle.exponential.proofs.Decode.{unitsOf, decoded, inside-is, field-lt, size-le-of}
 
 seven-hundred : ofBits binary64 0x4085_e000_0000_0000 ≡ fin false 175 (pos 2)
 unfolding ofBits ofFields odd

@@ -1,20 +1,19 @@
 -- Document 01's values of exp v for |v| at most 1/4: the cut is at 0, so they are the sum at v itself and its tail. Assumes nothing.
-use mathlib.Core.Path.{_≡_, refl, sym, ap, _∙_, subst}
+use mathlib.Core.Path.{_≡_, subst}
 use mathlib.Core.Bool.{Bool, true, false}
-use Prim.Native.Nat.{ℕ, zero, suc, _+_, _-_, _*_, _/_, _^_, _≤_, _<_}
-use native.Mathlib.Nat.{add-mul, mul-add, mul-assoc, mul-comm, mul-left-comm, mul-zero, zero-mul, one-mul, mul-one, add-zero, zero-add, le-trans, le-of-eq, le-refl, add-le-add, mul-pos, mul-le-mul-left, mul-le-mul-right, le-of-mul-le-mul-right, mul-lt-mul-of-pos-right, lt-of-mul-lt-mul-right, lt-of-le-of-lt, pow-zero}
+use Prim.Native.Nat.{ℕ, _+_, _*_, _≤_, _<_}
+use native.Mathlib.Nat.{add-mul, mul-zero, zero-mul, one-mul, mul-one, add-zero, zero-add, mul-pos, mul-le-mul-right, le-of-mul-le-mul-right, lt-of-mul-lt-mul-right}
 use native.Mathlib.Omega.{arith}
-use lib.Dec.{T, lit<, lit≤}
-use lib.Pow.{pow-pos}
-use Rattle.number.specs.Frac.{Frac, frac, Pos, leF, negF, addF, subF, mulF, sgn}
-use Rattle.number.proofs.Frac.{ring, le-transF, le-reflF, lt-leF, addF-pos, mulF-pos, negF-pos}
+use lib.Dec.{lit<, lit≤}
+use Rattle.number.specs.Frac.{Frac, frac, Pos, leF, negF, addF, subF, mulF}
+use Rattle.number.proofs.Frac.{ring, le-transF, lt-leF, addF-pos, mulF-pos, negF-pos}
 use Rattle.series.specs.Sums.{natF, overF, absF, eqF, powF, factorial, scaleF}
 use Rattle.series.specs.Exact.{ExpValue, expSum, expTail, middle, rest}
 use Rattle.series.proofs.Constants.{mn, md}
 use Rattle.exponential.proofs.Literal.{factorial-pos}
 use Rattle.exponential.proofs.Bounds.{Bound, bound-eq, bound-up, exp-moves, sum-pos, powF-pos, over-pos}
-use Rattle.exponential.proofs.Position.{M, range-low, range-high}
-use Rattle.exponential.proofs.Value.{tail-le, sum-low, sum-high}
+use Rattle.exponential.proofs.Position.{range-low, range-high}
+use Rattle.exponential.proofs.Value.{sum-low, sum-high}
 
 -- ---- the cut a - b is 0: ln 2 is m / q, q below 2 m
 module _ (p n d m q a b : ℕ) (D : 0 < d) (Q : 0 < q) (less : q < 2 * m) where
@@ -42,15 +41,15 @@ module _ (p n d m q a b : ℕ) (D : 0 < d) (Q : 0 < q) (less : q < 2 * m) where
       let t = simp (ring, one-mul, zero-mul, add-zero) at (mul-le-mul-right (q * q) k) in
       finish a b (le-of-mul-le-mul-right {k = d * q} (simp ring (omega arith)) (mul-pos D Q))
 
-no-cut : (v : Frac) (a b : ℕ) → Pos v → Bound v (frac 1 0 4) → leF (negF (overF middle 2)) (subF v (mulF (frac a b 1) middle)) → leF (subF v (mulF (frac a b 1) middle)) (overF middle 2) → (a ≤ b) × (b ≤ a)
+pub no-cut : (v : Frac) (a b : ℕ) → Pos v → Bound v (frac 1 0 4) → leF (negF (overF middle 2)) (subF v (mulF (frac a b 1) middle)) → leF (subF v (mulF (frac a b 1) middle)) (overF middle 2) → (a ≤ b) × (b ≤ a)
 no-cut (frac p n d) a b P h l u = (
   zero-above p n d mn md a b P (lit< tt) (lit< tt) (range-low (frac p n d) (frac a b 1) P (lit< tt) l) (h .0),
   zero-below p n d mn md a b P (lit< tt) (lit< tt) (range-high (frac p n d) (frac a b 1) P (lit< tt) u) (h .1),
 )
 
 -- ---- the values then
-module _ (v e l : Frac) (P : Pos v) (E : Pos e) (L : Pos l) (small : Bound v (frac 1 0 4)) (X Y h : ℕ) (tiny : 2 ^ 1085 ≤ h * 2 ^ 130)
-    (below : leF (frac X 0 (2 ^ 1085)) (expSum v)) (above : leF (expSum v) (frac Y 0 (2 ^ 1085))) where
+module _ (v e l : Frac) (P : Pos v) (E : Pos e) (L : Pos l) (small : Bound v (frac 1 0 4)) (X Y h C : ℕ) (P₁ : 0 < C) (θ : Frac) (F : Pos θ) (room : leF (addF (mulF (frac 0 0 1) (frac 36 0 25)) θ) (frac h 0 C)) (tail : leF (expTail (subF v (mulF (frac 0 0 1) l))) θ)
+    (below : leF (frac X 0 C) (expSum v)) (above : leF (expSum v) (frac Y 0 C)) where
   abbrev t : Frac
   t = subF v (mulF (frac 0 0 1) l)
 
@@ -98,24 +97,18 @@ module _ (v e l : Frac) (P : Pos v) (E : Pos e) (L : Pos l) (small : Bound v (fr
   unfolding expTail
   tail-at (frac p n d) X₁ = over-pos (mulF (natF 2) (powF (absF (frac p n d)) 30)) (factorial 30) (mulF-pos (natF 2) (powF (absF (frac p n d)) 30) (lit< tt) (powF-pos (absF (frac p n d)) X₁ 30)) (factorial-pos 30)
 
-  room : leF (addF (mulF (frac 0 0 1) (frac 36 0 25)) (frac 1 0 (2 ^ 130))) (frac h 0 (2 ^ 1085))
-  room = go (2 ^ 130) (2 ^ 1085) h tiny
-    where
-      go : (E G h : ℕ) → G ≤ h * E → leF (addF (mulF (frac 0 0 1) (frac 36 0 25)) (frac 1 0 E)) (frac h 0 G)
-      go E G h k = let z = simp ring at k in simp (ring, one-mul, mul-zero, zero-mul, add-zero, zero-add) (omega arith)
-
-  pub value-low : leF (subF (expSum t) (expTail t)) e → leF (frac X h (2 ^ 1085)) e
+  pub value-low : leF (subF (expSum t) (expTail t)) e → leF (frac X h C) e
   value-low k =
-      le-transF (frac X h (2 ^ 1085)) (subF (expSum t) (expTail t)) e (addF-pos (expSum t) (negF (expTail t)) (sum-at t t-pos) (negF-pos (expTail t) (tail-at t t-pos)))
-      (sum-low (expSum v) (expSum t) (expTail t) (mulF (frac 0 0 1) (frac 36 0 25)) X Y h (2 ^ 1085) (sum-at v P) (sum-at t t-pos) (tail-at t t-pos) (lit< tt) (pow-pos 1085) (2 ^ 130) (lit< tt) moved (tail-le t t-pos t-size) room below) k
+      le-transF (frac X h C) (subF (expSum t) (expTail t)) e (addF-pos (expSum t) (negF (expTail t)) (sum-at t t-pos) (negF-pos (expTail t) (tail-at t t-pos)))
+      (sum-low (expSum v) (expSum t) (expTail t) (mulF (frac 0 0 1) (frac 36 0 25)) X Y h C (sum-at v P) (sum-at t t-pos) (tail-at t t-pos) (lit< tt) P₁ θ F moved tail room below) k
 
-  pub value-high : leF e (addF (expSum t) (expTail t)) → leF e (frac (Y + h) 0 (2 ^ 1085))
+  pub value-high : leF e (addF (expSum t) (expTail t)) → leF e (frac (Y + h) 0 C)
   value-high k =
-      le-transF e (addF (expSum t) (expTail t)) (frac (Y + h) 0 (2 ^ 1085)) (addF-pos (expSum t) (expTail t) (sum-at t t-pos) (tail-at t t-pos)) k
-      (sum-high (expSum v) (expSum t) (expTail t) (mulF (frac 0 0 1) (frac 36 0 25)) X Y h (2 ^ 1085) (sum-at v P) (sum-at t t-pos) (tail-at t t-pos) (lit< tt) (pow-pos 1085) (2 ^ 130) (lit< tt) moved (tail-le t t-pos t-size) room above)
+      le-transF e (addF (expSum t) (expTail t)) (frac (Y + h) 0 C) (addF-pos (expSum t) (expTail t) (sum-at t t-pos) (tail-at t t-pos)) k
+      (sum-high (expSum v) (expSum t) (expTail t) (mulF (frac 0 0 1) (frac 36 0 25)) X Y h C (sum-at v P) (sum-at t t-pos) (tail-at t t-pos) (lit< tt) P₁ θ F moved tail room above)
 
 -- times 2 ^ 0
-unscaled : (neg : Bool) (y : Frac) → eqF (scaleF neg 0 y) y
+pub unscaled : (neg : Bool) (y : Frac) → eqF (scaleF neg 0 y) y
 unscaled false (frac p n d) = (one p n d, two p n d)
   where
     one : (p n d : ℕ) → leF (mulF (natF 1) (frac p n d)) (frac p n d)
@@ -131,11 +124,12 @@ unscaled true (frac p n d) = (one p n d, two p n d)
     two : (p n d : ℕ) → leF (frac p n d) (frac p n (d * 1))
     two p n d = simp mul-one (omega arith)
 
-scale-pos : (neg : Bool) (y : Frac) → Pos y → Pos (scaleF neg 0 y)
+pub scale-pos : (neg : Bool) (y : Frac) → Pos y → Pos (scaleF neg 0 y)
 scale-pos false (frac p n d) P = mul-pos (lit< tt) P
 scale-pos true (frac p n d) P = mul-pos P (lit< tt)
 
-module _ (v e : Frac) (P : Pos v) (small : Bound v (frac 1 0 4)) (X Y h : ℕ) (tiny : 2 ^ 1085 ≤ h * 2 ^ 130) (below : leF (frac X 0 (2 ^ 1085)) (expSum v)) (above : leF (expSum v) (frac Y 0 (2 ^ 1085))) where
+module _ (v e : Frac) (P : Pos v) (small : Bound v (frac 1 0 4)) (X Y h C : ℕ) (P₁ : 0 < C) (θ : Frac) (F : Pos θ) (room : leF (addF (mulF (frac 0 0 1) (frac 36 0 25)) θ) (frac h 0 C)) (tails : (l : Frac) → Pos l → leF (expTail (subF v (mulF (frac 0 0 1) l))) θ)
+    (below : leF (frac X 0 C) (expSum v)) (above : leF (expSum v) (frac Y 0 C)) where
   uncut : (neg : Bool) (k : ℕ) → leF (negF (overF middle 2)) (rest v neg k middle) → leF (rest v neg k middle) (overF middle 2) → k ≡ 0
   uncut false k l u = none k (no-cut v k 0 P small l u .0)
     where
@@ -147,30 +141,43 @@ module _ (v e : Frac) (P : Pos v) (small : Bound v (frac 1 0 4)) (X Y h : ℕ) (
       none k h = omega arith
 
   at-sign : (neg : Bool) (l : Frac) → Pos e → Pos l → leF (scaleF neg 0 (subF (expSum (rest v neg 0 l)) (expTail (rest v neg 0 l)))) e → leF e (scaleF neg 0 (addF (expSum (rest v neg 0 l)) (expTail (rest v neg 0 l))))
-      → leF (frac X h (2 ^ 1085)) e × leF e (frac (Y + h) 0 (2 ^ 1085))
+      → leF (frac X h C) e × leF e (frac (Y + h) 0 C)
   at-sign false l E L low high =
       let t = subF v (mulF (frac 0 0 1) l) in
       let y = subF (expSum t) (expTail t) in
       let z = addF (expSum t) (expTail t) in
-      let sp = sum-at v e l P E L small X Y h tiny below above t (t-pos v e l P E L small X Y h tiny below above) in
-      let tp = tail-at v e l P E L small X Y h tiny below above t (t-pos v e l P E L small X Y h tiny below above) in (
-        value-low v e l P E L small X Y h tiny below above (le-transF y (scaleF false 0 y) e (scale-pos false y (addF-pos (expSum t) (negF (expTail t)) sp (negF-pos (expTail t) tp))) (unscaled false y .1) low),
-        value-high v e l P E L small X Y h tiny below above (le-transF e (scaleF false 0 z) z (scale-pos false z (addF-pos (expSum t) (expTail t) sp tp)) high (unscaled false z .0)),
+      let sp = sum-at v e l P E L small X Y h C P₁ θ F room (tails l L) below above t (t-pos v e l P E L small X Y h C P₁ θ F room (tails l L) below above) in
+      let tp = tail-at v e l P E L small X Y h C P₁ θ F room (tails l L) below above t (t-pos v e l P E L small X Y h C P₁ θ F room (tails l L) below above) in (
+        value-low v e l P E L small X Y h C P₁ θ F room (tails l L) below above (le-transF y (scaleF false 0 y) e (scale-pos false y (addF-pos (expSum t) (negF (expTail t)) sp (negF-pos (expTail t) tp))) (unscaled false y .1) low),
+        value-high v e l P E L small X Y h C P₁ θ F room (tails l L) below above (le-transF e (scaleF false 0 z) z (scale-pos false z (addF-pos (expSum t) (expTail t) sp tp)) high (unscaled false z .0)),
       )
   at-sign true l E L low high =
       let t = subF v (mulF (frac 0 0 1) l) in
       let y = subF (expSum t) (expTail t) in
       let z = addF (expSum t) (expTail t) in
-      let sp = sum-at v e l P E L small X Y h tiny below above t (t-pos v e l P E L small X Y h tiny below above) in
-      let tp = tail-at v e l P E L small X Y h tiny below above t (t-pos v e l P E L small X Y h tiny below above) in (
-        value-low v e l P E L small X Y h tiny below above (le-transF y (scaleF true 0 y) e (scale-pos true y (addF-pos (expSum t) (negF (expTail t)) sp (negF-pos (expTail t) tp))) (unscaled true y .1) low),
-        value-high v e l P E L small X Y h tiny below above (le-transF e (scaleF true 0 z) z (scale-pos true z (addF-pos (expSum t) (expTail t) sp tp)) high (unscaled true z .0)),
+      let sp = sum-at v e l P E L small X Y h C P₁ θ F room (tails l L) below above t (t-pos v e l P E L small X Y h C P₁ θ F room (tails l L) below above) in
+      let tp = tail-at v e l P E L small X Y h C P₁ θ F room (tails l L) below above t (t-pos v e l P E L small X Y h C P₁ θ F room (tails l L) below above) in (
+        value-low v e l P E L small X Y h C P₁ θ F room (tails l L) below above (le-transF y (scaleF true 0 y) e (scale-pos true y (addF-pos (expSum t) (negF (expTail t)) sp (negF-pos (expTail t) tp))) (unscaled true y .1) low),
+        value-high v e l P E L small X Y h C P₁ θ F room (tails l L) below above (le-transF e (scaleF true 0 z) z (scale-pos true z (addF-pos (expSum t) (expTail t) sp tp)) high (unscaled true z .0)),
       )
 
-  -- the sum from X / 2 ^ 1085 to Y / 2 ^ 1085: exp v from (X - h) / 2 ^ 1085 to (Y + h) / 2 ^ 1085
-  pub at-zero : ExpValue v e → leF (frac X h (2 ^ 1085)) e × leF e (frac (Y + h) 0 (2 ^ 1085))
+  -- the sum from X / C to Y / C: exp v from (X - h) / C to (Y + h) / C
+  pub at-zero : ExpValue v e → leF (frac X h C) e × leF e (frac (Y + h) 0 C)
   at-zero x =
       let k0 = uncut (x .neg) (x .k) (x .range .0) (lt-leF (rest v (x .neg) (x .k) middle) (overF middle 2) (x .range .1)) in
       at-sign (x .neg) (x .l) (x .proper .0) (x .proper .1)
       (subst (λ (k : ℕ). leF (scaleF (x .neg) k (subF (expSum (rest v (x .neg) k (x .l))) (expTail (rest v (x .neg) k (x .l))))) e) k0 (x .low))
       (subst (λ (k : ℕ). leF e (scaleF (x .neg) k (addF (expSum (rest v (x .neg) k (x .l))) (expTail (rest v (x .neg) k (x .l)))))) k0 (x .high))
+
+-- t = v, for the tail
+pub same-size : (v l : Frac) (q c : ℕ) → Pos v → Bound v (frac q 0 c) → Bound (subF v (mulF (frac 0 0 1) l)) (frac q 0 c)
+same-size (frac p n d) (frac lp ln ld) q c P h = bound-eq (frac p n d) (subF (frac p n d) (mulF (frac 0 0 1) (frac lp ln ld))) (frac q 0 c) P (nums p n d lp ln ld, turn p n d lp ln ld) h
+  where
+    nums : (p n d q m c : ℕ) → leF (subF (frac p n d) (mulF (frac 0 0 1) (frac q m c))) (frac p n d)
+    nums p n d q m c = simp (ring, one-mul, mul-one, mul-zero, zero-mul, add-zero, zero-add) (omega arith)
+
+    turn : (p n d q m c : ℕ) → leF (frac p n d) (subF (frac p n d) (mulF (frac 0 0 1) (frac q m c)))
+    turn p n d q m c = simp (ring, one-mul, mul-one, mul-zero, zero-mul, add-zero, zero-add) (omega arith)
+
+pub rest-pos : (v l : Frac) → Pos v → Pos l → Pos (subF v (mulF (frac 0 0 1) l))
+rest-pos v l P L = addF-pos v (negF (mulF (frac 0 0 1) l)) P (negF-pos (mulF (frac 0 0 1) l) (mulF-pos (frac 0 0 1) l (lit< tt) L))

@@ -1,11 +1,11 @@
 -- Sizes of fractions, |x| ≤ a, through sums, products and powers; and that exp's sum moves by at most 36/25 of its argument's move, for arguments of at most 9/25. Assumes nothing.
-use mathlib.Core.Path.{_≡_, refl, sym, ap, _∙_, subst}
+use mathlib.Core.Path.{_≡_, ap, _∙_, subst}
 use Prim.Native.Nat.{ℕ, zero, suc, _+_, _*_, _≤_, _<_}
-use native.Mathlib.Nat.{add-mul, mul-add, mul-assoc, mul-comm, mul-left-comm, mul-zero, zero-mul, one-mul, mul-one, add-zero, zero-add, le-trans, le-of-eq, le-dest, mul-pos, mul-le-mul-right, zero-lt-suc}
+use native.Mathlib.Nat.{mul-zero, zero-mul, one-mul, add-zero, le-dest, mul-pos, mul-le-mul-right}
 use native.Mathlib.Omega.{arith}
-use lib.Dec.{T, lit<, lit≤}
+use lib.Dec.{lit<, lit≤}
 use Rattle.number.specs.Frac.{Frac, frac, Pos, leF, negF, addF, subF, mulF, zeroF}
-use Rattle.number.proofs.Frac.{ring, le-transF, le-reflF, add-monoF, neg-antiF, addF-pos, mulF-pos, negF-pos}
+use Rattle.number.proofs.Frac.{ring, le-transF, add-monoF, neg-antiF, addF-pos, mulF-pos, negF-pos}
 use Rattle.series.specs.Sums.{natF, overF, eqF, powF, sumF, factorial}
 use Rattle.series.specs.Exact.{expTerm, expSum}
 use Rattle.series.proofs.Constants.{leb→leF}
@@ -43,9 +43,6 @@ upper-product : (p n d q m c p' n' d' q' m' c' : ℕ) → Bound (frac p n d) (fr
 upper-product p n d q m c p' n' d' q' m' c' h k =
     let z = simp ring at (corner (p * c) (n * c) (q * d) (m * d) (p' * c') (n' * c') (q' * d') (m' * d') (h .0) (h .1) (k .0) (k .1)) in
     simp ring (omega arith)
-
-swap : (x a : Frac) → Bound x a → Bound (negF x) a
-swap (frac p n d) a h = (h .1, h .0)
 
 pub bound-mul : (x y a b : Frac) → Bound x a → Bound y b → Bound (mulF x y) (mulF a b)
 bound-mul (frac p n d) (frac p' n' d') (frac q m c) (frac q' m' c') h k = (
@@ -94,11 +91,11 @@ over p n d q m c a b g r s h f k l =
     (simp ring (omega arith), simp ring (omega arith))
 
 -- (u + a) - (v + b) = (u - v) + (a - b)
-apart : (u a v b : Frac) → eqF (subF (addF u a) (addF v b)) (addF (subF u v) (subF a b))
+pub apart : (u a v b : Frac) → eqF (subF (addF u a) (addF v b)) (addF (subF u v) (subF a b))
 apart (frac p n d) (frac p' n' d') (frac q m c) (frac q' m' c') = (simp ring (omega arith), simp ring (omega arith))
 
 -- e q + e r = e (q + r)
-together : (e q r : Frac) → leF (addF (mulF e q) (mulF e r)) (mulF e (addF q r))
+pub together : (e q r : Frac) → leF (addF (mulF e q) (mulF e r)) (mulF e (addF q r))
 together (frac p n d) (frac p' n' d') (frac q m c) = simp ring (omega arith)
 
 -- the first term is 1
@@ -106,7 +103,7 @@ first-moves : (x y e : Frac) → Bound (subF (sumF 1 (expTerm x)) (sumF 1 (expTe
 unfolding sumF powF factorial
 first-moves x y (frac r s f) = (simp (mul-zero, add-zero) (omega arith), simp (mul-zero, add-zero) (omega arith))
 
-sub-pos : (u v : Frac) → Pos u → Pos v → Pos (subF u v)
+pub sub-pos : (u v : Frac) → Pos u → Pos v → Pos (subF u v)
 sub-pos u v U W = addF-pos u (negF v) U (negF-pos v W)
 
 pub over-pos : (x : Frac) (k : ℕ) → Pos x → 0 < k → Pos (overF x k)
@@ -148,7 +145,7 @@ module _ (x y m e : Frac) (X : Pos x) (Y : Pos y) (M : Pos m) (E : Pos e) (hx : 
       (bound-add a b a' b' (bound-mul u (subF x y) (mulF q m) e (bound-power x m hx (suc i)) hd) (bound-mul (subF u v) y (mulF e (mulF k q)) m (power-moves i) hy)))
 
   -- ---- the terms and the sum
-  term-moves : (k : ℕ) → Bound (subF (expTerm x (suc k)) (expTerm y (suc k))) (mulF e (expTerm m k))
+  pub term-moves : (k : ℕ) → Bound (subF (expTerm x (suc k)) (expTerm y (suc k))) (mulF e (expTerm m k))
   unfolding factorial
   term-moves k =
       go (powF x (suc k)) (powF y (suc k)) (powF m k) e (factorial k) (power-moves k)

@@ -1,20 +1,18 @@
 -- An f64 by its bits: its sign, the rest of its bits, and its size in units of 2 ^ -1074; a bound on the value is one on the bits. Assumes nothing.
 use mathlib.Core.Path.{_≡_, refl, sym, ap, _∙_, subst}
-use mathlib.Core.Logic.{_⊎_, inl, inr}
-use mathlib.Core.Bool.{Bool, true, false, _&&_, _||_, not, cond}
+use mathlib.Core.Bool.{Bool, true, false, _&&_, _||_, cond}
 use Prim.Native.Nat.{ℕ, zero, suc, _+_, _-_, _*_, _/_, _%_, _^_, _≤_, _<_}
-use native.Mathlib.Nat.{le-trans, le-of-eq, le-of-lt, lt-of-not-le, not-le-of-lt, mul-comm, mul-assoc, mul-left-comm, mul-one, mul-le-mul-right, mul-lt-mul-of-pos-right, le-of-mul-le-mul-right, zero-add, zero-mul, one-mul, add-mul, add-comm, div-mul-le-self, lt-div-mul-add, div-eq-of-lt, lt-of-lt-of-le, not-suc-le-zero, le-of-suc-le-suc, mul-le-mul}
+use native.Mathlib.Nat.{le-trans, le-of-eq, le-of-lt, lt-of-not-le, not-le-of-lt, mul-comm, mul-assoc, mul-left-comm, mul-one, mul-le-mul-right, mul-lt-mul-of-pos-right, le-of-mul-le-mul-right, zero-mul, one-mul, add-mul, add-comm, div-mul-le-self, lt-div-mul-add, div-eq-of-lt, lt-of-lt-of-le, not-suc-le-zero, le-of-suc-le-suc, mul-le-mul}
 use native.Mathlib.Decide.{decLe}
 use native.Mathlib.Omega.{arith}
-use lib.IntN.{ℤ, pos}
-use lib.Dec.{T, leb, ltb, eqb, leb→le, ltb→lt, eqb→eq, lit<, lit≤}
+use lib.IntN.{ℤ}
+use lib.Dec.{T, leb, ltb, eqb, ltb→lt, eqb→eq, lit<, lit≤}
 use lib.Pow.{pow-pos, pow-add, pow-mono}
 use lib.Ieee.{Float, nan, inf, fin, up, down, binary64, fits, toBits, ofBits, ofFields, odd, le, lt, eq, neg}
-use lib.Ieee.Bits.{ofBits-toBits, toBits-lt}
+use lib.Ieee.Bits.{ofBits-toBits}
 use lib.Ieee.Exact.{HasValue, odd-sign}
-use lib.Ieee.Fits.{and-l, and-r, down-pos, eq→eqb}
+use lib.Ieee.Fits.{and-l, and-r, eq→eqb}
 use Rattle.fixed_point.proofs.Patterns64.{ofBits-is}
-use Rattle.exponential.specs.Exp.{sizeOf}
 
 -- ---- what is between - n and n, both floats
 or-le : (a b : ℕ) (c : Bool) → T (ltb a b || (eqb a b && c)) → a ≤ b

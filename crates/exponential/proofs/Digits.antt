@@ -1,19 +1,19 @@
 -- The significand that the core works lies from 2 ^ 63 to 2 ^ 64, and what it is made of. Assumes nothing.
-use mathlib.Core.Path.{_≡_, refl, sym, ap, _∙_, subst}
-use mathlib.Core.Bool.{Bool, true, false, _&&_, not}
+use mathlib.Core.Path.{_≡_, sym, subst}
+use mathlib.Core.Bool.{Bool, false, _&&_, not}
 use mathlib.Core.List.{List, [], _∷_}
-use Prim.Native.Nat.{ℕ, zero, suc, _+_, _-_, _*_, _/_, _%_, _^_, _≤_, _<_}
+use Prim.Native.Nat.{ℕ, _+_, _-_, _*_, _/_, _%_, _^_, _≤_, _<_}
 use native.Mathlib.Nat.{le-trans, le-of-eq, le-refl, add-le-add, mul-comm, mul-le-mul, div-le-of-le-mul, zero-add}
 use native.Mathlib.Omega.{arith}
 use lib.Dec.{T, leb, leb→le, lit≤}
-use lib.ListN.{length, getD}
+use lib.ListN.{getD}
 use lib.Ieee.{binary64, nanBits}
 use lib.Ieee.Fits.{and-l, and-r}
 use Rattle.fixed_point.specs.Horner.{horner}
 use Rattle.fixed_point.proofs.Table.{every, at}
 use Rattle.fixed_point.proofs.Patterns64.{near-lo, near-hi, pack-no-nan}
 use Rattle.exponential.specs.Powers.{powers, terms}
-use Rattle.exponential.specs.Raise.{significandOf, raiseOf}
+use Rattle.exponential.specs.Raise.{significandOf}
 
 -- ---- the table's entries
 abbrev bounded : ℕ → ℕ → Bool

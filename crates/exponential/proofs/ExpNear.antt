@@ -1,24 +1,22 @@
 -- exp's distance: its answer is within 2 ^ -48 of every value of document 01's bracket. Assumes nothing.
 use mathlib.Core.Path.{_≡_, refl, sym, ap, _∙_, subst}
 use mathlib.Core.Bool.{Bool, true, false, cond}
-use Prim.Native.Nat.{ℕ, zero, suc, _+_, _-_, _*_, _/_, _%_, _^_, _≤_, _<_}
-use native.Mathlib.Nat.{add-mul, mul-add, mul-assoc, mul-comm, mul-left-comm, mul-zero, zero-mul, one-mul, mul-one, add-zero, zero-add, add-le-add, le-refl, le-trans, le-of-eq, mul-pos, mul-le-mul, mul-le-mul-left, mul-le-mul-right, le-of-mul-le-mul-right, div-mul-le-self, sub-add-cancel}
+use Prim.Native.Nat.{ℕ, _+_, _-_, _*_, _/_, _%_, _^_, _≤_, _<_}
+use native.Mathlib.Nat.{mul-assoc, mul-comm, mul-left-comm, mul-zero, zero-mul, one-mul, add-zero, zero-add, add-le-add, le-trans, le-of-eq, mul-le-mul-left, mul-le-mul-right, le-of-mul-le-mul-right, div-mul-le-self}
 use native.Mathlib.Omega.{arith}
 use lib.Dec.{T, leb, lit<, lit≤}
 use lib.IntN.{ℤ}
 use lib.Pow.{pow-pos, pow-add}
-use lib.Ieee.{Float, nan, inf, fin, up, down, binary64, fits, toBits}
-use lib.Ieee.Fits.{down-pos}
+use lib.Ieee.{Float, fin, up, down, binary64, fits, toBits}
 use Rattle.number.specs.Ans.{Ans, held, refused}
-use Rattle.number.specs.Frac.{Frac, frac, Pos, leF, negF, addF, subF, mulF, sgn, valF}
-use Rattle.number.proofs.Frac.{ring, valF-pos, le-transF}
-use Rattle.series.specs.Sums.{natF, absF}
+use Rattle.number.specs.Frac.{Frac, frac, Pos, leF, negF, subF, mulF, sgn, valF}
+use Rattle.number.proofs.Frac.{ring, valF-pos}
 use Rattle.series.specs.Exact.{ExpValue}
 use Rattle.series.specs.Distance.{within}
 use Rattle.series.proofs.Constants.{mn, md}
 use Rattle.exponential.specs.Raise.{raiseOf}
 use Rattle.exponential.specs.Exp.{expInside, sizeOf, binaryOf, exponentAt, exponentOf, expOf}
-use Rattle.exponential.proofs.Decode.{unitsOf, sizeBy, decoded, size-lo, size-hi, size-le-of, field-lt}
+use Rattle.exponential.proofs.Decode.{unitsOf, decoded, size-lo, size-hi, size-le-of, field-lt}
 use Rattle.exponential.proofs.Argument.{exp-inside-is, units-le, binary-le, down-range, up-range}
 use Rattle.exponential.proofs.Bounds.{Bound}
 use Rattle.exponential.proofs.Position.{M}

@@ -1,23 +1,22 @@
 -- The core's significand against document 01's thirty terms: the table's test, read at every exponent, and the floors. Assumes nothing.
 use mathlib.Core.Path.{_≡_, refl, sym, ap, _∙_, subst}
-use mathlib.Core.Bool.{Bool, true, false, not, _&&_}
-use mathlib.Core.List.{List, [], _∷_}
-use Prim.Native.Nat.{ℕ, zero, suc, _+_, _-_, _*_, _/_, _%_, _^_, _≤_, _<_}
-use native.Mathlib.Nat.{le-refl, le-trans, le-of-eq, le-of-lt, add-le-add, add-sub-of-le, sub-add-cancel, mul-add, add-mul, mul-assoc, mul-comm, mul-left-comm, mul-le-mul-left, mul-le-mul-right, le-of-mul-le-mul-right, not-le-of-lt, mul-pos, pow-suc, pow-zero, zero-mul, mul-zero, one-mul, mul-one, add-zero, zero-add}
+use mathlib.Core.Bool.{Bool, true, false, not}
+use mathlib.Core.List.{[], _∷_}
+use Prim.Native.Nat.{ℕ, _+_, _-_, _*_, _/_, _%_, _^_, _≤_, _<_}
+use native.Mathlib.Nat.{mul-add, mul-le-mul-right, le-of-mul-le-mul-right, pow-zero, zero-mul, mul-zero, one-mul, mul-one, add-zero, zero-add}
 use native.Mathlib.Omega.{arith}
-use lib.Dec.{T, ltb, ltb→lt, not-T, lit<, lit≤}
+use lib.Dec.{T, ltb, ltb→lt, not-T, lit<}
 use lib.ListN.{length, getD}
-use lib.Ieee.Bits.{is-false}
 use lib.Ieee.Fits.{and-l, and-r}
 use Rattle.fixed_point.specs.Horner.{horner}
 use Rattle.fixed_point.proofs.Polynomial.{hom}
 use Rattle.fixed_point.proofs.Horner.{ring}
-use Rattle.fixed_point.proofs.Bernstein.{fma, fma-is, front, front-start, front-length, again, again-is, again-length, once, once-acts, under, under-le}
+use Rattle.fixed_point.proofs.Bernstein.{fma, fma-is, front-start, front-length, again-is, again-length, once, once-acts, under, under-le}
 use Rattle.series.proofs.Constants.{mn, md}
 use Rattle.exponential.specs.Powers.{powers, terms}
 use Rattle.exponential.specs.Raise.{significandOf}
 use Rattle.exponential.proofs.Digits.{place, entry-hi}
-use Rattle.exponential.proofs.Terms.{K, up, turn, sum, allTerms, bothTerms, up-is, turn-is}
+use Rattle.exponential.proofs.Terms.{K, turn, sum, allTerms, bothTerms, up-is, turn-is}
 use Rattle.exponential.proofs.PowerTest.{denominator, upL, turnL, coreL, unitsL, scale, near0, near1, unless, at-place}
 use Rattle.exponential.proofs.Near.{result-lo, result-hi}
 

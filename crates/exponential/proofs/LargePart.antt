@@ -1,9 +1,8 @@
 -- exp x - 1 away from 0: the differences do not wrap, and what the code's branches know. Assumes nothing.
-use mathlib.Core.Path.{_≡_, refl, sym, ap, _∙_, subst}
-use mathlib.Core.Logic.{_⊎_, inl, inr}
-use mathlib.Core.Bool.{Bool, true, false, _&&_, not, cond}
+use mathlib.Core.Path.{_≡_, refl, sym, _∙_, subst}
+use mathlib.Core.Bool.{Bool, true, false}
 use Prim.Native.Nat.{ℕ, zero, suc, _+_, _-_, _*_, _/_, _%_, _^_, _≤_, _<_}
-use native.Mathlib.Nat.{le-trans, le-of-eq, le-of-lt, lt-of-lt-of-le, lt-of-le-of-lt, lt-of-not-le, not-le-of-lt, mul-comm, mul-le-mul, mul-le-mul-left, mul-le-mul-right, div-le-of-le-mul, div-lt-iff-lt-mul, le-div-iff-mul-le, le-add-right}
+use native.Mathlib.Nat.{le-trans, lt-of-lt-of-le, not-le-of-lt, mul-le-mul-left, mul-le-mul-right, div-le-of-le-mul, div-lt-iff-lt-mul, le-div-iff-mul-le}
 use native.Mathlib.Decide.{decLe}
 use native.Mathlib.Omega.{arith}
 use lib.Dec.{T, leb, ltb, leb→le, le→leb, ltb→lt, lt→ltb, not-T, lit≤, lit<}
@@ -11,15 +10,15 @@ use lib.Pow.{pow-mono, pow-pos}
 use lib.ListN.{getD}
 use lib.Ieee.{Float, binary64, toBits, fits}
 use lib.Ieee.Bits.{is-true, is-false}
-use Rattle.number.specs.Ans.{Ans, held, refused}
+use Rattle.number.specs.Ans.{held, refused}
 use Rattle.fixed_point.specs.Pack.{packed}
 use Rattle.fixed_point.proofs.Table.{every, at}
 use Rattle.exponential.specs.Powers.{powers}
 use Rattle.exponential.specs.Raise.{significandOf}
-use Rattle.exponential.specs.Exp.{expInside, binaryOf, exponentAt, exponentOf}
+use Rattle.exponential.specs.Exp.{expInside, binaryOf, exponentOf}
 use Rattle.exponential.specs.ExpM1.{fieldOf, smallOf, belowOf, aboveOf, awayOf, expM1Of}
 use Rattle.exponential.proofs.Digits.{place, significand-lo, significand-hi}
-use Rattle.exponential.proofs.Argument.{field-le, binary-le, negative-at, positive-at}
+use Rattle.exponential.proofs.Argument.{negative-at, positive-at}
 
 -- ---- below 1
 pub part-lt : (y n : ℕ) → y < 2 ^ 64 → 1 ≤ n → y / 2 ^ n < 2 ^ 63

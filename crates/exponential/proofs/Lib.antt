@@ -23,3 +23,7 @@ pub mod AtZero
 pub mod SmallNear
 pub mod M1Small
 pub mod M1Distance
+pub mod Zeros
+pub mod Tiny
+pub mod TinyNear
+pub mod Inhabited

@@ -1,13 +1,13 @@
 -- Document 01's sum of thirty terms of exp, as it is written, is that of `Terms` over 29! d ^ 29. Assumes nothing.
 use mathlib.Core.Path.{_≡_, refl, sym, ap, _∙_, subst}
 use mathlib.Core.Bool.{Bool, true, false, not, _&&_}
-use Prim.Native.Nat.{ℕ, zero, suc, _+_, _*_, _/_, _^_, _≤_, _<_}
-use native.Mathlib.Nat.{add-mul, mul-add, mul-assoc, mul-comm, mul-left-comm, mul-zero, zero-mul, add-zero, zero-add, mul-pos, zero-lt-suc, pow-suc, pow-zero, mul-one, one-mul}
+use Prim.Native.Nat.{ℕ, zero, suc, _+_, _*_, _/_, _^_, _<_}
+use native.Mathlib.Nat.{mul-assoc, mul-comm, mul-zero, zero-mul, add-zero, zero-add, mul-pos, zero-lt-suc, pow-suc, pow-zero, mul-one, one-mul}
 use native.Mathlib.Omega.{arith}
 use lib.Dec.{T, eqb, eqb→eq, lit<, lit≤}
 use lib.Ieee.Fits.{and-l, and-r}
-use Rattle.number.specs.Frac.{Frac, frac, Pos, leF, addF, mulF, zeroF, sgn}
-use Rattle.number.proofs.Frac.{ring, le-transF, le-reflF, add-monoF, addF-pos}
+use Rattle.number.specs.Frac.{Frac, frac, leF, addF, mulF, zeroF, sgn}
+use Rattle.number.proofs.Frac.{ring, le-transF, le-reflF, add-monoF}
 use Rattle.series.specs.Sums.{overF, eqF, powF, sumF, factorial}
 use Rattle.series.specs.Exact.{expTerm, expSum}
 use Rattle.exponential.proofs.Terms.{K, up, turn, sum, allTerms, bothTerms}

@@ -1,25 +1,23 @@
--- exp_m1's distance: its answer is within 2 ^ -48 of every value of document 01's bracket, for an argument of at least 2 ^ -54 in size. Assumes nothing.
+-- exp_m1's distance: its answer is within 2 ^ -48 of every value of document 01's bracket. Assumes nothing.
 use mathlib.Core.Path.{_≡_, refl, sym, ap, _∙_, subst}
 use mathlib.Core.Bool.{Bool, true, false, cond}
 use Prim.Native.Nat.{ℕ, zero, suc, _+_, _-_, _*_, _/_, _%_, _^_, _≤_, _<_}
-use native.Mathlib.Nat.{le-trans, le-of-eq, lt-of-not-le, not-le-of-lt, mul-le-mul-left, mul-le-mul-right, le-div-iff-mul-le}
+use native.Mathlib.Nat.{le-trans, le-of-eq, le-of-lt, lt-of-not-le, mul-comm, mul-assoc, mul-one, mul-le-mul, mul-le-mul-left, mul-le-mul-right, le-of-mul-le-mul-right, le-div-iff-mul-le}
 use native.Mathlib.Decide.{decLe}
 use native.Mathlib.Omega.{arith}
 use lib.IntN.{ℤ}
-use lib.Dec.{T, leb, ltb, leb→le, le→leb, ltb→lt, not-T, lit<, lit≤}
+use lib.Dec.{T, leb, ltb, leb→le, le→leb, lit<, lit≤}
 use lib.Pow.{pow-mono, pow-pos}
 use lib.Ieee.{Float, fin, up, down, binary64, fits, toBits}
-use lib.Ieee.Bits.{is-true, is-false, toBits-lt}
+use lib.Ieee.Bits.{toBits-lt}
 use lib.Ieee.Fits.{down-pos}
 use Rattle.number.specs.Ans.{Ans, held, refused}
-use Rattle.number.specs.Frac.{Frac, frac, Pos, subF, sgn, valF}
+use Rattle.number.specs.Frac.{Frac, sgn, valF}
 use Rattle.number.proofs.Frac.{valF-pos}
-use Rattle.series.specs.Sums.{natF, eqF}
 use Rattle.series.specs.Exact.{ExpValue, ExpM1Value}
 use Rattle.series.specs.Distance.{within}
-use Rattle.fixed_point.specs.Pack.{packed}
 use Rattle.exponential.specs.Exp.{expInside, binaryOf, exponentAt, exponentOf}
-use Rattle.exponential.specs.ExpM1.{fieldOf, digitsOf, ratioOf, smallOf, belowOf, aboveOf, awayOf, expM1Of}
+use Rattle.exponential.specs.ExpM1.{fieldOf, ratioOf, smallOf, belowOf, aboveOf, awayOf, expM1Of}
 use Rattle.exponential.proofs.Decode.{unitsOf, decoded}
 use Rattle.exponential.proofs.Argument.{exp-inside-is, negative-at, positive-at}
 use Rattle.exponential.proofs.ExpNear.{argument-near}
@@ -27,6 +25,7 @@ use Rattle.exponential.proofs.RaiseNear.{Bracket, raise-bracket}
 use Rattle.exponential.proofs.LargePart.{holds, fails}
 use Rattle.exponential.proofs.M1Near.{above-near, below-near}
 use Rattle.exponential.proofs.M1Small.{plus-near, minus-near}
+use Rattle.exponential.proofs.TinyNear.{tiny-near}
 
 -- the exponent is that of the bits
 of : (s : Bool) (m : ℕ) (e : ℤ) → exponentAt (toBits binary64 (fin s m e)) ≡ exponentOf (fin s m e)
@@ -73,6 +72,26 @@ module _ (s : Bool) (m : ℕ) (e : ℤ) (fit : T (fits binary64 (fin s m e))) (i
     where
       go : (t : Bool) → t ≡ leb (2 ^ 63) b → leb (2 ^ 63) b ≡ false → b < 2 ^ 63
       go t q r = lt-of-not-le (λ (h : 2 ^ 63 ≤ b). subst T r (le→leb (2 ^ 63) b h))
+
+  -- ---- below 2 ^ -54
+  near-tiny : fieldOf b < 969 → within (2 ^ 48) (valF (fin s m e)) x
+  near-tiny h = tiny-near s (m * up e) (down e) (value .e) x (down-pos e) size (value .proper) (value .isExp) (value .same)
+    where
+      units : (f t : ℕ) → f < 969 → t < 4503599627370496 → unitsOf f t ≤ 2 ^ 1020
+      units zero t h k = le-trans (le-of-eq (mul-one t)) (le-trans (le-of-lt k) (lit≤ tt))
+      units (suc i) t h k = le-trans (mul-le-mul (wide t k) (pow-mono (last i h))) (lit≤ {m = 9007199254740992 * 2 ^ 967} {n = 2 ^ 1020} tt)
+        where
+          wide : (t : ℕ) → t < 4503599627370496 → 4503599627370496 + t ≤ 9007199254740992
+          wide t k = omega arith
+
+          last : (i : ℕ) → suc i < 969 → i ≤ 967
+          last i h = omega arith
+
+      size : 2 ^ 54 * (m * up e) ≤ down e
+      size = le-of-mul-le-mul-right {k = 2 ^ 1020} (le-trans (le-of-eq (turn (m * up e))) (le-trans (le-of-eq size-is) (le-trans (mul-le-mul-right (down e) (units (fieldOf b) (b % 4503599627370496) h digits-lt)) (le-of-eq (mul-comm (2 ^ 1020) (down e)))))) (pow-pos 1020)
+        where
+          turn : (n : ℕ) → 2 ^ 54 * n * 2 ^ 1020 ≡ n * 2 ^ 1074
+          turn n = ap (λ (z : ℕ). z * 2 ^ 1020) (mul-comm (2 ^ 54) n) ∙ mul-assoc n (2 ^ 54) (2 ^ 1020)
 
   -- ---- below 1/4
   near-small : 969 ≤ fieldOf b → fieldOf b < 1021 → within (2 ^ 48) (valF (smallOf b)) x
@@ -128,3 +147,28 @@ module _ (s : Bool) (m : ℕ) (e : ℤ) (fit : T (fits binary64 (fin s m e))) (i
       by-field : Dec (1021 ≤ fieldOf b) → within (2 ^ 48) (valF (awayOf (fin s m e))) x
       by-field (yes h) = rw (fails (fieldOf b) 1021 h) (by-sign h s refl)
       by-field (no h) = rw (holds (fieldOf b) 1021 (lt-of-not-le h)) (near-small l (lt-of-not-le h))
+
+  pub near-any : within (2 ^ 48) (valF (cond (ltb (fieldOf b) 969) (fin s m e) (awayOf (fin s m e)))) x
+  near-any = go (decLe 969 (fieldOf b))
+    where
+      go : Dec (969 ≤ fieldOf b) → within (2 ^ 48) (valF (cond (ltb (fieldOf b) 969) (fin s m e) (awayOf (fin s m e)))) x
+      go (yes h) = rw (fails (fieldOf b) 969 h) (near-away h)
+      go (no h) = rw (holds (fieldOf b) 969 (lt-of-not-le h)) (near-tiny (lt-of-not-le h))
+
+-- 'The distance holds from every value in the bracket': whatever value exp_m1 holds, at each f64 x
+pub exp-m1-distance : (x v : Float) (t : Frac) → T (fits binary64 x) → expM1Of x ≡ held v → ExpM1Value (valF x) t → within (2 ^ 48) (valF v) t
+unfolding expM1Of
+exp-m1-distance x v t f h w = go (expInside x) refl h
+  where
+    at : (s : Bool) × (m : ℕ) × (e : ℤ) × (x ≡ fin s m e) × (m * up e ≤ 700 * down e) → T (expInside x) → within (2 ^ 48) (valF (cond (ltb (fieldOf (toBits binary64 x)) 969) x (awayOf x))) t
+    at (s, m, e, p, q) i = subst (λ (y : Float). within (2 ^ 48) (valF (cond (ltb (fieldOf (toBits binary64 y)) 969) y (awayOf y))) t) (sym p) (near-any s m e (subst (λ (y : Float). T (fits binary64 y)) p f) (subst (λ (y : Float). T (expInside y)) p i) q t (subst (λ (y : Float). ExpM1Value (valF y) t) p w))
+
+    go : (b : Bool) → b ≡ expInside x → cond b (held (cond (ltb (fieldOf (toBits binary64 x)) 969) x (awayOf x))) (refused 6) ≡ held v → within (2 ^ 48) (valF v) t
+    go true p h = subst (λ (y : Float). within (2 ^ 48) (valF y) t) (same h) (at (exp-inside-is x (subst T p tt)) (subst T p tt))
+      where
+        same : held (cond (ltb (fieldOf (toBits binary64 x)) 969) x (awayOf x)) ≡ held v → cond (ltb (fieldOf (toBits binary64 x)) 969) x (awayOf x) ≡ v
+        same h = cc
+    go false p h = absurd (never h)
+      where
+        never : _≡_ {A = Ans Float} (refused 6) (held v) → ⊥
+        never h = let z : _≡_ {A = ℕ} 0 1 = cc in omega arith

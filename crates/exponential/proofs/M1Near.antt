@@ -1,17 +1,15 @@
 -- exp_m1's distance from document 01's values for an argument of at least 1/4 in size. Assumes nothing.
 use mathlib.Core.Path.{_≡_, refl, sym, ap, _∙_, subst}
-use mathlib.Core.Logic.{_⊎_, inl, inr}
-use mathlib.Core.Bool.{Bool, true, false, _&&_, cond}
-use Prim.Native.Nat.{ℕ, zero, suc, _+_, _-_, _*_, _/_, _%_, _^_, _≤_, _<_}
-use native.Mathlib.Nat.{add-mul, mul-add, mul-assoc, mul-comm, mul-left-comm, mul-zero, zero-mul, one-mul, mul-one, add-zero, zero-add, add-le-add, le-refl, le-trans, le-of-eq, le-of-lt, lt-of-not-le, mul-pos, mul-le-mul, mul-le-mul-left, mul-le-mul-right, le-of-mul-le-mul-right, div-mul-le-self, lt-div-mul-add, div-le-of-le-mul}
+use mathlib.Core.Bool.{Bool, false, _&&_}
+use Prim.Native.Nat.{ℕ, _+_, _-_, _*_, _/_, _%_, _^_, _≤_, _<_}
+use native.Mathlib.Nat.{add-mul, mul-assoc, zero-mul, one-mul, mul-one, add-zero, zero-add, le-trans, le-of-eq, le-of-lt, mul-le-mul, mul-le-mul-left, mul-le-mul-right, div-mul-le-self, lt-div-mul-add, div-le-of-le-mul}
 use native.Mathlib.Decide.{decLe}
 use native.Mathlib.Omega.{arith}
 use lib.Dec.{T, leb, ltb, leb→le, lit<, lit≤}
-use lib.ListN.{length, getD}
+use lib.ListN.{getD}
 use lib.Pow.{pow-pos, pow-add, pow-mono}
-use lib.Ieee.{Float}
 use lib.Ieee.Fits.{and-l, and-r}
-use Rattle.number.specs.Frac.{Frac, frac, Pos, leF, negF, addF, subF, mulF, valF}
+use Rattle.number.specs.Frac.{Frac, frac, Pos, leF, negF, subF, valF}
 use Rattle.number.proofs.Frac.{ring, le-transF, neg-antiF, addF-pos, negF-pos}
 use Rattle.series.specs.Sums.{natF, eqF}
 use Rattle.series.specs.Distance.{within}

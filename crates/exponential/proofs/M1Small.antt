@@ -1,28 +1,28 @@
 -- exp_m1's distance below 1/4, from the bits of the argument. Assumes nothing.
 use mathlib.Core.Path.{_≡_, refl, sym, ap, _∙_, subst}
-use mathlib.Core.Bool.{Bool, true, false, cond}
-use Prim.Native.Nat.{ℕ, zero, suc, _+_, _-_, _*_, _/_, _%_, _^_, _≤_, _<_}
-use native.Mathlib.Nat.{add-mul, mul-add, mul-assoc, mul-comm, mul-left-comm, mul-zero, zero-mul, one-mul, mul-one, add-zero, zero-add, add-comm, add-le-add, le-refl, le-trans, le-of-eq, le-of-lt, mul-pos, mul-le-mul, mul-le-mul-left, mul-le-mul-right, le-of-mul-le-mul-right, div-mul-le-self, div-le-of-le-mul, le-div-iff-mul-le, lt-div-mul-add, div-lt-iff-lt-mul, sub-add-cancel, pow-suc}
+use Prim.Native.Nat.{ℕ, zero, suc, _+_, _-_, _*_, _/_, _^_, _≤_, _<_}
+use native.Mathlib.Nat.{add-mul, mul-assoc, mul-comm, mul-left-comm, mul-zero, zero-mul, one-mul, add-zero, zero-add, add-comm, le-trans, le-of-eq, le-of-lt, mul-le-mul, mul-le-mul-left, mul-le-mul-right, le-of-mul-le-mul-right, div-mul-le-self, div-le-of-le-mul, le-div-iff-mul-le, lt-div-mul-add, sub-add-cancel, pow-suc}
 use native.Mathlib.Omega.{arith}
-use lib.Dec.{T, lit<, lit≤}
+use lib.Dec.{lit<, lit≤}
 use lib.Pow.{pow-pos, pow-add, pow-mono}
-use Rattle.number.specs.Frac.{Frac, frac, Pos, leF, negF, subF, valF}
+use Rattle.number.specs.Frac.{Frac, frac, Pos, leF, negF, addF, subF, mulF, valF}
 use Rattle.number.proofs.Frac.{ring, neg-antiF, negF-pos}
 use Rattle.series.specs.Sums.{natF, eqF}
 use Rattle.series.specs.Exact.{ExpValue}
 use Rattle.series.specs.Distance.{within}
 use Rattle.fixed_point.specs.Horner.{horner}
 use Rattle.fixed_point.specs.Pack.{packed}
-use Rattle.exponential.specs.ExpM1.{oddTerms, evenTerms, ratioOf}
+use Rattle.exponential.specs.ExpM1.{oddTerms, evenTerms}
 use Rattle.exponential.proofs.Decode.{unitsOf}
 use Rattle.exponential.proofs.Terms.{K}
 use Rattle.exponential.proofs.SmallPart.{down-fits, down-least, up-least, up-fits, moved-le}
 use Rattle.exponential.proofs.SmallTerms.{odds, evens}
 use Rattle.exponential.proofs.SmallSeries.{ratio-plus, ratio-minus}
 use Rattle.exponential.proofs.SmallNear.{plus-lo, plus-hi, minus-lo, minus-hi, sum-plus, sum-minus, plus-sized, minus-sized}
-use Rattle.exponential.proofs.Bounds.{Bound}
-use Rattle.exponential.proofs.AtZero.{at-zero}
-use Rattle.exponential.proofs.PackedNear.{Sized, packed-plus, packed-minus}
+use Rattle.exponential.proofs.Bounds.{Bound, bound-up}
+use Rattle.exponential.proofs.AtZero.{at-zero, same-size, rest-pos}
+use Rattle.exponential.proofs.Value.{tail-le}
+use Rattle.exponential.proofs.PackedNear.{packed-plus, packed-minus}
 use Rattle.exponential.proofs.M1Near.{sized-eq, minus-one-pos}
 
 -- |x| = n / d by its field f and its digits g
@@ -106,6 +106,15 @@ module _ (n d f t : ℕ) (D : 0 < d) (least : 969 ≤ f) (most : f < 1021) (digi
   tiny : 2 ^ 1085 ≤ w * 2 ^ 130
   tiny = le-trans (lit≤ {m = 2 ^ 1085} {n = 2 ^ 969 * 2 ^ 130} tt) (mul-le-mul-right (2 ^ 130) (pow-mono least))
 
+  room : leF (addF (mulF (frac 0 0 1) (frac 36 0 25)) (frac 1 0 (2 ^ 130))) (frac w 0 (2 ^ 1085))
+  room = go (2 ^ 130) (2 ^ 1085) w tiny
+    where
+      go : (E G h : ℕ) → G ≤ h * E → leF (addF (mulF (frac 0 0 1) (frac 36 0 25)) (frac 1 0 E)) (frac h 0 G)
+      go E G h k = let z = simp ring at k in simp (ring, one-mul, mul-zero, zero-mul, add-zero, zero-add) (omega arith)
+
+  quarter-size : (v : Frac) → Bound v (frac 1 0 4) → Bound v (frac 9 0 25)
+  quarter-size v h = bound-up v (frac 1 0 4) (frac 9 0 25) (lit< tt) (lit≤ tt) h
+
   small-plus : Bound (frac n 0 d) (frac 1 0 4)
   small-plus = (up₁ n d quarter, down₁ n d)
     where
@@ -170,7 +179,7 @@ module _ (n d f t : ℕ) (D : 0 < d) (least : 969 ≤ f) (most : f < 1021) (digi
       let lo = plus-lo n d g w (2 ^ 1085) F y u link (le-of-lt g-hi) (div-mul-le-self (g * F) (2 ^ 64)) (next (g * F)) o (r .0) in
       let hi = plus-hi n d g w (2 ^ 1085) F y u link (le-of-lt g-hi) (div-mul-le-self (g * F) (2 ^ 64)) (next (g * F)) o (r .1) in
       let sums = sum-plus n d (2 ^ 1085) D (y * w) ((y + 323) * w) lo hi in
-      let z = at-zero (frac n 0 d) e D small-plus (2 ^ 1085 + y * w) (2 ^ 1085 + (y + 323) * w) w tiny (sums .0) (sums .1) v in
+      let z = at-zero (frac n 0 d) e D small-plus (2 ^ 1085 + y * w) (2 ^ 1085 + (y + 323) * w) w (2 ^ 1085) (pow-pos 1085) (frac 1 0 (2 ^ 130)) (lit< tt) room (λ (l : Frac) (L : Pos l). tail-le (subF (frac n 0 d) (mulF (frac 0 0 1) l)) (rest-pos (frac n 0 d) l D L) (same-size (frac n 0 d) l 9 25 D (quarter-size (frac n 0 d) small-plus))) (sums .0) (sums .1) v in
       let big = y-large F (up-least s (s * s / 2 ^ 64) odd even s-le refl refl refl) in
       packed-plus y 324 f x (positive y big) (y-small F (up-fits s (s * s / 2 ^ 64) odd even s-le refl refl refl)) low-field high-field X₁ (budget y big)
       (sized-eq y 324 f x (subF e (natF 1)) (minus-one-pos e (v .proper .0)) q (plus-sized e y w (2 ^ 1085) (z .0) (z .1)))
@@ -190,7 +199,7 @@ module _ (n d f t : ℕ) (D : 0 < d) (least : 969 ≤ f) (most : f < 1021) (digi
       let xe : X + (y + 257) * w ≡ 2 ^ 1085 = sub-add-cancel top in
       let ye : Y + y * w ≡ 2 ^ 1085 + 66 * w = sub-add-cancel (le-trans (mul-le-mul-right w (more y)) (le-trans top (over (2 ^ 1085) (66 * w)))) in
       let sums = sum-minus n d (2 ^ 1085) D X Y (y * w) ((y + 257) * w) (66 * w) xe ye lo hi in
-      let z = at-zero (frac 0 n d) e D small-minus X Y w tiny (sums .0) (sums .1) v in
+      let z = at-zero (frac 0 n d) e D small-minus X Y w (2 ^ 1085) (pow-pos 1085) (frac 1 0 (2 ^ 130)) (lit< tt) room (λ (l : Frac) (L : Pos l). tail-le (subF (frac 0 n d) (mulF (frac 0 0 1) l)) (rest-pos (frac 0 n d) l D L) (same-size (frac 0 n d) l 9 25 D (quarter-size (frac 0 n d) small-minus))) (sums .0) (sums .1) v in
       packed-minus y 324 f x (positive y big) small low-field high-field X₁ (budget y big)
       (sized-eq y 324 f (negF x) (negF (subF e (natF 1))) (negF-pos (subF e (natF 1)) (minus-one-pos e (v .proper .0))) (neg-antiF (subF e (natF 1)) x (q .1), neg-antiF x (subF e (natF 1)) (q .0)) (minus-sized e y w (2 ^ 1085) X Y xe ye (z .0) (z .1)))
     where

@@ -1,11 +1,11 @@
 -- The argument of document 01's sum against the exponent's own: v - k l, for every value l of ln 2, is near φ ln 2 / 2 ^ 53. Assumes nothing.
-use mathlib.Core.Path.{_≡_, refl, sym, ap, _∙_, subst}
-use Prim.Native.Nat.{ℕ, zero, suc, _+_, _-_, _*_, _/_, _%_, _^_, _≤_, _<_}
-use native.Mathlib.Nat.{add-mul, mul-add, mul-assoc, mul-comm, mul-left-comm, mul-zero, zero-mul, one-mul, mul-one, add-zero, zero-add, le-trans, le-of-eq, mul-pos, mul-le-mul-left, mul-le-mul-right}
+use mathlib.Core.Path.{_≡_, sym, ap, _∙_}
+use Prim.Native.Nat.{ℕ, _+_, _*_, _^_, _≤_}
+use native.Mathlib.Nat.{mul-zero, zero-mul, one-mul, mul-one, add-zero, zero-add, le-of-eq, mul-pos, mul-le-mul-right}
 use native.Mathlib.Omega.{arith}
-use lib.Dec.{T, lit<, lit≤}
+use lib.Dec.{lit<, lit≤}
 use Rattle.number.specs.Frac.{Frac, frac, Pos, leF, negF, addF, subF, mulF}
-use Rattle.number.proofs.Frac.{ring, le-transF, addF-pos, mulF-pos, negF-pos}
+use Rattle.number.proofs.Frac.{ring, le-transF, addF-pos}
 use Rattle.series.specs.Sums.{eqF, powF, sumF}
 use Rattle.series.specs.Exact.{ln2Low, ln2High, twiceOdds, oddTail}
 use Rattle.series.proofs.Constants.{mn, md, ln2Low-is, ln2High-is}

@@ -1,24 +1,15 @@
 -- The significand that the core works against document 01's thirty terms: what the table's test and the floors say together. Assumes nothing.
 use mathlib.Core.Path.{_≡_, refl, sym, ap, _∙_, subst}
-use mathlib.Core.Bool.{Bool, true, false, _&&_}
 use mathlib.Core.List.{List, [], _∷_}
-use Prim.Native.Nat.{ℕ, zero, suc, _+_, _-_, _*_, _/_, _%_, _^_, _≤_, _<_}
-use native.Mathlib.Nat.{le-refl, le-trans, le-of-eq, le-of-lt, add-le-add, mul-add, add-mul, mul-assoc, mul-comm, mul-left-comm, mul-le-mul, mul-le-mul-left, mul-le-mul-right, le-of-mul-le-mul-right, mul-pos, div-mul-le-self, pow-suc, pow-zero, zero-mul, mul-zero, one-mul, mul-one, add-zero, zero-add}
+use Prim.Native.Nat.{ℕ, suc, _+_, _*_, _/_, _^_, _≤_, _<_}
+use native.Mathlib.Nat.{le-refl, le-trans, le-of-eq, le-of-lt, add-le-add, mul-assoc, mul-comm, mul-left-comm, mul-le-mul-left, mul-le-mul-right, le-of-mul-le-mul-right, div-mul-le-self, pow-suc, zero-mul, one-mul, mul-one}
 use native.Mathlib.Omega.{arith}
-use lib.Dec.{T, ltb, leb→le, ltb→lt, not-T, lit<, lit≤}
-use lib.ListN.{length, getD}
-use lib.Pow.{pow-pos}
-use lib.Ieee.Fits.{and-l, and-r}
+use lib.Dec.{T, lit<}
+use lib.ListN.{length}
 use Rattle.fixed_point.specs.Horner.{horner}
 use Rattle.fixed_point.proofs.Polynomial.{hom}
 use Rattle.fixed_point.proofs.Horner.{ring, lower}
-use Rattle.fixed_point.proofs.Bernstein.{fma-is, front, front-start, front-length, again-is, again-length, once, once-acts, under, under-le}
-use Rattle.series.proofs.Constants.{mn, md}
-use Rattle.exponential.specs.Powers.{powers, terms}
-use Rattle.exponential.specs.Raise.{significandOf}
-use Rattle.exponential.proofs.Digits.{place, entry-hi}
-use Rattle.exponential.proofs.Terms.{K, up, turn, sum, allTerms, bothTerms, up-is, turn-is}
-use Rattle.exponential.proofs.PowerTest as test
+use Rattle.exponential.specs.Powers.{terms}
 
 -- ---- the floors of Horner's rule at an exact q: one unit a step
 floor-step : (c f h Q W n d p H l : ℕ) → h * Q ≤ (f + 1) * W → n * W ≡ Q * d → 0 < W → n ≤ d → H * d ≤ (h + l) * p

@@ -1,19 +1,17 @@
 -- A packed number against a true value that is within a units of it: the distance 2 ^ -48. Assumes nothing.
-use mathlib.Core.Path.{_≡_, refl, sym, ap, _∙_, subst}
-use mathlib.Core.Bool.{Bool, true, false}
-use Prim.Native.Nat.{ℕ, zero, suc, _+_, _-_, _*_, _/_, _%_, _^_, _≤_, _<_}
-use native.Mathlib.Nat.{add-mul, mul-add, mul-assoc, mul-comm, mul-left-comm, mul-zero, zero-mul, one-mul, mul-one, add-zero, zero-add, add-comm, le-trans, le-of-eq, mul-pos, mul-le-mul-left, mul-le-mul-right, le-of-mul-le-mul-right}
+use mathlib.Core.Path.{_≡_, sym, ap, _∙_, subst}
+use mathlib.Core.Bool.{true, false}
+use Prim.Native.Nat.{ℕ, _+_, _-_, _*_, _^_, _≤_, _<_}
+use native.Mathlib.Nat.{add-mul, mul-add, mul-assoc, mul-comm, mul-left-comm, zero-mul, one-mul, add-zero, zero-add, add-comm, le-trans, le-of-eq, mul-le-mul-left, mul-le-mul-right}
 use native.Mathlib.Omega.{arith}
-use lib.Dec.{T, lit<, lit≤}
-use lib.Pow.{pow-pos, pow-add}
-use lib.Ieee.{Float}
-use lib.Ieee.Exact.{HasValue}
-use Rattle.number.specs.Frac.{Frac, frac, Pos, leF, negF, addF, subF, mulF, sgn, valF}
-use Rattle.number.proofs.Frac.{ring, le-transF, le-reflF, add-monoF, neg-antiF, addF-pos, negF-pos, valF-pos}
-use Rattle.series.specs.Sums.{natF, absF, eqF}
+use lib.Dec.{lit<}
+use lib.Pow.{pow-pos}
+use Rattle.number.specs.Frac.{Frac, frac, Pos, leF, negF, subF, mulF, valF}
+use Rattle.number.proofs.Frac.{ring, le-reflF, add-monoF, neg-antiF, addF-pos, negF-pos, valF-pos}
+use Rattle.series.specs.Sums.{eqF}
 use Rattle.series.specs.Distance.{within}
 use Rattle.fixed_point.specs.Pack.{packed}
-use Rattle.fixed_point.proofs.Packed.{flag, size, packed-value, packed-up, packed-down}
+use Rattle.fixed_point.proofs.Packed.{size, packed-value, packed-up, packed-down}
 use Rattle.exponential.proofs.Bounds.{Bound, bound-eq}
 use Rattle.exponential.proofs.Value.{Within, within-of}
 use Rattle.exponential.proofs.RaiseNear.{value-of}
@@ -88,7 +86,7 @@ module _ (y a z c W p n d : ℕ) (C : 0 < c) (budget : 32 * (2 ^ 48 + 1) * a ≤
 abbrev pub Sized : ℕ → ℕ → ℕ → Frac → Type 0
 Sized y a e t = leF (frac (y * 2 ^ e) (a * 2 ^ e) (2 ^ 1085)) t × leF t (frac ((y + a) * 2 ^ e) 0 (2 ^ 1085))
 
-one-times : (r t : Frac) → Within (2 ^ 48) 1 r t → within (2 ^ 48) r t
+pub one-times : (r t : Frac) → Within (2 ^ 48) 1 r t → within (2 ^ 48) r t
 one-times (frac p n d) (frac q m c) h = go (2 ^ 48 * ((p * c + m * d - (n * c + q * d)) + (n * c + q * d - (p * c + m * d))) + 0 * 0) ((q - m) + (m - q)) (1 * (d * c)) c (2 ^ 48 * 0 + 0 * ((p * c + m * d - (n * c + q * d)) + (n * c + q * d - (p * c + m * d)))) h
   where
     go : (x y z c u : ℕ) → x * (1 * c) + (1 * 0 + 0 * y) * z ≤ (1 * y + 0 * 0) * z + u * (1 * c) → x * c + 0 * z ≤ y * z + u * c
@@ -104,7 +102,7 @@ pos-near r (frac p n d) y a z e R T₁ k (l, u) q up down =
     (near-bound y a z (2 ^ 1074) (2 ^ e) p n d (pow-pos 1074) k l u up down)))
 
 -- the size of a difference does not know its sign
-turned : (r t : Frac) → within (2 ^ 48) (negF r) (negF t) → within (2 ^ 48) r t
+pub turned : (r t : Frac) → within (2 ^ 48) (negF r) (negF t) → within (2 ^ 48) r t
 turned (frac p n d) (frac q m c) h = go (p * c + m * d) (n * c + q * d) q m c (1 * (d * c)) h
   where
     go : (x y q m c z : ℕ) → (2 ^ 48 * ((y - x) + (x - y)) + 0 * 0) * c + 0 * z ≤ ((m - q) + (q - m)) * z + (2 ^ 48 * 0 + 0 * ((y - x) + (x - y))) * c

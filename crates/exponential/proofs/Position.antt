@@ -1,16 +1,15 @@
 -- Where document 01 cuts the argument: v near (w / 2 ^ 53 - 1023) ln 2 is cut at the whole number below w / 2 ^ 53 or at the next one. Assumes nothing.
-use mathlib.Core.Path.{_≡_, refl, sym, ap, _∙_, subst}
+use mathlib.Core.Path.{_≡_}
 use mathlib.Core.Logic.{_⊎_, inl, inr}
-use mathlib.Core.Bool.{Bool, true, false}
-use Prim.Native.Nat.{ℕ, zero, suc, _+_, _-_, _*_, _/_, _%_, _^_, _≤_, _<_}
-use native.Mathlib.Nat.{add-mul, mul-add, mul-assoc, mul-comm, mul-left-comm, mul-zero, zero-mul, one-mul, mul-one, add-zero, zero-add, le-trans, le-of-eq, le-of-lt, lt-of-not-le, mul-pos, mul-le-mul-left, mul-le-mul-right, le-of-mul-le-mul-right}
+use Prim.Native.Nat.{ℕ, _+_, _*_, _/_, _%_, _^_, _≤_, _<_}
+use native.Mathlib.Nat.{mul-zero, zero-mul, one-mul, add-zero, zero-add, lt-of-not-le, mul-pos, mul-le-mul-right, le-of-mul-le-mul-right}
 use native.Mathlib.Decide.{decLe}
 use native.Mathlib.Omega.{arith}
-use lib.Dec.{T, lit<, lit≤}
-use Rattle.number.specs.Frac.{Frac, frac, Pos, leF, ltF, negF, addF, subF, mulF, sgn}
-use Rattle.number.proofs.Frac.{ring, le-transF, le-reflF, lt-leF, add-monoF, neg-antiF, addF-pos, mulF-pos, negF-pos}
-use Rattle.series.specs.Sums.{natF, overF, eqF, powF, sumF}
-use Rattle.series.specs.Exact.{middle, rest, ln2Low, ln2High, twiceOdds, oddTail}
+use lib.Dec.{lit<, lit≤}
+use Rattle.number.specs.Frac.{Frac, frac, Pos, leF, negF, subF, mulF}
+use Rattle.number.proofs.Frac.{ring, le-transF, le-reflF, add-monoF, neg-antiF, addF-pos, mulF-pos, negF-pos}
+use Rattle.series.specs.Sums.{overF, eqF, powF, sumF}
+use Rattle.series.specs.Exact.{middle, ln2Low, ln2High, twiceOdds, oddTail}
 use Rattle.series.proofs.Constants.{mn, md, middle-is}
 use Rattle.exponential.proofs.Bounds.{Bound}
 

@@ -1,6 +1,6 @@
 -- The table of powers, tested by computation: at each of its places the core's polynomial is near document 01's thirty terms, coefficient by coefficient. Assumes nothing.
 -- At the place j the exponent's fraction is f = (j s + (j + 1) t) / (128 (s + t)). exp's argument is f ln 2, and below zero (f - 1) ln 2 from a half on; both are tested at 63 and 64.
-use mathlib.Core.Path.{_≡_, refl, sym, ap, _∙_, subst}
+use mathlib.Core.Path.{_≡_, _∙_, subst}
 use mathlib.Core.Bool.{Bool, true, false, _&&_}
 use mathlib.Core.List.{List, [], _∷_}
 use Prim.Native.Nat.{ℕ, zero, suc, _+_, _-_, _*_, _/_, _%_, _^_, _<_}
@@ -10,7 +10,6 @@ use lib.ListN.{length, getD, take, drop, length-take, length-drop}
 use lib.Seq.{getD-take, getD-drop}
 use Rattle.series.specs.Sums.{factorial}
 use Rattle.series.proofs.Constants.{mn, md}
-use Rattle.fixed_point.proofs.Polynomial.{hom}
 use Rattle.fixed_point.proofs.Table.{every, at}
 use Rattle.fixed_point.proofs.Bernstein.{times, fma, front, again, once, under}
 use Rattle.exponential.specs.Powers.{powers, terms}

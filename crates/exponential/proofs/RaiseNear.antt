@@ -2,13 +2,12 @@
 use mathlib.Core.Path.{_≡_, refl, sym, ap, _∙_, subst}
 use mathlib.Core.Logic.{_⊎_, inl, inr}
 use mathlib.Core.Bool.{Bool, true, false}
-use Prim.Native.Nat.{ℕ, zero, suc, _+_, _-_, _*_, _/_, _%_, _^_, _≤_, _<_}
-use native.Mathlib.Nat.{add-mul, mul-add, mul-assoc, mul-comm, mul-left-comm, mul-zero, zero-mul, one-mul, mul-one, add-zero, zero-add, add-le-add, le-refl, le-trans, le-of-eq, mul-pos, mul-le-mul, mul-le-mul-left, mul-le-mul-right}
+use Prim.Native.Nat.{ℕ, _+_, _-_, _*_, _/_, _%_, _^_, _≤_, _<_}
+use native.Mathlib.Nat.{mul-assoc, mul-comm, mul-left-comm, mul-zero, zero-mul, one-mul, add-zero, zero-add, add-le-add, le-refl, le-trans, le-of-eq, mul-pos, mul-le-mul, mul-le-mul-left, mul-le-mul-right}
 use native.Mathlib.Omega.{arith}
-use lib.Dec.{T, lit<, lit≤}
+use lib.Dec.{lit<, lit≤}
 use lib.Pow.{pow-add, pow-pos}
-use lib.IntN.{ℤ}
-use lib.Ieee.{Float, nan, inf, fin, up, down, binary64, ofBits}
+use lib.Ieee.{Float, nan, inf, fin, up, down}
 use lib.Ieee.Exact.{HasValue}
 use Rattle.number.specs.Frac.{Frac, frac, Pos, leF, negF, addF, subF, mulF, sgn, valF}
 use Rattle.number.proofs.Frac.{ring, le-transF, le-reflF, lt-leF, add-monoF, addF-pos, mulF-pos, negF-pos}
@@ -172,12 +171,12 @@ module _ (w c : ℕ) (v l e : Frac) (a b : ℕ) (neg : Bool) (k f g y : ℕ) (C 
   e-low : leF (frac (significandOf w * 2 ^ (w / 2 ^ 53)) (h * 2 ^ (w / 2 ^ 53)) (2 ^ 1086)) e
   e-low =
       scale-low neg k (significandOf w) h (2 * y * 2 ^ 60) (2 ^ (w / 2 ^ 53)) (2 ^ 1086) (subF (expSum t) (expTail t)) e factor (addF-pos (expSum t) (negF (expTail t)) (sum-at t t-pos) (negF-pos (expTail t) (tail-at t t-pos))) units-pos
-      (sum-low (expSum u) (expSum t) (expTail t) (mulF (frac (c + 1) 0 (2 ^ 60)) (frac 36 0 25)) (significandOf w) (significandOf w + 652) h (2 * y * 2 ^ 60) (sum-at u (lit< tt)) (sum-at t t-pos) (tail-at t t-pos) (lit< tt) units-pos (2 ^ 130) (lit< tt) moved-sum (tail-le t t-pos t-size) (room c (2 ^ 60) (2 ^ 130) y (lit≤ tt)) (sums .0)) low
+      (sum-low (expSum u) (expSum t) (expTail t) (mulF (frac (c + 1) 0 (2 ^ 60)) (frac 36 0 25)) (significandOf w) (significandOf w + 652) h (2 * y * 2 ^ 60) (sum-at u (lit< tt)) (sum-at t t-pos) (tail-at t t-pos) (lit< tt) units-pos (frac 1 0 (2 ^ 130)) (lit< tt) moved-sum (tail-le t t-pos t-size) (room c (2 ^ 60) (2 ^ 130) y (lit≤ tt)) (sums .0)) low
 
   e-high : leF e (frac ((significandOf w + 652 + h) * 2 ^ (w / 2 ^ 53)) 0 (2 ^ 1086))
   e-high =
       scale-high neg k (significandOf w + 652 + h) (2 * y * 2 ^ 60) (2 ^ (w / 2 ^ 53)) (2 ^ 1086) (addF (expSum t) (expTail t)) e factor (addF-pos (expSum t) (expTail t) (sum-at t t-pos) (tail-at t t-pos)) units-pos
-      (sum-high (expSum u) (expSum t) (expTail t) (mulF (frac (c + 1) 0 (2 ^ 60)) (frac 36 0 25)) (significandOf w) (significandOf w + 652) h (2 * y * 2 ^ 60) (sum-at u (lit< tt)) (sum-at t t-pos) (tail-at t t-pos) (lit< tt) units-pos (2 ^ 130) (lit< tt) moved-sum (tail-le t t-pos t-size) (room c (2 ^ 60) (2 ^ 130) y (lit≤ tt)) (sums .1)) high
+      (sum-high (expSum u) (expSum t) (expTail t) (mulF (frac (c + 1) 0 (2 ^ 60)) (frac 36 0 25)) (significandOf w) (significandOf w + 652) h (2 * y * 2 ^ 60) (sum-at u (lit< tt)) (sum-at t t-pos) (tail-at t t-pos) (lit< tt) units-pos (frac 1 0 (2 ^ 130)) (lit< tt) moved-sum (tail-le t t-pos t-size) (room c (2 ^ 60) (2 ^ 130) y (lit≤ tt)) (sums .1)) high
 
   h-le : h ≤ 24 * c + 48
   h-le = le-trans (mul-le-mul-right (3 * c + 6) few) (lin c)

@@ -1,22 +1,16 @@
 -- exp_m1's distance from document 01's values for an argument below 1/4 in size. Assumes nothing.
-use mathlib.Core.Path.{_≡_, refl, sym, ap, _∙_, subst}
-use mathlib.Core.Bool.{Bool, true, false, cond}
-use Prim.Native.Nat.{ℕ, zero, suc, _+_, _-_, _*_, _/_, _%_, _^_, _≤_, _<_}
-use native.Mathlib.Nat.{add-mul, mul-add, mul-assoc, mul-comm, mul-left-comm, mul-zero, zero-mul, one-mul, mul-one, add-zero, zero-add, add-le-add, le-refl, le-trans, le-of-eq, le-of-lt, mul-pos, mul-le-mul, mul-le-mul-left, mul-le-mul-right, le-of-mul-le-mul-right, div-mul-le-self, le-div-iff-mul-le, lt-div-mul-add, pow-zero, pow-suc}
+use mathlib.Core.Path.{_≡_, sym, ap, _∙_, subst}
+use Prim.Native.Nat.{ℕ, zero, suc, _+_, _*_, _^_, _≤_, _<_}
+use native.Mathlib.Nat.{add-mul, mul-add, mul-assoc, mul-comm, mul-left-comm, zero-mul, one-mul, mul-one, add-zero, zero-add, add-le-add, le-trans, le-of-eq, mul-pos, mul-le-mul-left, mul-le-mul-right, le-of-mul-le-mul-right, pow-zero, pow-suc}
 use native.Mathlib.Omega.{arith}
-use lib.Dec.{T, lit<, lit≤}
-use lib.Pow.{pow-pos, pow-add, pow-mono}
-use Rattle.number.specs.Frac.{Frac, frac, Pos, leF, negF, addF, subF, mulF}
-use Rattle.number.proofs.Frac.{ring, le-transF, neg-antiF, addF-pos, negF-pos}
-use Rattle.series.specs.Sums.{natF, eqF}
-use Rattle.series.specs.Exact.{ExpValue, expSum}
-use Rattle.exponential.specs.ExpM1.{oddTerms, evenTerms}
+use lib.Dec.{lit<}
+use Rattle.number.specs.Frac.{Frac, frac, leF, negF, subF}
+use Rattle.number.proofs.Frac.{ring, le-transF}
+use Rattle.series.specs.Sums.{natF}
+use Rattle.series.specs.Exact.{expSum}
 use Rattle.exponential.proofs.Terms.{K, allTerms, bothTerms}
 use Rattle.exponential.proofs.Literal.{sum-up, sum-down}
 use Rattle.exponential.proofs.SmallTerms.{odds, evens, odd-is, even-is, all-is, power-is}
-use Rattle.exponential.proofs.Bounds.{Bound}
-use Rattle.exponential.proofs.AtZero.{at-zero}
-use Rattle.exponential.proofs.PackedNear.{Sized}
 
 -- ---- on plain numbers: |x| = n / d = g w / (2 c), g the digits; F / 2 ^ 63 the ratio, f its error; y = g F / 2 ^ 64; the true ratio (o + t) / u or (o - t) / u
 perm : (n c o k v : ℕ) → n * (k * c) * (v * o) ≡ n * o * c * (k * v)

@@ -1,13 +1,11 @@
 -- exp x - 1 near 0: the numbers of its series stay in range. Assumes nothing.
-use mathlib.Core.Path.{_≡_, refl, sym, ap, _∙_, subst}
-use mathlib.Core.Bool.{Bool, true, false, cond}
-use mathlib.Core.List.{List, [], _∷_}
-use Prim.Native.Nat.{ℕ, zero, suc, _+_, _-_, _*_, _/_, _%_, _^_, _≤_, _<_}
-use native.Mathlib.Nat.{le-trans, le-of-eq, add-le-add, le-refl, mul-comm, mul-le-mul, mul-le-mul-left, mul-le-mul-right, div-le-of-le-mul, le-div-iff-mul-le}
+use mathlib.Core.Path.{_≡_, sym, subst}
+use mathlib.Core.Bool.{Bool, true, false}
+use Prim.Native.Nat.{ℕ, _+_, _-_, _*_, _/_, _^_, _≤_, _<_}
+use native.Mathlib.Nat.{le-trans, mul-le-mul, mul-le-mul-right, div-le-of-le-mul, le-div-iff-mul-le}
 use native.Mathlib.Omega.{arith}
-use lib.Dec.{T, leb, lit≤, lit<, leb→le, le→leb, not-T}
-use lib.Pow.{pow-mono, pow-pos}
-use lib.Ieee.Bits.{is-true, is-false}
+use lib.Dec.{leb, lit≤, lit<}
+use lib.Pow.{pow-mono}
 use Rattle.fixed_point.specs.Horner.{horner}
 use lib.Ieee.{Float}
 use Rattle.fixed_point.specs.Pack.{packed}

@@ -1,11 +1,9 @@
 -- The ratio (exp x - 1) / x that exp_m1 works near 0, against document 01's terms at ± n / d, n / d = |x| at most 1/4. Assumes nothing.
-use mathlib.Core.Path.{_≡_, refl, sym, ap, _∙_, subst}
-use mathlib.Core.List.{List, [], _∷_}
-use Prim.Native.Nat.{ℕ, zero, suc, _+_, _-_, _*_, _/_, _^_, _≤_, _<_}
-use native.Mathlib.Nat.{add-mul, mul-add, mul-assoc, mul-comm, mul-left-comm, mul-zero, zero-mul, one-mul, mul-one, add-zero, zero-add, add-le-add, le-refl, le-trans, le-of-eq, le-of-lt, mul-pos, mul-le-mul, mul-le-mul-left, mul-le-mul-right, le-of-mul-le-mul-right, div-mul-le-self, div-le-of-le-mul, pow-suc}
+use mathlib.Core.Path.{_≡_, sym, ap, _∙_}
+use Prim.Native.Nat.{ℕ, _+_, _*_, _/_, _^_, _≤_, _<_}
+use native.Mathlib.Nat.{add-mul, mul-add, mul-assoc, mul-comm, mul-left-comm, one-mul, mul-one, add-le-add, le-refl, le-trans, le-of-eq, mul-pos, mul-le-mul, mul-le-mul-right, le-of-mul-le-mul-right, div-mul-le-self, div-le-of-le-mul, pow-suc}
 use native.Mathlib.Omega.{arith}
-use lib.Dec.{T, lit<, lit≤}
-use lib.ListN.{length}
+use lib.Dec.{lit<, lit≤}
 use Rattle.series.specs.Sums.{factorial}
 use Rattle.number.proofs.Frac.{ring}
 use Rattle.fixed_point.specs.Horner.{horner}

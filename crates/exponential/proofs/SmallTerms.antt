@@ -1,8 +1,8 @@
 -- Document 01's thirty terms of exp at ± n / d with even and odd powers apart, as polynomials in n n and d d. Assumes nothing.
-use mathlib.Core.Path.{_≡_, refl, sym, ap, _∙_, subst}
+use mathlib.Core.Path.{_≡_, refl, sym, ap, _∙_}
 use mathlib.Core.List.{List, [], _∷_}
-use Prim.Native.Nat.{ℕ, zero, suc, _+_, _*_, _/_, _^_, _≤_, _<_}
-use native.Mathlib.Nat.{mul-assoc, mul-comm, mul-left-comm, mul-zero, zero-mul, mul-one, one-mul, add-zero, zero-add, pow-suc, pow-zero}
+use Prim.Native.Nat.{ℕ, zero, suc, _+_, _*_, _/_, _^_}
+use native.Mathlib.Nat.{mul-assoc, mul-comm, mul-left-comm, mul-zero, zero-mul, one-mul, add-zero, zero-add, pow-suc, pow-zero}
 use lib.ListN.{length}
 use Rattle.series.specs.Sums.{factorial}
 use Rattle.fixed_point.proofs.Polynomial.{hom}

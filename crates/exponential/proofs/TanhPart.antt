@@ -1,16 +1,16 @@
 -- tanh: its quotient's numbers stay in range, and what the code's branches know. Assumes nothing.
 use mathlib.Core.Path.{_≡_, refl, sym, ap, _∙_, subst}
-use mathlib.Core.Bool.{Bool, true, false, _&&_, not, cond}
+use mathlib.Core.Bool.{Bool, true, false, _&&_, not}
 use Prim.Native.Nat.{ℕ, zero, suc, _+_, _-_, _*_, _/_, _%_, _^_, _≤_, _<_}
-use native.Mathlib.Nat.{le-trans, le-of-eq, le-of-lt, lt-of-not-le, not-le-of-lt, mul-one, mul-assoc, mul-comm, mul-left-comm, mul-le-mul, mul-le-mul-left, mul-le-mul-right, le-of-mul-le-mul-right, div-le-of-le-mul, le-div-iff-mul-le}
+use native.Mathlib.Nat.{le-trans, le-of-eq, not-le-of-lt, mul-one, mul-assoc, mul-le-mul-left, mul-le-mul-right, le-of-mul-le-mul-right, div-le-of-le-mul, le-div-iff-mul-le}
 use native.Mathlib.Decide.{decLe}
 use native.Mathlib.Omega.{arith}
 use lib.IntN.{ℤ, pos}
-use lib.Dec.{T, leb, ltb, leb→le, le→leb, ltb→lt, lt→ltb, not-T, lit≤, lit<}
+use lib.Dec.{T, leb, leb→le, le→leb, not-T, lit≤, lit<}
 use lib.Pow.{pow-mono, pow-pos, pow-add}
-use lib.Ieee.{Float, nan, inf, fin, up, down, binary64, fits, isNan, toBits, ofBits, ofFields, odd, le, neg}
+use lib.Ieee.{Float, fin, up, down, binary64, fits, isNan, toBits, ofBits, ofFields, odd, le, neg}
 use lib.Ieee.Bits.{is-true, is-false}
-use Rattle.number.specs.Ans.{Ans, held, refused}
+use Rattle.number.specs.Ans.{held, refused}
 use Rattle.fixed_point.specs.Quotient.{quotient}
 use Rattle.fixed_point.specs.Pack.{packed}
 use Rattle.fixed_point.proofs.TwoDigits.{quotient-lo}

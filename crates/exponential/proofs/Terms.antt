@@ -1,8 +1,7 @@
 -- Document 01's thirty terms of exp at ± n / d over one denominator, 29! d ^ 29: the sum from the lowest term up, for numbers and for polynomials alike. Assumes nothing.
-use mathlib.Core.Path.{_≡_, refl, sym, ap, _∙_, subst}
-use mathlib.Core.List.{List, [], _∷_}
-use Prim.Native.Nat.{ℕ, zero, suc, _+_, _*_, _/_, _^_, _≤_, _<_}
-use native.Mathlib.Nat.{add-zero}
+use mathlib.Core.Path.{_≡_, refl, sym, ap, _∙_}
+use mathlib.Core.List.{List}
+use Prim.Native.Nat.{ℕ, zero, suc, _+_, _*_, _/_}
 use lib.ListN.{length}
 use Rattle.series.specs.Sums.{factorial}
 use Rattle.fixed_point.proofs.Polynomial.{hom}

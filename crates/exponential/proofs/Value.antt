@@ -1,19 +1,18 @@
 -- From the sum at the exponent's own argument to document 01's values: moves, tails and the power of 2, over plain fractions. Assumes nothing.
-use mathlib.Core.Path.{_≡_, refl, sym, ap, _∙_, subst}
+use mathlib.Core.Path.{_≡_, sym, ap, _∙_, subst}
 use mathlib.Core.Bool.{Bool, true, false}
-use Prim.Native.Nat.{ℕ, zero, suc, _+_, _-_, _*_, _/_, _%_, _^_, _≤_, _<_}
-use native.Mathlib.Nat.{add-mul, mul-add, mul-assoc, mul-comm, mul-left-comm, mul-zero, zero-mul, one-mul, mul-one, add-zero, zero-add, le-trans, le-of-eq, mul-pos, mul-le-mul-left, mul-le-mul-right, le-of-mul-le-mul-right, le-of-lt, lt-of-not-le}
+use Prim.Native.Nat.{ℕ, _+_, _-_, _*_, _^_, _≤_, _<_}
+use native.Mathlib.Nat.{add-mul, mul-assoc, mul-zero, zero-mul, one-mul, add-zero, zero-add, le-trans, le-of-eq, mul-pos, mul-le-mul-right, le-of-mul-le-mul-right, le-of-lt, lt-of-not-le}
 use native.Mathlib.Decide.{decLe}
 use native.Mathlib.Omega.{arith}
-use lib.Dec.{T, lit<, lit≤}
+use lib.Dec.{lit<}
 use lib.Pow.{pow-pos}
 use Rattle.number.specs.Frac.{Frac, frac, Pos, leF, negF, addF, subF, mulF}
 use Rattle.number.proofs.Frac.{ring, le-transF, le-reflF, add-monoF, addF-pos, mulF-pos, negF-pos}
-use Rattle.series.specs.Sums.{natF, overF, absF, eqF, powF, factorial, scaleF}
-use Rattle.series.specs.Exact.{expSum, expTail}
+use Rattle.series.specs.Sums.{natF, overF, absF, powF, factorial, scaleF}
+use Rattle.series.specs.Exact.{expTail}
 use Rattle.series.proofs.Constants.{leb→leF}
-use Rattle.fixed_point.proofs.Horner.{ring as sums}
-use Rattle.exponential.proofs.Bounds.{Bound, bound-power, bound-mul, powF-pos, scaled}
+use Rattle.exponential.proofs.Bounds.{Bound, bound-power, powF-pos, scaled}
 use Rattle.exponential.proofs.Literal.{factorial-pos}
 use Rattle.exponential.proofs.Position.{over-mono}
 
@@ -48,7 +47,7 @@ le-abs (frac p n d) = go p n d (more p n)
     go : (p n d : ℕ) → p ≤ (p - n) + (n - p) + n → p * d + 0 * d ≤ ((p - n) + (n - p)) * d + n * d
     go p n d h = le-trans (le-of-eq (ap (λ (y : ℕ). p * d + y) (zero-mul d) ∙ add-zero (p * d))) (le-trans (mul-le-mul-right d h) (le-of-eq (add-mul ((p - n) + (n - p)) n d)))
 
-abs-bound : (x : Frac) (q c : ℕ) → Bound x (frac q 0 c) → Bound (absF x) (frac q 0 c)
+pub abs-bound : (x : Frac) (q c : ℕ) → Bound x (frac q 0 c) → Bound (absF x) (frac q 0 c)
 abs-bound (frac p n d) q c h = (abs-le (frac p n d) (frac q 0 c) h, small (q * d) (((p - n) + (n - p)) * c) c d)
   where
     small : (x y c d : ℕ) → 0 * c + 0 * d ≤ x + y
@@ -88,8 +87,8 @@ take-off X h G (frac p n d) P l = le-of-mul-le-mul-right {k = G} (go X h G p n d
 put-on : (Y h G : ℕ) → leF (addF (frac Y 0 G) (frac h 0 G)) (frac (Y + h) 0 G)
 put-on Y h G = simp ring (omega arith)
 
-module _ (s s' t b : Frac) (X Y h G : ℕ) (S : Pos s) (S' : Pos s') (T₁ : Pos t) (B : Pos b) (P : 0 < G) (E : ℕ) (F : 0 < E)
-    (near : Bound (subF s' s) b) (tail : leF t (frac 1 0 E)) (room : leF (addF b (frac 1 0 E)) (frac h 0 G)) where
+module _ (s s' t b : Frac) (X Y h G : ℕ) (S : Pos s) (S' : Pos s') (T₁ : Pos t) (B : Pos b) (P : 0 < G) (θ : Frac) (F : Pos θ)
+    (near : Bound (subF s' s) b) (tail : leF t θ) (room : leF (addF b θ) (frac h 0 G)) where
   gap-pos : Pos (subF s' s)
   gap-pos = addF-pos s' (negF s) S' (negF-pos s S)
 
@@ -100,13 +99,13 @@ module _ (s s' t b : Frac) (X Y h G : ℕ) (S : Pos s) (S' : Pos s') (T₁ : Pos
       take-off X h G y P
       (le-transF (frac X 0 G) s (addF y (frac h 0 G)) S l
       (le-transF s (addF y (addF (negF (subF s' s)) t)) (addF y (frac h 0 G)) (addF-pos y (addF (negF (subF s' s)) t) Y₁ (addF-pos (negF (subF s' s)) t (negF-pos (subF s' s) gap-pos) T₁)) (parts-low s s' t)
-      (add-monoF y y (addF (negF (subF s' s)) t) (frac h 0 G) (le-reflF y) (le-transF (addF (negF (subF s' s)) t) (addF b (frac 1 0 E)) (frac h 0 G) (addF-pos b (frac 1 0 E) B F) (add-monoF (negF (subF s' s)) b t (frac 1 0 E) (near .1) tail) room))))
+      (add-monoF y y (addF (negF (subF s' s)) t) (frac h 0 G) (le-reflF y) (le-transF (addF (negF (subF s' s)) t) (addF b θ) (frac h 0 G) (addF-pos b θ B F) (add-monoF (negF (subF s' s)) b t θ (near .1) tail) room))))
 
   pub sum-high : leF s (frac Y 0 G) → leF (addF s' t) (frac (Y + h) 0 G)
   sum-high l =
       le-transF (addF s' t) (addF s (addF (subF s' s) t)) (frac (Y + h) 0 G) (addF-pos s (addF (subF s' s) t) S (addF-pos (subF s' s) t gap-pos T₁)) (parts-high s s' t)
       (le-transF (addF s (addF (subF s' s) t)) (addF (frac Y 0 G) (frac h 0 G)) (frac (Y + h) 0 G) (mul-pos P P)
-      (add-monoF s (frac Y 0 G) (addF (subF s' s) t) (frac h 0 G) l (le-transF (addF (subF s' s) t) (addF b (frac 1 0 E)) (frac h 0 G) (addF-pos b (frac 1 0 E) B F) (add-monoF (subF s' s) b t (frac 1 0 E) (near .0) tail) room))
+      (add-monoF s (frac Y 0 G) (addF (subF s' s) t) (frac h 0 G) l (le-transF (addF (subF s' s) t) (addF b θ) (frac h 0 G) (addF-pos b θ B F) (add-monoF (subF s' s) b t θ (near .0) tail) room))
       (put-on Y h G))
 
 -- ---- the power of 2: Y / C is 2 ^ k / G

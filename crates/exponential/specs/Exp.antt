@@ -1,5 +1,5 @@
 -- The exponential: its domain and its value.
-use mathlib.Core.Bool.{Bool, true, false, _&&_, cond}
+use mathlib.Core.Bool.{Bool, _&&_, cond}
 use Prim.Native.Nat.{ℕ, _+_, _-_, _*_, _/_, _%_, _^_}
 use lib.Dec.{leb}
 use lib.Ieee.{Float, binary64, ofBits, toBits, le, neg}

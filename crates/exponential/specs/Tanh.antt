@@ -1,6 +1,6 @@
 -- tanh x = (exp 2x - 1) / (exp 2x + 1), from the exponential in base 2 of 2x.
-use mathlib.Core.Bool.{Bool, true, false, _&&_, cond}
-use Prim.Native.Nat.{ℕ, _+_, _-_, _*_, _/_, _%_, _^_}
+use mathlib.Core.Bool.{Bool, _&&_, cond}
+use Prim.Native.Nat.{ℕ, _+_, _-_, _*_, _/_, _^_}
 use lib.Dec.{leb, ltb}
 use lib.Ieee.{Float, binary64, ofBits, toBits, le, neg}
 use Rattle.number.specs.Ans.{Ans, held, refused}

@@ -3,18 +3,16 @@
 // exp_m1 takes 1 away from it, from 1/4 on; nearer to 0 six and six terms of a series times the argument, so that the answer keeps all its digits. tanh is a quotient of the same numbers.
 ghost use mathlib.Core.Path.{_≡_};
 ghost use Prim.Native.Nat.{_+_, _*_, _/_, _%_, _^_, _≤_, _<_};
-ghost use lib.ListN.{getD};
 ghost use lib.Dec.{T};
+ghost use lib.Ieee.{binary64, toBits};
+ghost use lib.ListN.{getD};
 ghost use Rattle.number.specs.Answer.{answer};
 ghost use Rattle.fixed_point.specs.Horner.{horner};
 ghost use Rattle.exponential.specs.Powers.{powers, terms};
 ghost use Rattle.exponential.specs.Raise.{significandOf, raiseOf};
-ghost use mathlib.Core.Bool.{true, false};
-ghost use lib.Dec.{leb};
-ghost use lib.Ieee.{binary64, toBits};
 ghost use Rattle.exponential.specs.Exp.{expInside, binaryOf, exponentAt, exponentOf, expOf};
+ghost use Rattle.exponential.specs.ExpM1.{oddTerms, evenTerms, fieldOf, ratioOf, smallOf, belowOf, aboveOf, awayOf, expM1Of};
 ghost use Rattle.exponential.specs.Tanh.{tanhInside, eighthOf, minusOf, plusOf, tanhValueOf, tanhOf};
-ghost use Rattle.exponential.specs.ExpM1.{oddTerms, evenTerms, fieldOf, digitsOf, ratioOf, smallOf, belowOf, aboveOf, awayOf, expM1Of};
 use fixed_point::high_product;
 use fixed_point::pack;
 use fixed_point::quot;

@@ -1,9 +1,7 @@
+-- `exponential::away` meets its contract. Assumes nothing.
 use borrow.Author.Needs.{needs}
-use mathlib.Core.Path.{_≡_, refl, ap, subst, sym, _∙_}
-use Prim.Native.Nat.{ℕ, _+_, _-_, _*_, _/_, _%_, _^_, _≤_, _<_}
-use native.Mathlib.Nat.{le-of-lt}
-use native.Mathlib.Omega.{arith}
-use lib.Dec.{T, lit≤, lit<}
+use mathlib.Core.Path.{subst, sym}
+use lib.Dec.{T}
 use Rattle.exponential.proofs.Argument.{no-nan}
 use Rattle.exponential.proofs.LargePart.{far-below, far-above, away-small, away-below, away-above}
 use Rattle.exponential.proofs.away.Statement.{statement}

@@ -1,3 +1,4 @@
+-- `exponential::exp` meets its contract. Assumes nothing.
 use borrow.Author.Needs.{needs}
 use Rattle.exponential.proofs.Argument.{value-is, outside-is, accepted}
 use Rattle.exponential.proofs.exp.Statement.{statement}

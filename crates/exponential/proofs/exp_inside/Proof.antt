@@ -1,3 +1,4 @@
+-- `exponential::exp_inside` meets its contract. Assumes nothing.
 use borrow.Author.Tests.{not-true, not-false}
 use Rattle.exponential.proofs.Argument.{below, above}
 use Rattle.exponential.proofs.exp_inside.Statement.{statement}

@@ -1,10 +1,6 @@
+-- `exponential::exp_m1` meets its contract. Assumes nothing.
 use borrow.Author.Needs.{needs}
 use borrow.Author.Tests.{not-true, not-false}
-use mathlib.Core.Path.{_≡_, refl, ap, subst, sym, _∙_}
-use Prim.Native.Nat.{ℕ, _+_, _-_, _*_, _/_, _%_, _^_, _≤_, _<_}
-use native.Mathlib.Nat.{le-of-lt}
-use native.Mathlib.Omega.{arith}
-use lib.Dec.{T, lit≤, lit<}
 use Rattle.exponential.proofs.Argument.{no-nan, accepted}
 use Rattle.exponential.proofs.LargePart.{m1-outside, m1-tiny, m1-away}
 use Rattle.exponential.proofs.exp_m1.Statement.{statement}

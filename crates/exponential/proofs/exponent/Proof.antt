@@ -1,4 +1,5 @@
-use mathlib.Core.Path.{_≡_, refl, subst, sym}
+-- `exponential::exponent` meets its contract. Assumes nothing.
+use mathlib.Core.Path.{refl, subst, sym}
 use lib.Dec.{T}
 use lib.Ieee.{binary64, toBits}
 use Rattle.exponential.specs.Exp.{exponentOf}

@@ -1,3 +1,4 @@
+-- `exponential::plus` meets its contract. Assumes nothing.
 use borrow.Author.Needs.{needs}
 use Rattle.exponential.proofs.TanhPart.{plus-sub, near-range, far-range, near-is, far-is}
 use Rattle.exponential.proofs.plus.Statement.{statement}

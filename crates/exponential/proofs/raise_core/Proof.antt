@@ -1,3 +1,4 @@
+-- `exponential::raise_core` meets its contract. Assumes nothing.
 use borrow.Author.Needs.{needs}
 use mathlib.Core.Path.{ap}
 use Prim.Native.Nat.{ℕ, _+_, _-_, _*_, _/_, _^_}

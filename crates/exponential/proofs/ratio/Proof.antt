@@ -1,6 +1,7 @@
+-- `exponential::ratio` meets its contract. Assumes nothing.
 use borrow.Author.Needs.{needs}
 use mathlib.Core.Path.{_≡_, ap, subst, sym, _∙_}
-use Prim.Native.Nat.{ℕ, _+_, _*_, _/_, _^_, _≤_, _<_}
+use Prim.Native.Nat.{ℕ, _*_, _/_, _^_, _≤_}
 use mir.Facts.{fits-bits}
 use Rattle.fixed_point.specs.Horner.{horner}
 use Rattle.exponential.specs.ExpM1.{evenTerms}

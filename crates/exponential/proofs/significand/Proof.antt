@@ -1,11 +1,11 @@
+-- `exponential::significand` meets its contract. Assumes nothing.
 use borrow.Author.Needs.{needs}
-use mathlib.Core.Path.{_≡_, ap, subst, sym, _∙_}
-use Prim.Native.Nat.{ℕ, _+_, _*_, _/_, _%_, _^_, _≤_, _<_}
+use mathlib.Core.Path.{ap, _∙_}
+use Prim.Native.Nat.{ℕ, _+_, _*_, _/_, _%_, _^_}
 use native.Mathlib.Nat.{le-trans}
 use mir.Facts.{fits-bits}
-use lib.ListN.{getD}
 use Rattle.fixed_point.specs.Horner.{horner}
-use Rattle.exponential.specs.Powers.{powers, terms}
+use Rattle.exponential.specs.Powers.{terms}
 use Rattle.exponential.specs.Raise.{significandOf}
 use Rattle.exponential.proofs.Digits.{place, room-of}
 use Rattle.exponential.proofs.significand.Statement.{statement}

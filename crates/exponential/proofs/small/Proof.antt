@@ -1,9 +1,9 @@
+-- `exponential::small` meets its contract. Assumes nothing.
 use borrow.Author.Needs.{needs}
-use mathlib.Core.Path.{_≡_, ap, subst, sym, _∙_}
-use Prim.Native.Nat.{ℕ, _+_, _-_, _*_, _/_, _%_, _^_, _≤_, _<_}
+use mathlib.Core.Path.{subst, sym}
+use Prim.Native.Nat.{ℕ, _-_, _/_, _^_, _≤_, _<_}
 use native.Mathlib.Omega.{arith}
-use Rattle.fixed_point.specs.Pack.{packed}
-use Rattle.exponential.specs.ExpM1.{fieldOf, digitsOf, smallOf, ratioOf}
+use Rattle.exponential.specs.ExpM1.{fieldOf, digitsOf}
 use Rattle.exponential.proofs.SmallPart.{moved-le, product-pos, digits-lo, digits-hi, small-is}
 use Rattle.exponential.proofs.small.Statement.{statement}
 use Rattle.exponential.proofs.small.Tie as tie

@@ -1,6 +1,7 @@
+-- `exponential::tanh` meets its contract. Assumes nothing.
 use borrow.Author.Needs.{needs}
 use borrow.Author.Tests.{not-true, not-false}
-use mathlib.Core.Path.{_≡_, subst, sym}
+use mathlib.Core.Path.{subst, sym}
 use lib.Dec.{T}
 use lib.Ieee.{binary64, toBits}
 use Rattle.exponential.proofs.TanhPart.{tanh-accepted, tanh-no-nan, tanh-bits-le, twice-low, twice-field-le, twice-binary-le, tanh-outside, tanh-tiny, tanh-away}

@@ -1,3 +1,4 @@
+-- `exponential::tanh_inside` meets its contract. Assumes nothing.
 use borrow.Author.Tests.{not-true, not-false}
 use Rattle.exponential.proofs.TanhPart.{tanh-below, tanh-above}
 use Rattle.exponential.proofs.tanh_inside.Statement.{statement}

@@ -1,3 +1,4 @@
+-- `exponential::tanh_value` meets its contract. Assumes nothing.
 use borrow.Author.Needs.{needs}
 use Rattle.exponential.proofs.TanhPart.{minus-exponent, plus-exponent, minus-value, plus-value}
 use Rattle.exponential.proofs.tanh_value.Statement.{statement}
