@@ -3,10 +3,11 @@
 answer's bits, or all ones for a refusal. The seeds are fixed, so that it writes the same file each time. See docs/VECTORS.md."""
 import struct
 
+import exponential
 import logarithm
 import root
 
 with open("crates/elementary_main/data/vectors.bin", "wb") as out:
-    for source in (root, logarithm):
+    for source in (root, logarithm, exponential):
         for record in source.records():
             out.write(struct.pack("<4Q", *record))

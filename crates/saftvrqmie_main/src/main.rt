@@ -60,7 +60,7 @@ fn worked(c: Case) -> saftvrqmie_parameters::ParameterSet {
 fn number(c: Case) -> u8 {
     let r = worked(c);
     let answer = r.answer;
-    saftvrqmie_parameters::number(answer)
+    mie_parameters::number(answer)
 }
 
 fn show(label: &[u8], c: Case) {

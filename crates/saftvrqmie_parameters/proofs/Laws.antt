@@ -1,19 +1,18 @@
 -- Laws over plain values, cited at the returns. Assumes nothing.
-use Prim.Native.Nat.{ℕ, _+_, _*_, _≤_, _<_, max}
+use Prim.Native.Nat.{ℕ, _*_, _≤_, _<_, max}
 use native.Mathlib.Nat.{mul-le-mul}
 use native.Mathlib.Omega.{arith}
-use mathlib.Core.Path.{_≡_, refl, ap, _∙_}
+use mathlib.Core.Path.{_≡_}
 use mathlib.Core.Bool.{Bool, true, false, _&&_}
-use lib.Dec.{eqb, leb}
+use lib.Dec.{eqb}
 use lib.ListN.{length}
 use lib.Ieee.{Float}
 use mathlib.Core.List.{List}
-use borrow.Author.Tests.{lt-leb, le-leb, eq-eqb, ne-eqb, eqb-true, leb-true}
+use borrow.Author.Tests.{lt-leb, le-leb, eq-eqb, ne-eqb, eqb-true}
 use Rattle.number.specs.Ans.{Ans, held, refused, _>>=_, demand}
 use Rattle.number.specs.Lists.{at}
-use Rattle.number.specs.Side.{side, sheet, cell}
-use Rattle.number.specs.Walk.{walk}
-use Rattle.number.proofs.Walk.{via, walk-next, walk-stop}
+use Rattle.number.specs.Side.{side, cell}
+use Rattle.number.proofs.Walk.{via}
 use Rattle.limits.specs.declared.Component.{Component}
 use Rattle.limits.specs.Limits.{square, countWithin, allOne}
 use Rattle.saftvrqmie_parameters.specs.declared.OrderRecord.{OrderRecord}
@@ -22,18 +21,10 @@ use Rattle.saftvrqmie_parameters.specs.declared.ParameterSet.{ParameterS
 use Rattle.saftvrqmie_parameters.specs.declared.PairParameters.{PairParameters}
 use Rattle.saftvrqmie_parameters.specs.declared.PairAnswer.{PairAnswer}
 use Rattle.saftvrqmie_parameters.specs.declared.PairAnswer.the-variants.{At, Outside}
-use Rattle.saftvrqmie_parameters.specs.declared.ParameterAnswer.{ParameterAnswer}
-use Rattle.saftvrqmie_parameters.specs.declared.ParameterAnswer.the-variants.{Held, Refused}
-use Rattle.saftvrqmie_parameters.specs.Parameters.{Lists, outcome, pairOrders, pairAnswer, pairParameters, storePair, sheetsTurn, sheetsOf, rightLengths, withinLimits, componentOf, orderWalk, ordersOf, inPlaces, saftVRQMiePars, given}
-
-and-left : (a b : Bool) → (a && b) ≡ true → a ≡ true
-and-left true b p = refl
-and-left false b p = p
-
-and-right : (a b : Bool) → (a && b) ≡ true → b ≡ true
-and-right true b p = p
-and-right false true p = refl
-and-right false false p = p
+use Rattle.mie_parameters.specs.declared.ParameterAnswer.the-variants.{Held}
+use Rattle.mie_parameters.specs.Places.{inPlaces}
+use Rattle.mie_parameters.proofs.Laws.{and-left, and-right, count-low, count-high}
+use Rattle.saftvrqmie_parameters.specs.Parameters.{Lists, pairOrders, pairAnswer, pairParameters, storePair, sheetsTurn, sheetsOf, rightLengths, withinLimits, componentOf, orderWalk, ordersOf, saftVRQMiePars, given}
 
 module _ (a b : ℕ) where
   pub above : 2 < max a b → refused 4 ≡ pairOrders a b
@@ -50,14 +41,6 @@ module _ (a b : ℕ) where
 
   pub product-small : a ≤ 2 → b ≤ 2 → a * b ≤ 4
   product-small p q = mul-le-mul p q
-
--- a turn of a walk whose answer is taken apart by `let .. else`
-module _ {S : Type 0} (f : ℕ → S → Ans S) (s : S) where
-  pub goes-on : (j : ℕ) (x y : S) (a : ParameterAnswer) → held x ≡ walk j f s → outcome a y ≡ f j x → a ≡ Held → held y ≡ walk (j + 1) f s
-  goes-on j x y a p q e = walk-next f s j x y p (via (λ b. outcome b y) q e)
-
-  pub stops : (n j : ℕ) (x y z : S) (a : ParameterAnswer) (m : ℕ) → j < n → held x ≡ walk j f s → outcome a y ≡ f j x → a ≡ Refused m → outcome a z ≡ walk n f s
-  stops n j x y z a m h p q e = ap (λ b. outcome b z) e ∙ walk-stop f s n j m x h p (via (λ b. outcome b y) q e)
 
 -- a turn of the sheets, over plain values
 module _ (n : ℕ) (c : ℕ → Component) (mass : ℕ → Float) (k l : ℕ → ℕ → Float) (i j : ℕ) (x : List Float) (a b : Component) (r : PairAnswer) where
@@ -82,17 +65,6 @@ pub record Right (l : Lists) : Type 0 where
   pub fh : length (l .fh) ≡ l .count
   pub k-ij : length (l .k-ij) ≡ l .count * l .count
   pub l-ij : length (l .l-ij) ≡ l .count * l .count
-
-pub count-low : (n : ℕ) → countWithin n ≡ true → 1 ≤ n
-unfolding countWithin
-count-low n p = leb-true _ _ (and-left _ _ p)
-
-pub count-high : (n : ℕ) → countWithin n ≡ true → n ≤ side
-unfolding countWithin
-count-high n p = leb-true n side (and-right (leb 1 n) (leb n side) p)
-
-pub count-square : (n : ℕ) → countWithin n ≡ true → n * n ≤ sheet
-count-square n p = mul-le-mul (count-high n p) (count-high n p)
 
 pub lengths : (l : Lists) → rightLengths l ≡ true → Right l
 unfolding rightLengths
@@ -180,10 +152,3 @@ module _ (l : Lists) where
       → record { answer = Held; set = record { count = l .count; m = y; sheets = x; orders = o } } ≡ given (saftVRQMiePars l)
   unfolding saftVRQMiePars demand _>>=_ given
   holds x y o p q r s t d e = rw (p, q, r, s, t, d, e)
-
--- what a call ensures of an answer and of the state beside it, at the case that it gave
-pub held-at : {S : Type 0} (a : ParameterAnswer) (s : S) (w : Ans S) → outcome a s ≡ w → a ≡ Held → w ≡ held s
-held-at a s w p e = via (λ b. outcome b s) p e
-
-pub refused-at : {S : Type 0} (a : ParameterAnswer) (s : S) (w : Ans S) (k : ℕ) → outcome a s ≡ w → a ≡ Refused k → w ≡ refused k
-refused-at a s w k p e = via (λ b. outcome b s) p e

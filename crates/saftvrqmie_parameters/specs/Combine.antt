@@ -1,8 +1,6 @@
--- The combining rules of `SaftVRQMiePars::new` at a pair (Aasen et al. 2019), over any arithmetic, in the Rust's order of operations.
+-- The combining rules of `SaftVRQMiePars::new` alone at a pair (Aasen et al. 2019), over any arithmetic, in the Rust's order of operations.
 use mathlib.Core.Bool.{false}
-use Rattle.number.specs.Ans.{Ans, held, _>>=_}
 use Rattle.number.specs.Arith.{Arith, decimal}
-use Rattle.number.specs.Functions.{Functions}
 
 module _ (A : Arith) where
   open Arith A using (Num, add as _⊕_, sub as _⊖_, mul as _⊗_, div as _⊘_, pow, lit)
@@ -14,9 +12,6 @@ module _ (A : Arith) where
   abbrev one : Num
   one = lit (decimal false 1 0)
 
-  abbrev three : Num
-  three = lit (decimal false 3 0)
-
   -- (1.0 - l_ij) * 0.5 * (sigma[i] + sigma[j])
   unfoldable pub sigmaIj : Num → Num → Num → Num
   sigmaIj si sj l = (one ⊖ l) ⊗ lit (decimal false 5 1) ⊗ (si ⊕ sj)
@@ -24,19 +19,3 @@ module _ (A : Arith) where
   -- 2·mi·mj/(mi + mj), worked from the left in kilograms
   unfoldable pub massIj : Num → Num → Num
   massIj mi mj = lit (decimal false 2 0) ⊗ mi ⊗ mj ⊘ (mi ⊕ mj)
-
-  module _ (F : Functions Num) where
-    -- (1.0 - k_ij) * e_k_ij, where e_k_ij is (sigma[i]³ * sigma[j]³).sqrt() / sigma_ij³ * (epsilon_k[i] * epsilon_k[j]).sqrt()
-    unfoldable pub epsilonKIj : Num → Num → Num → Num → Num → Num → Ans Num
-    epsilonKIj si sj ei ej sigma k =
-        F .sqrt (pow si 3 ⊗ pow sj 3) >>= λ cubes.
-        F .sqrt (ei ⊗ ej) >>= λ energies.
-        held ((one ⊖ k) ⊗ (cubes ⊘ pow sigma 3 ⊗ energies))
-
-    -- ((l[i] - 3.0) * (l[j] - 3.0)).sqrt() + 3.0, for both exponents
-    unfoldable pub lambdaIj : Num → Num → Ans Num
-    lambdaIj li lj = F .sqrt ((li ⊖ three) ⊗ (lj ⊖ three)) >>= λ r. held (r ⊕ three)
-
-    -- lambda_r / (lambda_r - lambda_a) * (lambda_r / lambda_a).powf(lambda_a / (lambda_r - lambda_a))
-    unfoldable pub cIj : Num → Num → Ans Num
-    cIj lr la = F .powf (lr ⊘ la) (la ⊘ (lr ⊖ la)) >>= λ p. held (lr ⊘ (lr ⊖ la) ⊗ p)

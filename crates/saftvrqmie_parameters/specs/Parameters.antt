@@ -12,14 +12,15 @@ use Rattle.number.specs.Lists.{at}
 use Rattle.number.specs.Side.{side, sheet, cell}
 use Rattle.number.specs.Walk.{turns, walk}
 use Rattle.elementary.specs.Port.{port}
+use Rattle.mie_parameters.specs.Combine.{epsilonKIj, lambdaIj, cIj}
 use Rattle.limits.specs.declared.Component.{Component}
 use Rattle.limits.specs.Limits.{square, components, countWithin, componentsWithin, massesWithin, pairsWithin, allOne}
-use Rattle.saftvrqmie_parameters.specs.Combine.{sigmaIj, massIj, epsilonKIj, lambdaIj, cIj}
+use Rattle.saftvrqmie_parameters.specs.Combine.{sigmaIj, massIj}
 use Rattle.saftvrqmie_parameters.specs.declared.FeynmanHibbsOrder.{FeynmanHibbsOrder}
 use Rattle.saftvrqmie_parameters.specs.declared.FeynmanHibbsOrder.the-variants.{FH0, FH1, FH2}
 use Rattle.saftvrqmie_parameters.specs.declared.OrderRecord.{OrderRecord}
-use Rattle.saftvrqmie_parameters.specs.declared.ParameterAnswer.{ParameterAnswer}
-use Rattle.saftvrqmie_parameters.specs.declared.ParameterAnswer.the-variants.{Held, Refused}
+use Rattle.mie_parameters.specs.declared.ParameterAnswer.the-variants.{Held, Refused}
+use Rattle.mie_parameters.specs.Places.{inPlaces}
 use Rattle.saftvrqmie_parameters.specs.declared.PairParameters.{PairParameters}
 use Rattle.saftvrqmie_parameters.specs.declared.PairAnswer.{PairAnswer}
 use Rattle.saftvrqmie_parameters.specs.declared.PairAnswer.the-variants.{At, Outside}
@@ -40,15 +41,6 @@ pub record Lists : Type 0 where
   pub l-ij : List Float
 
 -- ---- document 01's number or values of each case of the answers
-
--- an answer with the state that stands beside it
-abbrev pub outcome : {S : Type 0} → ParameterAnswer → S → Ans S
-outcome Held s = held s
-outcome (Refused n) s = refused n
-
-abbrev pub numberOf : ParameterAnswer → ℕ
-numberOf Held = 0
-numberOf (Refused n) = n
 
 abbrev pub pairAnswer : PairAnswer → Ans PairParameters
 pairAnswer (At p) = held p
@@ -134,10 +126,6 @@ ordersRow n fh i s = turns n (ordersTurn fh i) s
 
 unfoldable pub ordersOf : ℕ → List ℕ → List OrderRecord
 ordersOf n fh = turns n (ordersRow n fh) (replicate sheet unused)
-
--- a component list in its places, +0 where unused
-unfoldable pub inPlaces : ℕ → List Float → List Float
-inPlaces n l = turns n (λ i s. set s i (at l i)) (replicate side zero64)
 
 -- ---- the operation: the first that applies is given
 unfoldable pub saftVRQMiePars : Lists → Ans SaftVRQMiePars

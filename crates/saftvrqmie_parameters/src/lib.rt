@@ -5,17 +5,16 @@ ghost use Prim.Native.Nat.{_*_, _<_, _≤_, max};
 ghost use lib.ListN.{length};
 ghost use lib.Ieee.{eq};
 ghost use Rattle.number.specs.Ans.{refused};
-ghost use Rattle.number.specs.Answer.{answer};
 ghost use Rattle.number.specs.Arith.{floats, one64};
-ghost use Rattle.number.specs.Functions.{calls};
 ghost use Rattle.number.specs.Lists.{at};
 ghost use Rattle.number.specs.Side.{side, sheet};
 ghost use Rattle.number.specs.Walk.{walk};
-ghost use Rattle.elementary.specs.Port.{port};
 ghost use Rattle.limits.specs.Limits.{square, components};
-ghost use Rattle.saftvrqmie_parameters.specs.Combine.{sigmaIj, massIj, epsilonKIj, lambdaIj, cIj};
-ghost use Rattle.saftvrqmie_parameters.specs.Parameters.{Lists, outcome, numberOf, pairAnswer, rightLengths, withinLimits, recordM, pairOrders, orderRow, orderWalk, pairParameters, storePair, sheetsRow, orderOf, ordersRow, ordersOf, inPlaces, saftVRQMiePars, given};
+ghost use Rattle.saftvrqmie_parameters.specs.Combine.{sigmaIj, massIj};
+ghost use Rattle.saftvrqmie_parameters.specs.Parameters.{Lists, pairAnswer, rightLengths, withinLimits, recordM, pairOrders, orderRow, orderWalk, pairParameters, storePair, sheetsRow, orderOf, ordersRow, ordersOf, saftVRQMiePars, given};
+ghost use Rattle.mie_parameters.specs.Answer.{outcome};
 use limits::Component;
+use mie_parameters::ParameterAnswer;
 use number::FloatAnswer;
 use number::SHEET;
 use number::SIDE;
@@ -28,12 +27,6 @@ pub enum FeynmanHibbsOrder {
 
 pub struct OrderRecord {
     pub order: FeynmanHibbsOrder,
-}
-
-// Held, or the refusal's number.
-pub enum ParameterAnswer {
-    Held,
-    Refused(u8),
 }
 
 pub struct SaftVRQMiePars {
@@ -60,15 +53,6 @@ pub struct PairParameters {
 pub enum PairAnswer {
     At(PairParameters),
     Outside,
-}
-
-pub fn number(a: ParameterAnswer) -> u8
-    ensures { λ r. ⌜ r ≡ numberOf a ⌝ }
-{
-    match a {
-        ParameterAnswer::Held => 0,
-        ParameterAnswer::Refused(n) => n,
-    }
 }
 
 fn refused_with(number: u8) -> ParameterSet
@@ -144,42 +128,11 @@ fn mass_ij(mi: f64, mj: f64) -> f64
     2.0 * mi * mj / (mi + mj)
 }
 
-fn epsilon_k_ij(si: f64, sj: f64, ei: f64, ej: f64, sigma: f64, k: f64) -> FloatAnswer
-    ensures { λ r. ⌜ answer r ≡ epsilonKIj floats (calls floats port) si sj ei ej sigma k ⌝ }
-{
-    let FloatAnswer::Value(cubes) = elementary::sqrt(number::pow_up(si, 3) * number::pow_up(sj, 3))
-    else {
-        return FloatAnswer::Outside;
-    };
-    let FloatAnswer::Value(energies) = elementary::sqrt(ei * ej) else {
-        return FloatAnswer::Outside;
-    };
-    FloatAnswer::Value((1.0 - k) * (cubes / number::pow_up(sigma, 3) * energies))
-}
-
-fn lambda_ij(li: f64, lj: f64) -> FloatAnswer
-    ensures { λ r. ⌜ answer r ≡ lambdaIj floats (calls floats port) li lj ⌝ }
-{
-    let FloatAnswer::Value(r) = elementary::sqrt((li - 3.0) * (lj - 3.0)) else {
-        return FloatAnswer::Outside;
-    };
-    FloatAnswer::Value(r + 3.0)
-}
-
-fn c_ij(lr: f64, la: f64) -> FloatAnswer
-    ensures { λ r. ⌜ answer r ≡ cIj floats (calls floats port) lr la ⌝ }
-{
-    let FloatAnswer::Value(p) = elementary::powf(lr / la, la / (lr - la)) else {
-        return FloatAnswer::Outside;
-    };
-    FloatAnswer::Value(lr / (lr - la) * p)
-}
-
 fn pair_parameters(a: Component, b: Component, ma: f64, mb: f64, k: f64, l: f64) -> PairAnswer
     ensures { λ r. ⌜ pairAnswer r ≡ pairParameters a b ma mb k l ⌝ }
 {
     let sigma = sigma_ij(a.sigma, b.sigma, l);
-    let FloatAnswer::Value(epsilon_k) = epsilon_k_ij(
+    let FloatAnswer::Value(epsilon_k) = mie_parameters::epsilon_k_ij(
         a.sigma,
         b.sigma,
         a.epsilon_k,
@@ -189,13 +142,13 @@ fn pair_parameters(a: Component, b: Component, ma: f64, mb: f64, k: f64, l: f64)
     ) else {
         return PairAnswer::Outside;
     };
-    let FloatAnswer::Value(lr) = lambda_ij(a.lr, b.lr) else {
+    let FloatAnswer::Value(lr) = mie_parameters::lambda_ij(a.lr, b.lr) else {
         return PairAnswer::Outside;
     };
-    let FloatAnswer::Value(la) = lambda_ij(a.la, b.la) else {
+    let FloatAnswer::Value(la) = mie_parameters::lambda_ij(a.la, b.la) else {
         return PairAnswer::Outside;
     };
-    let FloatAnswer::Value(c) = c_ij(lr, la) else {
+    let FloatAnswer::Value(c) = mie_parameters::c_ij(lr, la) else {
         return PairAnswer::Outside;
     };
     let mass = mass_ij(ma, mb);
@@ -322,17 +275,6 @@ fn orders_of(n: usize, fh: &[u8]) -> [OrderRecord; 64]
     orders
 }
 
-fn in_places(n: usize, l: &[f64]) -> [f64; 8]
-    requires { ⌜ (n ≤ side) × (length (now l) ≡ n) ⌝ }
-    ensures { λ r. ⌜ r ≡ inPlaces n (now (l .entry)) ⌝ }
-{
-    let mut places = [0.0; 8];
-    for i in 0usize..n {
-        places[i] = l[i];
-    }
-    places
-}
-
 fn right_lengths(
     count: usize,
     m: &[f64],
@@ -419,7 +361,7 @@ pub fn parameters(
     }
     let walked = order_walk(count, fh);
     let ParameterAnswer::Held = walked else {
-        return refused_with(number(walked));
+        return refused_with(mie_parameters::number(walked));
     };
     let mut sheets = [0.0; 384];
     let filled = fill_sheets(
@@ -434,9 +376,9 @@ pub fn parameters(
         &mut sheets,
     );
     let ParameterAnswer::Held = filled else {
-        return refused_with(number(filled));
+        return refused_with(mie_parameters::number(filled));
     };
-    let places = in_places(count, m);
+    let places = mie_parameters::in_places(count, m);
     let orders = orders_of(count, fh);
     let set = SaftVRQMiePars {
         count,

@@ -1,6 +1,8 @@
 -- `saftvrqmie_parameters::parameters` meets its contract. Assumes nothing.
-use Rattle.saftvrqmie_parameters.specs.Parameters.{numberOf, sheetsOf}
-use Rattle.saftvrqmie_parameters.proofs.Laws.{give, lengths, refuses-1, refuses-2, refuses-3, refuses-4-5, refuses-6, holds, held-at, refused-at}
+use Rattle.mie_parameters.specs.Answer.{numberOf}
+use Rattle.saftvrqmie_parameters.specs.Parameters.{sheetsOf}
+use Rattle.saftvrqmie_parameters.proofs.Laws.{give, lengths, refuses-1, refuses-2, refuses-3, refuses-4-5, refuses-6, holds}
+use Rattle.mie_parameters.proofs.Laws.{held-at, refused-at}
 use mathlib.Core.Path.{refl, ap, _∙_}
 use Rattle.number.proofs.Walk.{told}
 use borrow.Author.Tests.{not-true, not-false}

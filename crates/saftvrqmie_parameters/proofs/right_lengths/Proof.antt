@@ -1,6 +1,6 @@
 -- `saftvrqmie_parameters::right_lengths` meets its contract. Assumes nothing.
 use Rattle.saftvrqmie_parameters.specs.Parameters.{rightLengths}
-use Rattle.saftvrqmie_parameters.proofs.Laws.{count-square}
+use Rattle.mie_parameters.proofs.Laws.{count-square}
 use borrow.Author.Tests.{not-true, not-false}
 use native.Mathlib.Omega.{arith}
 use Rattle.number.proofs.Walk.{told}

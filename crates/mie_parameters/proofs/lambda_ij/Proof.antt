@@ -1,5 +1,5 @@
--- `saftvrqmie_parameters::lambda_ij` meets its contract. Assumes nothing.
-use Rattle.saftvrqmie_parameters.specs.Combine.{lambdaIj}
+-- `mie_parameters::lambda_ij` meets its contract. Assumes nothing.
+use Rattle.mie_parameters.specs.Combine.{lambdaIj}
 use lib.Ieee.{ofBits}
 use Rattle.number.specs.Arith.{decimal}
 use Rattle.number.specs.Ans.{_>>=_}
@@ -7,8 +7,8 @@ use Rattle.number.specs.Answer.{answer}
 use Rattle.number.specs.Functions.{answered}
 use Rattle.number.proofs.Walk.{via}
 use borrow.Author.Needs.{needs}
-use Rattle.saftvrqmie_parameters.proofs.lambda_ij.Statement.{statement}
-use Rattle.saftvrqmie_parameters.proofs.lambda_ij.Tie as tie
+use Rattle.mie_parameters.proofs.lambda_ij.Statement.{statement}
+use Rattle.mie_parameters.proofs.lambda_ij.Tie as tie
 
 sqrt-requires : tie.Need-sqrt-requires
 sqrt-requires c κs = search needs

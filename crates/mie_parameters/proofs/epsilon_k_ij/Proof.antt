@@ -1,5 +1,5 @@
--- `saftvrqmie_parameters::epsilon_k_ij` meets its contract. Assumes nothing.
-use Rattle.saftvrqmie_parameters.specs.Combine.{epsilonKIj}
+-- `mie_parameters::epsilon_k_ij` meets its contract. Assumes nothing.
+use Rattle.mie_parameters.specs.Combine.{epsilonKIj}
 use lib.Ieee.{ofBits}
 use Rattle.number.specs.Arith.{decimal}
 use Rattle.number.specs.Ans.{_>>=_}
@@ -7,8 +7,8 @@ use Rattle.number.specs.Answer.{answer}
 use Rattle.number.specs.Functions.{answered}
 use Rattle.number.proofs.Walk.{via}
 use borrow.Author.Needs.{needs}
-use Rattle.saftvrqmie_parameters.proofs.epsilon_k_ij.Statement.{statement}
-use Rattle.saftvrqmie_parameters.proofs.epsilon_k_ij.Tie as tie
+use Rattle.mie_parameters.proofs.epsilon_k_ij.Statement.{statement}
+use Rattle.mie_parameters.proofs.epsilon_k_ij.Tie as tie
 
 pow-up-requires : tie.Need-pow-up-requires
 pow-up-requires c κs = search needs

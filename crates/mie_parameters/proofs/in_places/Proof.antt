@@ -1,5 +1,5 @@
--- `saftvrqmie_parameters::in_places` meets its contract. Assumes nothing.
-use Rattle.saftvrqmie_parameters.specs.Parameters.{inPlaces}
+-- `mie_parameters::in_places` meets its contract. Assumes nothing.
+use Rattle.mie_parameters.specs.Places.{inPlaces}
 use Prim.Native.Nat.{_≤_, _-_}
 use mathlib.Core.Path.{_≡_, refl}
 use Rattle.number.proofs.Walk.{turns-none, turns-next, turns-end}
@@ -9,8 +9,8 @@ use Rattle.number.specs.Side.{side}
 use Rattle.number.specs.Lists.{at}
 use Rattle.number.specs.Arith.{zero64}
 use borrow.Author.Needs.{needs}
-use Rattle.saftvrqmie_parameters.proofs.in_places.Statement.{statement}
-use Rattle.saftvrqmie_parameters.proofs.in_places.Tie as tie
+use Rattle.mie_parameters.proofs.in_places.Statement.{statement}
+use Rattle.mie_parameters.proofs.in_places.Tie as tie
 
 abbrev Inv-loop : tie.InvT-loop
 Inv-loop n l places₀ i₀ places i = (i ≤ n) × (places ≡ turns i (λ i s. set s i (at l i)) (replicate side zero64))
