@@ -5,9 +5,10 @@ import struct
 
 import exponential
 import logarithm
+import power
 import root
 
 with open("crates/elementary_main/data/vectors.bin", "wb") as out:
-    for source in (root, logarithm, exponential):
+    for source in (root, logarithm, exponential, power):
         for record in source.records():
             out.write(struct.pack("<4Q", *record))

@@ -1,19 +1,15 @@
 -- What the tables' test says, in numbers: the lists' values, and the eight terms' floors beside them. Assumes nothing.
-use mathlib.Core.Path.{_≡_, refl, sym, ap, _∙_, subst}
-use mathlib.Core.Bool.{Bool, true, false, _&&_}
-use mathlib.Core.List.{List, [], _∷_}
-use Prim.Native.Nat.{ℕ, zero, suc, _+_, _-_, _*_, _/_, _%_, _^_, _≤_, _<_}
-use native.Mathlib.Nat.{le-refl, le-trans, le-of-eq, add-le-add, mul-add, add-mul, mul-assoc, mul-comm, mul-left-comm, add-assoc, add-comm, add-left-comm, mul-one, one-mul, mul-zero, zero-mul, mul-le-mul, mul-le-mul-left, mul-le-mul-right, le-of-mul-le-mul-right, eq-of-mul-eq-mul-left, mul-pos, one-le-pow, pow-zero, pow-suc}
+use mathlib.Core.Path.{_≡_, sym, ap, _∙_}
+use mathlib.Core.List.{[], _∷_}
+use Prim.Native.Nat.{ℕ, _+_, _*_, _^_, _≤_, _<_}
+use native.Mathlib.Nat.{le-trans, le-of-eq, add-mul, mul-assoc, mul-one, mul-zero, zero-mul, mul-le-mul-right, le-of-mul-le-mul-right, pow-zero}
 use native.Mathlib.Omega.{arith}
-use lib.Dec.{T, leb, ltb, eqb, lit<, lit≤}
-use lib.ListN.{length, getD}
-use lib.Ieee.Fits.{and-l, and-r}
 use Rattle.fixed_point.proofs.Polynomial.{hom}
 use Rattle.series.proofs.Constants.{md}
 use Rattle.logarithm.proofs.CoreBounds.{common, tops}
 use Rattle.binary_log.proofs.Terms.{ones}
-use Rattle.fixed_point.proofs.Horner.{ring, ac}
-use Rattle.fixed_point.proofs.Bernstein.{front-start, again, again-is, once, twice, once-acts, twice-acts, under, under-le}
+use Rattle.fixed_point.proofs.Horner.{ac}
+use Rattle.fixed_point.proofs.Bernstein.{front-start, again-is, once, twice, once-acts, twice-acts}
 use Rattle.binary_log.proofs.TableTest.{uL, vL, xL}
 
 -- ---- the lists' values

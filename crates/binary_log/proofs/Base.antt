@@ -1,9 +1,8 @@
 -- The base's domain: what it says of the bits, and the ways of `logOf`. Assumes nothing.
-use mathlib.Core.Path.{_≡_, refl, sym, ap, _∙_, subst}
-use mathlib.Core.Bool.{Bool, true, false, not, _&&_, cond}
+use mathlib.Core.Path.{_≡_, sym, _∙_, subst}
+use mathlib.Core.Bool.{Bool, true, false, not}
 use Prim.Native.Nat.{ℕ, _+_, _-_, _*_, _/_, _%_, _^_, _≤_, _<_}
 use native.Mathlib.Nat.{not-le-of-lt}
-use native.Mathlib.Omega.{arith}
 use lib.Dec.{T, leb, leb→le, le→leb, not-T, lit<, lit≤}
 use lib.Ieee.{Float, binary64, fits, isNan, ofBits, toBits, le}
 use lib.Ieee.Bits.{is-true, is-false}

@@ -1,9 +1,10 @@
 -- The logarithm of a significand is near document 01's sum of 24 terms, at every significand. Assumes nothing.
 use mathlib.Core.Path.{_≡_, refl, sym, ap, _∙_, subst}
-use mathlib.Core.Bool.{Bool, true, false, _&&_}
+use mathlib.Core.Bool.{Bool, true, false}
 use mathlib.Core.List.{List, [], _∷_}
 use Prim.Native.Nat.{ℕ, zero, suc, _+_, _-_, _*_, _/_, _%_, _^_, _≤_, _<_}
-use native.Mathlib.Nat.{div-mul-le-self, not-suc-le-zero, le-refl, le-trans, le-of-eq, le-add-right, add-le-add, mul-add, add-mul, mul-assoc, mul-comm, mul-left-comm, add-assoc, add-comm, add-left-comm, mul-one, one-mul, mul-le-mul-left, mul-le-mul-right, le-of-mul-le-mul-right, eq-of-mul-eq-mul-left, mul-pos, one-le-pow, pow-zero, pow-suc}
+use native.Mathlib.Nat.{div-mul-le-self, not-suc-le-zero, le-refl, le-trans, le-of-eq, le-add-right, add-le-add, mul-add, add-mul, mul-assoc, mul-comm, add-assoc, add-comm, mul-one, one-mul, mul-le-mul-left, mul-le-mul-right, le-of-mul-le-mul-right, eq-of-mul-eq-mul-left, mul-pos, one-le-pow, pow-zero, pow-suc}
+use native.Mathlib.Decide.{decLe}
 use native.Mathlib.Omega.{arith}
 use lib.Dec.{T, leb, ltb, eqb, leb→le, ltb→lt, eqb→eq, lit<, lit≤}
 use lib.ListN.{getD}
@@ -12,13 +13,13 @@ use Rattle.fixed_point.specs.Horner.{horner}
 use Rattle.fixed_point.proofs.Polynomial.{hom}
 use Rattle.fixed_point.proofs.Horner.{ring, ac, half-of}
 use Rattle.fixed_point.proofs.Bernstein.{under, under-le}
-use Rattle.fixed_point.proofs.Table.{every, at}
+use Rattle.fixed_point.proofs.Table.{at}
 use Rattle.series.proofs.Constants.{mn, md}
 use Rattle.logarithm.proofs.CoreBounds.{common, tops}
 use Rattle.binary_log.specs.Tables.{factors, logs, oddTerms, evenTerms}
 use Rattle.binary_log.specs.BinaryLog.{eightTerms, placeOf, gapOf, significandLog}
 use Rattle.binary_log.proofs.Terms.{ones, scale, terms-lo, terms-hi}
-use Rattle.binary_log.proofs.TableTest.{uL, vL, xL, cU, cV, cX, near0, near1, place0, place1, place, unless, all, rule, rules, small, smalls, lowest, units}
+use Rattle.binary_log.proofs.TableTest.{uL, vL, xL, cU, cV, cX, near0, near1, place0, place1, place, unless, all, rule, rules, small, smalls, lowest, units, sided, sides}
 use Rattle.binary_log.proofs.Additive.{U-is, V-is, X-is, hi0, lo0, hi1, lo1}
 
 -- p / q is document 01's sum of z ^ (2 i + 1) / (2 i + 1) over 24 terms, at z = n / d
@@ -99,8 +100,8 @@ module _ (s t np nq dp dq r0 r1 l : ℕ) (st : s + t ≡ 2 ^ 45) (dpos : 0 < dp 
   at0 h =
       let h1 = and-l (under cU cV 0 0 0 (cX * (l + 1)) (uL np nq dp dq) (vL r0 r1 dp dq) (xL dp dq)) (under 0 0 (32 * cX * l) (32 * cU) (32 * cV) cX (uL np nq dp dq) (vL r0 r1 dp dq) (xL dp dq)) h in
       let h2 = and-r (under cU cV 0 0 0 (cX * (l + 1)) (uL np nq dp dq) (vL r0 r1 dp dq) (xL dp dq)) (under 0 0 (32 * cX * l) (32 * cU) (32 * cV) cX (uL np nq dp dq) (vL r0 r1 dp dq) (xL dp dq)) h in (
-        hi0 common scale mn md (2 ^ 61) (N * H) (G * hom (ones 1 8) G W) (D ^ 47) (W ^ 8) (p) (q) (eightTerms G) l Z-pos (sum-is N D p q dpos odds) (terms-lo G h15) (seen cU cV 0 0 0 (cX * (l + 1)) h1),
-        lo0 common scale mn md (2 ^ 61) (N * H) (G * hom (ones 1 8) G W) (D ^ 47) (W ^ 8) (p) (q) (eightTerms G) l Z-pos (sum-is N D p q dpos odds) (terms-hi G h15) (seen 0 0 (32 * cX * l) (32 * cU) (32 * cV) cX h2),
+        hi0 common scale mn md (2 ^ 61) (N * H) (G * hom (ones 1 8) G W) (D ^ 47) (W ^ 8) p q (eightTerms G) l Z-pos (sum-is N D p q dpos odds) (terms-lo G h15) (seen cU cV 0 0 0 (cX * (l + 1)) h1),
+        lo0 common scale mn md (2 ^ 61) (N * H) (G * hom (ones 1 8) G W) (D ^ 47) (W ^ 8) p q (eightTerms G) l Z-pos (sum-is N D p q dpos odds) (terms-hi G h15) (seen 0 0 (32 * cX * l) (32 * cU) (32 * cV) cX h2),
       )
 
   at1 : T (near1 l (uL np nq dp dq) (vL r0 r1 dp dq) (xL dp dq))
@@ -109,8 +110,8 @@ module _ (s t np nq dp dq r0 r1 l : ℕ) (st : s + t ≡ 2 ^ 45) (dpos : 0 < dp 
   at1 h =
       let h1 = and-l (under 0 cV (cX * 2 ^ 61) cU 0 (cX * (l + 1)) (uL np nq dp dq) (vL r0 r1 dp dq) (xL dp dq)) (under (32 * cU) 0 (32 * cX * l) 0 (32 * cV) (32 * cX * 2 ^ 61 + cX) (uL np nq dp dq) (vL r0 r1 dp dq) (xL dp dq)) h in
       let h2 = and-r (under 0 cV (cX * 2 ^ 61) cU 0 (cX * (l + 1)) (uL np nq dp dq) (vL r0 r1 dp dq) (xL dp dq)) (under (32 * cU) 0 (32 * cX * l) 0 (32 * cV) (32 * cX * 2 ^ 61 + cX) (uL np nq dp dq) (vL r0 r1 dp dq) (xL dp dq)) h in (
-        hi1 common scale mn md (2 ^ 61) (N * H) (G * hom (ones 1 8) G W) (D ^ 47) (W ^ 8) (p) (q) (eightTerms G) l Z-pos (sum-is N D p q dpos odds) (terms-lo G h15) (seen 0 cV (cX * 2 ^ 61) cU 0 (cX * (l + 1)) h1),
-        lo1 common scale mn md (2 ^ 61) (N * H) (G * hom (ones 1 8) G W) (D ^ 47) (W ^ 8) (p) (q) (eightTerms G) l Z-pos (sum-is N D p q dpos odds) (terms-hi G h15) (seen (32 * cU) 0 (32 * cX * l) 0 (32 * cV) (32 * cX * 2 ^ 61 + cX) h2),
+        hi1 common scale mn md (2 ^ 61) (N * H) (G * hom (ones 1 8) G W) (D ^ 47) (W ^ 8) p q (eightTerms G) l Z-pos (sum-is N D p q dpos odds) (terms-lo G h15) (seen 0 cV (cX * 2 ^ 61) cU 0 (cX * (l + 1)) h1),
+        lo1 common scale mn md (2 ^ 61) (N * H) (G * hom (ones 1 8) G W) (D ^ 47) (W ^ 8) p q (eightTerms G) l Z-pos (sum-is N D p q dpos odds) (terms-hi G h15) (seen (32 * cU) 0 (32 * cX * l) 0 (32 * cV) (32 * cX * 2 ^ 61 + cX) h2),
       )
 
 -- ---- the linear forms at a significand
@@ -341,15 +342,15 @@ module _ (j t m : ℕ) (jb : j < 128) (tb : t < 2 ^ 45) (mb : m ≡ (128 + j) * 
   h15' : 15 * (r0 * s + r1 * t) ≤ 8 * 2 ^ 64
   h15' = subst (λ (z : ℕ). 15 * z ≤ 8 * 2 ^ 64) (sym g-is) h15
 
-  raw : (p q : ℕ) → Odds (m - 2 ^ 52) (m + 2 ^ 52) p q → j ≤ 42 → Raw p q (gapAt j m) (getD logs j 0)
+  raw : (p q : ℕ) → Odds (m - 2 ^ 52) (m + 2 ^ 52) p q → j ≤ 54 → Raw p q (gapAt j m) (getD logs j 0)
   raw p q e h =
-      let p0 : T (place0 j (factorAt j) (getD logs j 0)) = pick (ltb 42 j) (place0 j (factorAt j) (getD logs j 0)) (and-l (unless (ltb 42 j) (place0 j (factorAt j) (getD logs j 0))) (unless (ltb j 42) (place1 j (factorAt j) (getD logs j 0))) pl) (λ (x : T (ltb 42 j)). absurd (not-suc-le-zero {n = 0} (never j (ltb→lt 42 j x) h))) in
+      let p0 : T (place0 j (factorAt j) (getD logs j 0)) = pick (ltb 54 j) (place0 j (factorAt j) (getD logs j 0)) (and-l (unless (ltb 54 j) (place0 j (factorAt j) (getD logs j 0))) (unless (ltb j 42) (place1 j (factorAt j) (getD logs j 0))) pl) (λ (x : T (ltb 54 j)). absurd (not-suc-le-zero {n = 0} (never j (ltb→lt 54 j x) h))) in
       let d0 = D0 j s t m st jb mb in
       let n0 = N0 j s t m st jb mb in
       subst (λ (z : ℕ). Raw p q z (getD logs j 0)) g-is
       (at0 s t j (j + 1) (256 + j) (257 + j) r0 r1 (getD logs j 0) st (subst (λ (z : ℕ). 0 < z) (sym d0) (pos m)) h15' p q (moved (j * s + (j + 1) * t) (m - 2 ^ 52) ((256 + j) * s + (257 + j) * t) (m + 2 ^ 52) p q n0 d0 e) p0)
     where
-      never : (j : ℕ) → 42 < j → j ≤ 42 → 1 ≤ 0
+      never : (j : ℕ) → 54 < j → j ≤ 54 → 1 ≤ 0
       never j h k = omega arith
 
       pos : (m : ℕ) → 0 < m + 2 ^ 52
@@ -357,7 +358,7 @@ module _ (j t m : ℕ) (jb : j < 128) (tb : t < 2 ^ 45) (mb : m ≡ (128 + j) * 
 
   raw-two : (p q : ℕ) → Odds (2 ^ 53 - m) (m + 2 ^ 53) p q → 42 ≤ j → Raw-two p q (gapAt j m) (getD logs j 0)
   raw-two p q e h =
-      let p1 : T (place1 j (factorAt j) (getD logs j 0)) = pick (ltb j 42) (place1 j (factorAt j) (getD logs j 0)) (and-r (unless (ltb 42 j) (place0 j (factorAt j) (getD logs j 0))) (unless (ltb j 42) (place1 j (factorAt j) (getD logs j 0))) pl) (λ (x : T (ltb j 42)). absurd (not-suc-le-zero {n = 0} (never j (ltb→lt j 42 x) h))) in
+      let p1 : T (place1 j (factorAt j) (getD logs j 0)) = pick (ltb j 42) (place1 j (factorAt j) (getD logs j 0)) (and-r (unless (ltb 54 j) (place0 j (factorAt j) (getD logs j 0))) (unless (ltb j 42) (place1 j (factorAt j) (getD logs j 0))) pl) (λ (x : T (ltb j 42)). absurd (not-suc-le-zero {n = 0} (never j (ltb→lt j 42 x) h))) in
       let d1 = D1 j s t m st jb mb in
       let n1 = N1 j s t m st jb mb in
       subst (λ (z : ℕ). Raw-two p q z (getD logs j 0)) g-is
@@ -453,18 +454,36 @@ module _ (m : ℕ) (lo : 2 ^ 52 ≤ m) (hi : m < 2 ^ 53) where
   gap-is = ap (λ (c : ℕ). (2 ^ 63 - c * m) * 128) (sym factor-is)
 
   -- the laws
-  pub near : (p q : ℕ) → 3 * m < 2 ^ 54 → Odds (m - 2 ^ 52) (m + 2 ^ 52) p q → Near (significandLog m) p q
+  pub near : (p q : ℕ) → placeOf m ≤ 54 → Odds (m - 2 ^ 52) (m + 2 ^ 52) p q → Near (significandLog m) p q
   near p q h o =
-      let r = subst (λ (z : ℕ). Raw p q (gapOf m) z) (cut (getD logs j 0) (eightTerms (gapOf m)) table-fits) (subst (λ (g : ℕ). Raw p q g (getD logs j 0)) gap-is (raw j (m % 2 ^ 45) m (bin-j m lo hi) (bin-t m) (bin-m m lo) p q o (low m h))) in
+      let r = subst (λ (z : ℕ). Raw p q (gapOf m) z) (cut (getD logs j 0) (eightTerms (gapOf m)) table-fits) (subst (λ (g : ℕ). Raw p q g (getD logs j 0)) gap-is (raw j (m % 2 ^ 45) m (bin-j m lo hi) (bin-t m) (bin-m m lo) p q o h)) in
       (fin-hi0 (2 * 2 ^ 61 * md * p) mn (significandLog m) (eightTerms (gapOf m)) q (r .0), fin-lo0 (2 * 2 ^ 61 * md * p) mn (significandLog m) (eightTerms (gapOf m)) q (r .1))
-    where
-      low : (m : ℕ) → 3 * m < 2 ^ 54 → m / 2 ^ 45 - 128 ≤ 42
-      low m k = omega arith
 
-  pub near-two : (p q : ℕ) → 2 ^ 54 ≤ 3 * m → Odds (2 ^ 53 - m) (m + 2 ^ 53) p q → Near-two (significandLog m) p q
+  pub near-two : (p q : ℕ) → 42 ≤ placeOf m → Odds (2 ^ 53 - m) (m + 2 ^ 53) p q → Near-two (significandLog m) p q
   near-two p q h o =
-      let r = subst (λ (z : ℕ). Raw-two p q (gapOf m) z) (cut (getD logs j 0) (eightTerms (gapOf m)) table-fits) (subst (λ (g : ℕ). Raw-two p q g (getD logs j 0)) gap-is (raw-two j (m % 2 ^ 45) m (bin-j m lo hi) (bin-t m) (bin-m m lo) p q o (high m h))) in
+      let r = subst (λ (z : ℕ). Raw-two p q (gapOf m) z) (cut (getD logs j 0) (eightTerms (gapOf m)) table-fits) (subst (λ (g : ℕ). Raw-two p q g (getD logs j 0)) gap-is (raw-two j (m % 2 ^ 45) m (bin-j m lo hi) (bin-t m) (bin-m m lo) p q o h)) in
       (fin-hi1 (2 * 2 ^ 61 * md * p) (mn * 2 ^ 61 * q) mn (significandLog m) (eightTerms (gapOf m)) q (r .0), fin-lo1 (2 * 2 ^ 61 * md * p) (mn * 2 ^ 61 * q) mn (significandLog m) (eightTerms (gapOf m)) q (r .1))
+
+  -- on which side of a half
+  pub upper-half : 2 ^ 60 + 2 ≤ significandLog m → 42 ≤ j
+  upper-half h = go (decLe 42 j)
     where
-      high : (m : ℕ) → 2 ^ 54 ≤ 3 * m → 42 ≤ m / 2 ^ 45 - 128
-      high m k = omega arith
+      never : (l r : ℕ) → 2 ^ 60 + 2 ≤ l - r → l ≤ 2 ^ 60 + 1 → 1 ≤ 0
+      never l r h k = omega arith
+
+      go : Dec (42 ≤ j) → 42 ≤ j
+      go (yes k) = k
+      go (no k) = absurd (not-suc-le-zero {n = 0} (never (getD logs j 0) (eightTerms (gapOf m)) h (leb→le (getD logs j 0) (2 ^ 60 + 1) (pick (ltb 41 j) (leb (getD logs j 0) (2 ^ 60 + 1)) (and-r (unless (ltb j 55) (leb (2 ^ 60 + 2 ^ 55 + 2 ^ 53 + 2) (getD logs j 0))) (unless (ltb 41 j) (leb (getD logs j 0) (2 ^ 60 + 1))) (at sided logs sides j (bin-j m lo hi))) (λ (t : T (ltb 41 j)). absurd (k (ltb→lt 41 j t)))))))
+
+  pub lower-half : significandLog m ≤ 2 ^ 60 + 1 → j ≤ 54
+  lower-half h = go (decLe j 54)
+    where
+      less : (j : ℕ) → (j ≤ 54 → ⊥) → j < 55 → ⊥
+      less j n h = n (omega arith)
+
+      never : (l r : ℕ) → l - r ≤ 2 ^ 60 + 1 → r ≤ 2 ^ 55 + 2 ^ 53 → 2 ^ 60 + 2 ^ 55 + 2 ^ 53 + 2 ≤ l → 1 ≤ 0
+      never l r h k n = omega arith
+
+      go : Dec (j ≤ 54) → j ≤ 54
+      go (yes k) = k
+      go (no k) = absurd (not-suc-le-zero {n = 0} (never (getD logs j 0) (eightTerms (gapOf m)) h (subst (λ (c : ℕ). eightTerms ((2 ^ 63 - c * m) * 128) ≤ 2 ^ 55 + 2 ^ 53) (sym factor-is) (terms-small (gapAt j m) (h15 j (m % 2 ^ 45) m (bin-j m lo hi) (bin-t m) (bin-m m lo)))) (leb→le (2 ^ 60 + 2 ^ 55 + 2 ^ 53 + 2) (getD logs j 0) (pick (ltb j 55) (leb (2 ^ 60 + 2 ^ 55 + 2 ^ 53 + 2) (getD logs j 0)) (and-l (unless (ltb j 55) (leb (2 ^ 60 + 2 ^ 55 + 2 ^ 53 + 2) (getD logs j 0))) (unless (ltb 41 j) (leb (getD logs j 0) (2 ^ 60 + 1))) (at sided logs sides j (bin-j m lo hi))) (λ (t : T (ltb j 55)). absurd (less j k (ltb→lt j 55 t)))))))

@@ -1,10 +1,8 @@
 -- The tables of the logarithm: at each place the table's number and the eight terms are near document 01's sum over the whole part of 1 .. 2 that the place stands for. There every number is a linear form in the distances s and t from the part's ends, so the comparison of two polynomials is one of their coefficients, which antt computes. Assumes nothing.
-use mathlib.Core.Path.{_≡_, refl, sym, ap, _∙_}
 use mathlib.Core.Bool.{Bool, true, false, _&&_}
 use mathlib.Core.List.{List, [], _∷_}
-use Prim.Native.Nat.{ℕ, zero, suc, _+_, _-_, _*_, _/_, _%_, _^_, _≤_, _<_}
+use Prim.Native.Nat.{ℕ, _+_, _-_, _*_, _/_, _^_}
 use lib.Dec.{T, leb, ltb, eqb}
-use Rattle.fixed_point.proofs.Polynomial.{hom}
 use Rattle.series.proofs.Constants.{mn, md}
 use Rattle.logarithm.proofs.CoreBounds.{common, tops}
 use Rattle.binary_log.specs.Tables.{factors, logs}
@@ -49,9 +47,9 @@ abbrev pub unless : Bool → Bool → Bool
 unless true b = true
 unless false b = b
 
--- the place 42 has significands on both sides
+-- the places from 42 to 54, for significands from 4/3 up to a little above the root of 2, are tested both ways
 abbrev pub place : ℕ → ℕ → Bool
-place j l = unless (ltb 42 j) (place0 j (2 ^ 18 / (129 + j)) l) && unless (ltb j 42) (place1 j (2 ^ 18 / (129 + j)) l)
+place j l = unless (ltb 54 j) (place0 j (2 ^ 18 / (129 + j)) l) && unless (ltb j 42) (place1 j (2 ^ 18 / (129 + j)) l)
 
 pub all : T (every place 0 logs)
 unfolding times fma front again under
@@ -75,3 +73,10 @@ lowest j l = leb l (2 ^ 61)
 
 pub units : T (every lowest 0 logs)
 units = tt
+
+-- a logarithm is at least a half from the place 55 on, and at most a half up to the place 41, with room for the eight terms and for two units
+abbrev pub sided : ℕ → ℕ → Bool
+sided j l = unless (ltb j 55) (leb (2 ^ 60 + 2 ^ 55 + 2 ^ 53 + 2) l) && unless (ltb 41 j) (leb l (2 ^ 60 + 1))
+
+pub sides : T (every sided 0 logs)
+sides = tt

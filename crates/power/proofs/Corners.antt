@@ -1,15 +1,15 @@
 -- The corners of the power, exactly: exponent 1 gives the base, exponents 0 and base 1 give 1; and the rows of document 01's table. Assumes nothing.
-use mathlib.Core.Path.{_≡_, refl, sym, ap, _∙_, subst}
-use mathlib.Core.Bool.{Bool, true, false, cond, _&&_, Bool·beq}
-use Prim.Native.Nat.{ℕ, _+_, _-_, _*_, _/_, _%_, _^_}
-use native.Mathlib.Nat.{zero-mul, mul-zero, zero-div}
+use mathlib.Core.Path.{_≡_, refl, ap, _∙_}
+use mathlib.Core.Bool.{Bool, true, false, cond, Bool·beq}
+use Prim.Native.Nat.{ℕ, _+_, _-_, _*_, _/_, _^_}
+use native.Mathlib.Nat.{zero-mul, mul-zero}
 use lib.Dec.{T, leb}
-use lib.Ieee.{Float, binary64, fin, ofBits, ofFields, odd, toBits, le, lt, eq, neg, sub, mul, div}
+use lib.Ieee.{Float, binary64, ofBits, ofFields, odd, toBits, le, lt, eq, neg, sub, mul, div}
 use lib.Ieee.Bits.{is-true}
-use Rattle.number.specs.Ans.{Ans, held, refused, _>>=_, demand}
+use Rattle.number.specs.Ans.{held, refused, _>>=_, demand}
 use Rattle.fixed_point.specs.Horner.{horner}
 use Rattle.exponential.specs.Raise.{raiseOf, significandOf}
-use Rattle.binary_log.specs.BinaryLog.{baseInside, significandLog, logOf}
+use Rattle.binary_log.specs.BinaryLog.{baseInside, logOf}
 use Rattle.binary_log.specs.declared.Log.{Log}
 use Rattle.power.specs.Power.{exponentInside, exponentOf, wordOf, powerOf, powfOf}
 use Rattle.power.specs.declared.FixedExponent.{FixedExponent}

@@ -1,14 +1,13 @@
 -- The exponent y, from - 192 to 192: its size in fixed point, and the ways of `exponentOf`. Assumes nothing.
 use mathlib.Core.Path.{_≡_, refl, sym, ap, _∙_, subst}
-use mathlib.Core.Bool.{Bool, true, false, _&&_, not, cond}
+use mathlib.Core.Bool.{Bool, true, false, _&&_, not}
 use Prim.Native.Nat.{ℕ, zero, suc, _+_, _-_, _*_, _/_, _%_, _^_, _≤_, _<_}
-use native.Mathlib.Nat.{le-trans, le-of-eq, le-of-lt, mul-assoc, mul-comm, mul-left-comm, mul-one, zero-mul, mul-le-mul-left, mul-le-mul-right, le-of-mul-le-mul-right, div-eq-of-lt, lt-of-lt-of-le, pow-suc, le-add-right}
+use native.Mathlib.Nat.{le-trans, le-of-eq, le-of-lt, mul-assoc, mul-comm, mul-left-comm, mul-one, zero-mul, mul-le-mul-left, mul-le-mul-right, le-of-mul-le-mul-right, div-eq-of-lt, lt-of-lt-of-le, pow-suc}
 use native.Mathlib.Omega.{arith}
 use lib.IntN.{ℤ, pos}
 use lib.Dec.{T, leb, eqb, lit<, lit≤}
 use lib.Pow.{pow-pos, pow-add}
 use lib.Ieee.{Float, fin, up, down, binary64, fits, isNan, toBits, ofBits, ofFields, odd, le, neg}
-use lib.Ieee.Fits.{down-pos}
 use Rattle.exponential.proofs.Decode.{unitsOf, sizeBy, decoded, inside-is, field-lt, size-le-of, size-lo, size-hi}
 use Rattle.exponential.proofs.Argument.{units-le}
 use Rattle.power.specs.Power.{exponentInside, sizeOf, exponentOf}

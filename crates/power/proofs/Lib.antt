@@ -3,3 +3,7 @@ pub mod Stages
 pub mod Corners
 pub mod LnBracket
 pub mod LogNear
+pub mod PowerNear
+pub mod Compose
+pub mod SeriesCut
+pub mod OneNear

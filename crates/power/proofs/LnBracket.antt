@@ -1,17 +1,17 @@
 -- Document 01's bracket of ln y over one denominator, from bounds of the sum of 24 terms: y = 2 ^ (e - 1023) w, w = u / o. Assumes nothing.
-use mathlib.Core.Path.{_≡_, refl, sym, ap, _∙_, subst}
+use mathlib.Core.Path.{_≡_, refl, sym, subst}
 use mathlib.Core.Bool.{Bool, true, false}
-use Prim.Native.Nat.{ℕ, zero, suc, _+_, _-_, _*_, _/_, _^_, _≤_, _<_}
-use native.Mathlib.Nat.{le-refl, le-trans, le-of-eq, add-le-add, mul-comm, mul-assoc, mul-left-comm, add-mul, mul-add, add-assoc, add-comm, add-left-comm, mul-one, one-mul, zero-mul, mul-zero, add-zero, zero-add, mul-le-mul-left, mul-le-mul-right, le-of-mul-le-mul-right, mul-pos}
+use Prim.Native.Nat.{ℕ, _+_, _*_, _^_, _≤_, _<_}
+use native.Mathlib.Nat.{one-mul, zero-mul, add-zero, mul-le-mul-right, mul-pos}
 use native.Mathlib.Omega.{arith}
-use lib.Dec.{lit<, lit≤}
-use Rattle.number.specs.Frac.{Frac, frac, Pos, leF, ltF, negF, addF, subF, mulF, sgn}
+use lib.Dec.{lit<}
+use Rattle.number.specs.Frac.{Frac, frac, Pos, leF, negF, addF, subF, mulF, sgn}
 use Rattle.number.proofs.Frac.{ring, le-transF, add-monoF, neg-antiF, addF-pos, negF-pos, mulF-pos}
 use Rattle.series.specs.Sums.{eqF, powF, sumF}
 use Rattle.series.specs.Exact.{LnValue, twiceOdds, oddTail, ln2Low, ln2High, timesLow, timesHigh, zOf}
 use Rattle.series.proofs.Constants.{mn, md, ln2Low-is, ln2High-is}
 use Rattle.logarithm.proofs.Fractions.{mul-neg-left}
-use Rattle.logarithm.proofs.OddSeries.{Sum, whole, twice-is, tail-small, tail-pos, twice-cong, twice-pos}
+use Rattle.logarithm.proofs.OddSeries.{whole, twice-is, tail-small, tail-pos, twice-cong, twice-pos}
 use Rattle.logarithm.proofs.Split.{Exponent, split, Part, z-is, z-pos}
 use Rattle.logarithm.proofs.Bracket.{sum-below, sum-above}
 use Rattle.exponential.proofs.Bounds.{scaled}
@@ -22,9 +22,6 @@ D = md * 2 ^ 159
 
 abbrev pub unit : ℕ
 unit = mn * 2 ^ 93
-
-D-pos : 0 < D
-D-pos = lit< tt
 
 -- ---- k ln 2, k being a - b
 abbrev Whole : Bool → ℕ → ℕ → ℕ → Type 0

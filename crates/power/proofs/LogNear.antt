@@ -1,15 +1,15 @@
 -- The binary logarithm times ln 2 is within 24 / 2 ^ 66 of every value of document 01's ln, at each base of the domain. Assumes nothing.
-use mathlib.Core.Path.{_≡_, refl, sym, ap, ap₂, _∙_, subst}
-use mathlib.Core.Bool.{Bool, true, false}
-use Prim.Native.Nat.{ℕ, zero, suc, _+_, _-_, _*_, _/_, _%_, _^_, _≤_, _<_}
-use native.Mathlib.Nat.{le-trans, le-of-eq, lt-of-not-le, mul-comm, mul-assoc, mul-left-comm, add-mul, mul-add, add-comm, mul-one, one-mul, zero-mul, mul-zero, add-zero, zero-add, mul-le-mul-left, mul-le-mul-right, le-of-mul-le-mul-right, mul-pos}
+use mathlib.Core.Path.{_≡_, refl, sym, ap, _∙_, subst}
+use mathlib.Core.Bool.{true, false}
+use Prim.Native.Nat.{ℕ, _+_, _-_, _*_, _/_, _%_, _^_, _≤_, _<_}
+use native.Mathlib.Nat.{le-trans, le-of-eq, lt-of-not-le, mul-assoc, add-comm, one-mul, zero-mul, add-zero, zero-add, mul-le-mul-right, le-of-mul-le-mul-right}
 use native.Mathlib.Decide.{decLe}
 use native.Mathlib.Omega.{arith}
 use lib.Dec.{T, lit<, lit≤}
 use lib.Pow.{pow-pos, pow-add}
 use lib.Ieee.{Float, binary64, fits, toBits}
 use lib.Ieee.Bits.{is-true}
-use Rattle.number.specs.Frac.{Frac, frac, Pos, leF, negF, addF, subF, mulF, sgn, valF}
+use Rattle.number.specs.Frac.{Frac, frac, Pos, leF, negF, subF, mulF, sgn, valF}
 use Rattle.number.proofs.Frac.{ring, valF-pos}
 use Rattle.fixed_point.specs.Horner.{horner}
 use Rattle.fixed_point.proofs.Patterns64.{val}
@@ -18,7 +18,7 @@ use Rattle.series.specs.Sums.{eqF}
 use Rattle.series.specs.Exact.{LnValue}
 use Rattle.series.proofs.Constants.{mn, md}
 use Rattle.logarithm.proofs.Fractions.{eq-symF, eq-transF, value-is}
-use Rattle.logarithm.proofs.OddSeries.{Sum, whole}
+use Rattle.logarithm.proofs.OddSeries.{whole}
 use Rattle.logarithm.proofs.LnNear.{cancel}
 use Rattle.exponential.proofs.Bounds.{Bound}
 use Rattle.exponential.proofs.Position.{M}
@@ -95,13 +95,16 @@ module _ (f m : ℕ) (f₀ : 1018 ≤ f) (f₁ : f ≤ 1028) (m₀ : 2 ^ 52 ≤ 
       let part : m ≡ 2 ^ 52 + (m - 2 ^ 52) = omega arith in
       let lo : 2 * 2 ^ 52 ≤ 3 * m = omega arith in
       let s = whole n (m + 2 ^ 52) dp in
-      let b = near m m₀ m₁ (s .p) (s .q) h (s .closed) in
+      let b = near m m₀ m₁ (s .p) (s .q) (low m h) (s .closed) in
       distance x x' l
       (from-low false n (2 ^ 52) m f (lit< tt) dp part lo h f₀ (next f f₁) y l yp given value (unit * (32 * g)) (unit * 34) (unit * (32 * x)) (unit * (32 * x') + B) (one-low mn md (2 ^ 93) (2 ^ 61) g (s .p) (s .q) (b .1))
       (λ (a c : ℕ) (r : a + 1023 ≡ f + c). room-low unit x x' g 0 a c (md * 2 ^ 59) (6 * md) B (same f x x' g a c r is) (lit≤ tt)))
       (from-high false n (2 ^ 52) m f (lit< tt) dp part lo h f₀ (next f f₁) y l yp given value (unit * (32 * g + 32)) 0 (unit * (32 * x) + B) (unit * (32 * x')) (one-high mn md (2 ^ 93) (2 ^ 61) g (s .p) (s .q) (b .0))
       (λ (a c : ℕ) (r : a + 1023 ≡ f + c). room-high unit x x' g 0 a c (md * 2 ^ 59) (6 * md) B (same f x x' g a c r is) (lit≤ tt)))
     where
+      low : (m : ℕ) → 3 * m < 2 ^ 54 → m / 2 ^ 45 - 128 ≤ 54
+      low m h = omega arith
+
       next : (f : ℕ) → f ≤ 1028 → f ≤ 1029
       next f h = omega arith
 
@@ -115,13 +118,16 @@ module _ (f m : ℕ) (f₀ : 1018 ≤ f) (f₁ : f ≤ 1028) (m₀ : 2 ^ 52 ≤ 
       let part : m + (2 ^ 53 - m) ≡ 2 ^ 53 = omega arith in
       let hi : 3 * m < 4 * 2 ^ 53 = omega arith in
       let s = whole n (m + 2 ^ 53) dp in
-      let b = near-two m m₀ m₁ (s .p) (s .q) h (s .closed) in
+      let b = near-two m m₀ m₁ (s .p) (s .q) (high m h) (s .closed) in
       distance x x' l
       (from-low true n (2 ^ 53) m (f + 1) (lit< tt) dp part h hi (least f f₀) (most f f₁) y l yp given value (unit * (32 * g)) (unit * (34 + 32 * 2 ^ 61)) (unit * (32 * x)) (unit * (32 * x') + B) (two-low mn md (2 ^ 93) (2 ^ 61) g (s .p) (s .q) (b .1))
       (λ (a c : ℕ) (r : a + 1023 ≡ f + 1 + c). room-low unit x x' g (2 ^ 61) a c (md * 2 ^ 59) (6 * md) B (same f x x' g a c r is) (lit≤ tt)))
       (from-high true n (2 ^ 53) m (f + 1) (lit< tt) dp part h hi (least f f₀) (most f f₁) y l yp given value (unit * (32 * g + 32)) (unit * (32 * 2 ^ 61)) (unit * (32 * x) + B) (unit * (32 * x')) (two-high mn md (2 ^ 93) (2 ^ 61) g (s .p) (s .q) (b .0))
       (λ (a c : ℕ) (r : a + 1023 ≡ f + 1 + c). room-high unit x x' g (2 ^ 61) a c (md * 2 ^ 59) (6 * md) B (same f x x' g a c r is) (lit≤ tt)))
     where
+      high : (m : ℕ) → 2 ^ 54 ≤ 3 * m → 42 ≤ m / 2 ^ 45 - 128
+      high m h = omega arith
+
       least : (f : ℕ) → 1018 ≤ f → 1018 ≤ f + 1
       least f h = omega arith
 
@@ -175,7 +181,7 @@ module _ (x : Float) (fits₁ : T (fits binary64 x)) (inside : T (baseInside x))
       lin b = omega arith
 
   -- x is 2 ^ (f - 1023) m / 2 ^ 52, and 2 ^ (f + 1 - 1023) m / 2 ^ 53
-  scaled-value : (e c : ℕ) → 2 ^ e ≡ 2 ^ (field - 1) * c → eqF (valF x) (frac (m * 2 ^ e) 0 (2 ^ 1074 * c))
+  pub scaled-value : (e c : ℕ) → 2 ^ e ≡ 2 ^ (field - 1) * c → eqF (valF x) (frac (m * 2 ^ e) 0 (2 ^ 1074 * c))
   scaled-value e c p =
       eq-transF (valF x) (frac (val b) 0 (2 ^ 1074)) (frac (m * 2 ^ e) 0 (2 ^ 1074 * c)) (pow-pos 1074)
       (value-is x false (val b) (2 ^ 1074) (normal-value x fits₁ (le-trans (lit≤ tt) (bits .0)) (less b (bits .1))))
@@ -187,10 +193,10 @@ module _ (x : Float) (fits₁ : T (fits binary64 x)) (inside : T (baseInside x))
       numbers : (t f c : ℕ) → (4503599627370496 + t) * f * c ≡ (t + 2 ^ 52) * (f * c)
       numbers t f c = mul-assoc (4503599627370496 + t) f c ∙ ap (λ (z : ℕ). z * (f * c)) (add-comm 4503599627370496 t)
 
-  power-is : (i j : ℕ) → i ≡ field - 1 + j → 2 ^ i ≡ 2 ^ (field - 1) * 2 ^ j
+  pub power-is : (i j : ℕ) → i ≡ field - 1 + j → 2 ^ i ≡ 2 ^ (field - 1) * 2 ^ j
   power-is i j h = ap (λ (z : ℕ). 2 ^ z) h ∙ pow-add 2 (field - 1) j
 
-  by-parts : (l : Frac) (y y' : ℕ) → y + 1023 * 2 ^ 61 ≡ y' + significandLog m + field * 2 ^ 61 → LnValue (valF x) l → Bound (subF l (mulF (frac y y' (2 ^ 61)) M)) (frac 24 0 (2 ^ 66))
+  pub by-parts : (l : Frac) (y y' : ℕ) → y + 1023 * 2 ^ 61 ≡ y' + significandLog m + field * 2 ^ 61 → LnValue (valF x) l → Bound (subF l (mulF (frac y y' (2 ^ 61)) M)) (frac 24 0 (2 ^ 66))
   by-parts l y y' is value = go (decLe (2 ^ 54) (3 * m))
     where
       one : (f : ℕ) → 1018 ≤ f → f ≡ f - 1 + 1
@@ -221,8 +227,8 @@ module _ (x : Float) (fits₁ : T (fits binary64 x)) (inside : T (baseInside x))
           subst (λ (r : Log). Bound (subF l (mulF (signedLog r) M)) (frac 24 0 (2 ^ 66))) (down-is x true (sym (is-true (baseInside x) inside)) b (significandLog m) refl refl refl (lt-of-not-le h))
           (by-parts l 0 ((1023 - field) * 2 ^ 61 - significandLog m) (down field (significandLog m) (lt-of-not-le h) (log-small m m-lo m-hi)) value)
 
-  pub size-le : logOf x .size ≤ 5 * 2 ^ 61
-  size-le = go (decLe 1023 field)
+  pub log-le : logOf x .size ≤ 5 * 2 ^ 61
+  log-le = go (decLe 1023 field)
     where
       down : (f g : ℕ) → 1018 ≤ f → (1023 - f) * 2 ^ 61 - g ≤ 5 * 2 ^ 61
       down f g h = omega arith

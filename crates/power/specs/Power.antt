@@ -1,9 +1,9 @@
 -- The power: its domain, its two stages in fixed point, and its value.
-use mathlib.Core.Bool.{Bool, true, false, _&&_, cond, Bool·beq}
+use mathlib.Core.Bool.{Bool, false, _&&_, cond, Bool·beq}
 use Prim.Native.Nat.{ℕ, _+_, _-_, _*_, _/_, _%_, _^_}
 use lib.Dec.{leb, ltb, eqb}
 use lib.Ieee.{Float, binary64, ofBits, toBits, le, neg}
-use Rattle.number.specs.Ans.{Ans, held, refused, _>>=_, demand}
+use Rattle.number.specs.Ans.{Ans, held, _>>=_, demand}
 use Rattle.exponential.specs.Raise.{raiseOf}
 use Rattle.binary_log.specs.BinaryLog.{baseInside, logOf}
 use Rattle.binary_log.specs.declared.Log.{Log}

@@ -1,13 +1,12 @@
 -- `log_base` meets its contract. Assumes nothing.
 use borrow.Author.Needs.{needs}
 use borrow.Author.Tests.{not-true, not-false}
-use mathlib.Core.Path.{_≡_, refl, subst, sym}
+use mathlib.Core.Path.{refl, subst, sym}
 use Prim.Native.Nat.{ℕ, _+_, _-_, _*_, _/_, _^_, _≤_, _<_}
 use native.Mathlib.Omega.{arith}
 use mir.Facts.{fits-bits}
 use lib.Dec.{T}
-use lib.Ieee.{Float, binary64, fits, toBits}
-use Rattle.binary_log.specs.BinaryLog.{baseInside}
+use lib.Ieee.{binary64, toBits}
 use Rattle.binary_log.proofs.Base.{base-no-nan, base-bits, accepted, outside-is, up-is, down-is}
 use Rattle.binary_log.proofs.log_base.Statement.{statement}
 use Rattle.binary_log.proofs.log_base.Tie as tie

@@ -1,7 +1,7 @@
 -- `exponent` meets its contract. Assumes nothing.
 use borrow.Author.Needs.{needs}
 use borrow.Author.Tests.{not-true, not-false}
-use mathlib.Core.Path.{_≡_, subst, sym}
+use mathlib.Core.Path.{subst, sym}
 use lib.Dec.{T}
 use Rattle.power.proofs.Exponents.{no-nan, field-le, accepted, outside-is, value-is}
 use Rattle.power.proofs.exponent.Statement.{statement}

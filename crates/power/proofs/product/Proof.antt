@@ -1,6 +1,6 @@
 -- `product` meets its contract. Assumes nothing.
 use borrow.Author.Needs.{needs}
-use Prim.Native.Nat.{ℕ, _*_, _^_, _≤_, _<_}
+use Prim.Native.Nat.{_*_, _^_}
 use native.Mathlib.Nat.{le-refl, le-of-lt}
 use Rattle.power.proofs.Stages.{product-is, limit-is}
 use Rattle.power.proofs.product.Statement.{statement}

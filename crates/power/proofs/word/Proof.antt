@@ -1,6 +1,5 @@
 -- `word` meets its contract. Assumes nothing.
 use borrow.Author.Needs.{needs}
-use mathlib.Core.Path.{_≡_}
 use Prim.Native.Nat.{ℕ, _+_, _*_, _^_, _≤_, _<_}
 use native.Mathlib.Omega.{arith}
 use mir.Facts.{fits-bits}
