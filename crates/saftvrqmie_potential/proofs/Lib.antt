@@ -1,0 +1,3 @@
+pub mod Prefactor
+pub mod Relation
+pub mod Staged

@@ -1,0 +1,3 @@
+pub mod Loops
+pub mod Nodes
+pub mod Relation

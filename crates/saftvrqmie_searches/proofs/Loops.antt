@@ -1,0 +1,81 @@
+-- Laws of the searches, one for each place of a loop. Assumes nothing.
+use Prim.Native.Nat.{ℕ, suc, _+_, _-_, _≤_, _<_}
+use native.Mathlib.Omega.{arith}
+use lib.Ieee.{Float}
+use mathlib.Core.Path.{_≡_, refl, fun-ext}
+use mathlib.Core.Bool.{Bool, true, false}
+use Rattle.number.specs.Ans.{Ans, held, refused, _>>=_}
+use Rattle.number.specs.Arith.{floats, decimal}
+use Rattle.number.specs.Functions.{calls, answered}
+use Rattle.elementary.specs.Port.{port}
+use Rattle.saftvrqmie_potential.specs.Potential.{PotentialIn}
+use Rattle.saftvrqmie_potential.specs.Staged.{potentialAt}
+use Rattle.saftvrqmie_potential.specs.declared.Shared.{Shared}
+use Rattle.saftvrqmie_potential.proofs.Staged.{at-either}
+use Rattle.saftvrqmie_searches.specs.Searches.{Counted, found, spent, small, searchFrom, searched, epsilon, zeroValue, zeroTested, sigmaSearch, depthSearch, zeroSearch, zeroSearchBy}
+
+-- ---- at the loop: k evaluations done; what is left, run on from here, is the whole search
+module _ (U : Float → Ans (PotentialIn Float)) (tested : PotentialIn Float → Float) (moved : Float → PotentialIn Float → Float → Float) where
+  abbrev pub from : ℕ → Float → Float → Ans (Counted Float)
+  from n r u = searchFrom floats U (λ v. held (tested v)) moved n r u
+
+  abbrev pub On : Ans (Counted Float) → Float → Float → ℕ → Type 0
+  On whole r u k = (k ≤ 19) × (from (19 - k) r u ≡ whole)
+
+  module _ (whole : Ans (Counted Float)) (r u : Float) (k : ℕ) (h : On whole r u k) where
+    pub spent-at : 19 ≤ k → held (record { search = spent r u; count = 20 }) ≡ whole
+    unfolding searchFrom
+    spent-at p = let d : 19 - k ≡ 0 = omega arith in rw d at (h .1)
+
+    module _ (p : k < 19) where
+      turn : from (suc (19 - (k + 1))) r u ≡ whole
+      turn = let d : 19 - k ≡ suc (19 - (k + 1)) = omega arith in rw d at (h .1)
+
+      pub outside-at : (n : ℕ) → U r ≡ refused n → refused n ≡ whole
+      unfolding searchFrom _>>=_
+      outside-at n e = rw e at turn
+
+      module _ (v : PotentialIn Float) (e : U r ≡ held v) (t : Bool) (is-t : t ≡ small floats (tested v)) where
+        pub found-at : t ≡ true → held (record { search = found r (v .u); count = k + 1 }) ≡ whole
+        unfolding searchFrom _>>=_
+        found-at q = let d : 19 - (19 - (k + 1)) ≡ k + 1 = omega arith in rw (e, ← is-t, q, d) at turn
+
+        pub goes-on : t ≡ false → On whole (moved r v (tested v)) (v .u) (k + 1)
+        unfolding searchFrom _>>=_
+        goes-on q = (omega arith, rw (e, ← is-t, q) at turn)
+
+-- ---- a pair without a potential at any radius has no search
+module _ (n : ℕ) where
+  abbrev pub none : Float → Ans (PotentialIn Float)
+  none r = refused n
+
+  pub sigma-none : (s : Float) → refused n ≡ sigmaSearch floats none s
+  unfolding sigmaSearch searched searchFrom _>>=_
+  sigma-none s = refl
+
+  pub depth-none : (s : Float) → refused n ≡ depthSearch floats none s
+  unfolding depthSearch searched searchFrom _>>=_
+  depth-none s = refl
+
+  pub zero-none : (t s : Float) → refused n ≡ zeroSearch floats none (calls floats port) t s
+  unfolding zeroSearch searched searchFrom _>>=_
+  zero-none t s = refl
+
+-- ---- the logarithm of EPSILON, asked once
+pub once : (a : Ans Float) (x : Float) → answered floats a x ≡ a
+unfolding answered _>>=_
+once (held v) x = refl
+once (refused n) x = refl
+
+module _ (w : Shared) (t s : Float) where
+  tested-held : (l : Float) → port .ln epsilon ≡ held l → zeroTested floats (calls floats port) t ≡ (λ v. held (zeroValue floats t l v))
+  unfolding zeroTested _>>=_
+  tested-held l e = fun-ext (λ v. rw (once (port .ln epsilon) epsilon, e))
+
+  pub log-held : (l : Float) → port .ln epsilon ≡ held l → zeroSearchBy floats (potentialAt w) t l s ≡ zeroSearch floats (potentialAt w) (calls floats port) t s
+  unfolding zeroSearch zeroSearchBy
+  log-held l e = rw (tested-held l e)
+
+  pub log-refused : port .ln epsilon ≡ refused 6 → refused 6 ≡ zeroSearch floats (potentialAt w) (calls floats port) t s
+  unfolding zeroSearch searched searchFrom zeroTested _>>=_
+  log-refused e = at-either w (floats .mul s (decimal false 7 1)) (λ v q. rw (q, once (port .ln epsilon) epsilon, e)) (λ q. rw q)

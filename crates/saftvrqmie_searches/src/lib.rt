@@ -1,0 +1,235 @@
+// The three radius searches of a pair and its diameter (saftvrqmie/eos/hard_sphere.rs), in floats.
+ghost use mathlib.Core.Path.{_≡_};
+ghost use Prim.Native.Nat.{_<_};
+ghost use Rattle.number.specs.Answer.{answer};
+ghost use Rattle.number.specs.Arith.{floats};
+ghost use Rattle.number.specs.Functions.{calls};
+ghost use Rattle.elementary.specs.Port.{port};
+ghost use Rattle.saftvrqmie_potential.specs.Potential.{pairIn};
+ghost use Rattle.saftvrqmie_potential.specs.Staged.{potentialAt};
+ghost use Rattle.saftvrqmie_searches.specs.Searches.{searchAnswer, small, clamped, sigmaSearch, depthSearch, zeroSearchBy, sigmaEff, zeroIntegrand, epsilonKEff};
+ghost use Rattle.saftvrqmie_searches.specs.Diameter.{abscissas, weights, entry, nodeTurn, diameterBy, diameter};
+use number::FloatAnswer;
+use saftvrqmie_potential::Pair;
+use saftvrqmie_potential::PotentialAnswer;
+use saftvrqmie_potential::Shared;
+use saftvrqmie_potential::SharedAnswer;
+
+// Abscissas and weights of the 21-node rule of QUADPACK.
+const X_K21: [f64; 21] = [
+    -0.995657163025808080735527280689003,
+    -0.973906528517171720077964012084452,
+    -0.930157491355708226001207180059508,
+    -0.865063366688984510732096688423493,
+    -0.780817726586416897063717578345042,
+    -0.679409568299024406234327365114874,
+    -0.562757134668604683339000099272694,
+    -0.433395394129247190799265943165784,
+    -0.294392862701460198131126603103866,
+    -0.148874338981631210884826001129720,
+    0.000000000000000000000000000000000,
+    0.148874338981631210884826001129720,
+    0.294392862701460198131126603103866,
+    0.433395394129247190799265943165784,
+    0.562757134668604683339000099272694,
+    0.679409568299024406234327365114874,
+    0.780817726586416897063717578345042,
+    0.865063366688984510732096688423493,
+    0.930157491355708226001207180059508,
+    0.973906528517171720077964012084452,
+    0.995657163025808080735527280689003,
+];
+
+const W_K21: [f64; 21] = [
+    0.011694638867371874278064396062192,
+    0.032558162307964727478818972459390,
+    0.054755896574351996031381300244580,
+    0.075039674810919952767043140916190,
+    0.093125454583697605535065465083366,
+    0.109387158802297641899210590325805,
+    0.123491976262065851077958109831074,
+    0.134709217311473325928054001771707,
+    0.142775938577060080797094273138717,
+    0.147739104901338491374841515972068,
+    0.149445554002916905664936468389821,
+    0.147739104901338491374841515972068,
+    0.142775938577060080797094273138717,
+    0.134709217311473325928054001771707,
+    0.123491976262065851077958109831074,
+    0.109387158802297641899210590325805,
+    0.093125454583697605535065465083366,
+    0.075039674810919952767043140916190,
+    0.054755896574351996031381300244580,
+    0.032558162307964727478818972459390,
+    0.011694638867371874278064396062192,
+];
+
+// The radius and the last potential.
+pub enum Search {
+    Found(f64, f64),
+    Spent(f64, f64),
+}
+
+// A search with its count, or that an elementary argument was outside on the way.
+pub enum SearchAnswer {
+    Ended(Search, u8),
+    Outside,
+}
+
+fn is_small(x: f64) -> bool
+    ensures { λ r. ⌜ r ≡ small floats x ⌝ }
+{
+    number::abs(x) < 1.0e-12
+}
+
+fn clamp(dr: f64) -> f64
+    ensures { λ r. ⌜ r ≡ clamped floats dr ⌝ }
+{
+    let size = number::abs(dr);
+    if 0.5 < size {
+        return dr * (0.5 / size);
+    }
+    dr
+}
+
+fn sigma_search(w: Shared, sigma: f64) -> SearchAnswer
+    ensures { λ r. ⌜ searchAnswer r ≡ sigmaSearch floats (potentialAt w) sigma ⌝ }
+{
+    let mut r = sigma;
+    let mut u = 0.0;
+    for k in 0u8..19u8 {
+        let PotentialAnswer::Value(v) = saftvrqmie_potential::potential_at(w, r) else {
+            return SearchAnswer::Outside;
+        };
+        if is_small(v.u) {
+            return SearchAnswer::Ended(Search::Found(r, v.u), k + 1);
+        }
+        r = r + -v.u / v.u_r;
+        u = v.u;
+    }
+    SearchAnswer::Ended(Search::Spent(r, u), 20)
+}
+
+fn depth_search(w: Shared, sigma: f64) -> SearchAnswer
+    ensures { λ r. ⌜ searchAnswer r ≡ depthSearch floats (potentialAt w) sigma ⌝ }
+{
+    let mut r = sigma;
+    let mut u = 0.0;
+    for k in 0u8..19u8 {
+        let PotentialAnswer::Value(v) = saftvrqmie_potential::potential_at(w, r) else {
+            return SearchAnswer::Outside;
+        };
+        if is_small(v.u_r) {
+            return SearchAnswer::Ended(Search::Found(r, v.u), k + 1);
+        }
+        r = r + -v.u_r / v.u_rr;
+        u = v.u;
+    }
+    SearchAnswer::Ended(Search::Spent(r, u), 20)
+}
+
+// The logarithm of EPSILON is handed in: it is one at all evaluations.
+fn zero_search(w: Shared, temperature: f64, l: f64, sigma_eff: f64) -> SearchAnswer
+    ensures { λ r. ⌜ searchAnswer r ≡ zeroSearchBy floats (potentialAt w) temperature l «sigma_eff» ⌝ }
+{
+    let mut r = sigma_eff * 0.7;
+    let mut u = 0.0;
+    for k in 0u8..19u8 {
+        let PotentialAnswer::Value(v) = saftvrqmie_potential::potential_at(w, r) else {
+            return SearchAnswer::Outside;
+        };
+        let f = v.u / temperature + l;
+        if is_small(f) {
+            return SearchAnswer::Ended(Search::Found(r, v.u), k + 1);
+        }
+        r = r + clamp(-(f / (v.u_r / temperature)));
+        u = v.u;
+    }
+    SearchAnswer::Ended(Search::Spent(r, u), 20)
+}
+
+// `calc_sigma_eff_ij`.
+pub fn calc_sigma_eff(pair: Pair) -> SearchAnswer
+    ensures { λ r. ⌜ searchAnswer r ≡ sigmaEff floats (calls floats port) (pairIn pair) ⌝ }
+{
+    let SharedAnswer::At(w) = saftvrqmie_potential::share(pair) else {
+        return SearchAnswer::Outside;
+    };
+    sigma_search(w, pair.sigma)
+}
+
+// `zero_integrand`.
+pub fn zero_integrand(pair: Pair, sigma_eff: f64) -> SearchAnswer
+    ensures { λ r. ⌜ searchAnswer r ≡ zeroIntegrand floats (calls floats port) (pairIn pair) «sigma_eff» ⌝ }
+{
+    let SharedAnswer::At(w) = saftvrqmie_potential::share(pair) else {
+        return SearchAnswer::Outside;
+    };
+    let FloatAnswer::Value(l) = elementary::ln(2.220446049250313e-16) else {
+        return SearchAnswer::Outside;
+    };
+    zero_search(w, pair.temperature, l, sigma_eff)
+}
+
+// `calc_epsilon_k_eff_ij`; epsilon_k_eff is minus the last potential.
+pub fn calc_epsilon_k_eff(pair: Pair) -> SearchAnswer
+    ensures { λ r. ⌜ searchAnswer r ≡ epsilonKEff floats (calls floats port) (pairIn pair) ⌝ }
+{
+    let SharedAnswer::At(w) = saftvrqmie_potential::share(pair) else {
+        return SearchAnswer::Outside;
+    };
+    depth_search(w, pair.sigma)
+}
+
+// Entries of the rule: 21 nodes.
+fn abscissa(k: usize) -> f64
+    requires { ⌜ k < 21 ⌝ }
+    ensures { λ r. ⌜ r ≡ entry (calls floats port) abscissas k ⌝ }
+{
+    X_K21[k]
+}
+
+fn weight(k: usize) -> f64
+    requires { ⌜ k < 21 ⌝ }
+    ensures { λ r. ⌜ r ≡ entry (calls floats port) weights k ⌝ }
+{
+    W_K21[k]
+}
+
+fn node(w: Shared, temperature: f64, sigma_eff: f64, r0: f64, k: usize, d_hs: f64) -> FloatAnswer
+    requires { ⌜ k < 21 ⌝ }
+    ensures { λ r. ⌜ answer r ≡ nodeTurn floats (calls floats port) (potentialAt w) temperature «sigma_eff» r0 k «d_hs» ⌝ }
+{
+    let width = (sigma_eff - r0) * 0.5;
+    let r = width * abscissa(k) + width + r0;
+    let FloatAnswer::Value(u) = saftvrqmie_potential::u_at(w, r) else {
+        return FloatAnswer::Outside;
+    };
+    let FloatAnswer::Value(e) = elementary::exp(-u / temperature) else {
+        return FloatAnswer::Outside;
+    };
+    FloatAnswer::Value(d_hs + width * (-e + 1.0) * weight(k))
+}
+
+fn diameter_by(w: Shared, temperature: f64, sigma_eff: f64, r0: f64) -> FloatAnswer
+    ensures { λ r. ⌜ answer r ≡ diameterBy floats (calls floats port) (potentialAt w) temperature «sigma_eff» r0 ⌝ }
+{
+    let mut d_hs = r0;
+    for k in 0usize..21usize {
+        let FloatAnswer::Value(next) = node(w, temperature, sigma_eff, r0, k, d_hs) else {
+            return FloatAnswer::Outside;
+        };
+        d_hs = next;
+    }
+    FloatAnswer::Value(d_hs)
+}
+
+// `hs_diameter_ij`, from the searched radii.
+pub fn hs_diameter(pair: Pair, sigma_eff: f64, r0: f64) -> FloatAnswer
+    ensures { λ r. ⌜ answer r ≡ diameter floats (calls floats port) (pairIn pair) «sigma_eff» r0 ⌝ }
+{
+    let SharedAnswer::At(w) = saftvrqmie_potential::share(pair) else {
+        return FloatAnswer::Outside;
+    };
+    diameter_by(w, pair.temperature, sigma_eff, r0)
+}
