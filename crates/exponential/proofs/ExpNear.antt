@@ -2,7 +2,7 @@
 use mathlib.Core.Path.{_≡_, refl, sym, ap, _∙_, subst}
 use mathlib.Core.Bool.{Bool, true, false, cond}
 use Prim.Native.Nat.{ℕ, _+_, _-_, _*_, _/_, _%_, _^_, _≤_, _<_}
-use native.Mathlib.Nat.{mul-assoc, mul-comm, mul-left-comm, mul-zero, zero-mul, one-mul, add-zero, zero-add, add-le-add, le-trans, le-of-eq, mul-le-mul-left, mul-le-mul-right, le-of-mul-le-mul-right, div-mul-le-self}
+use native.Mathlib.Nat.{mul-assoc, mul-comm, mul-left-comm, mul-zero, zero-mul, one-mul, add-zero, zero-add, add-le-add, le-trans, le-of-eq, mul-le-mul-left, mul-le-mul-right, le-of-mul-le-mul-right, div-mul-le-self, div-le-of-le-mul}
 use native.Mathlib.Omega.{arith}
 use lib.Dec.{T, leb, lit<, lit≤}
 use lib.IntN.{ℤ}
@@ -17,7 +17,7 @@ use Rattle.series.proofs.Constants.{mn, md}
 use Rattle.exponential.specs.Raise.{raiseOf}
 use Rattle.exponential.specs.Exp.{expInside, sizeOf, binaryOf, exponentAt, exponentOf, expOf}
 use Rattle.exponential.proofs.Decode.{unitsOf, decoded, size-lo, size-hi, size-le-of, field-lt}
-use Rattle.exponential.proofs.Argument.{exp-inside-is, units-le, binary-le, down-range, up-range}
+use Rattle.exponential.proofs.Argument.{exp-inside-is, units-le, down-range, up-range}
 use Rattle.exponential.proofs.Bounds.{Bound}
 use Rattle.exponential.proofs.Position.{M}
 use Rattle.exponential.proofs.Value.{Within}
@@ -122,11 +122,8 @@ room A D v h = half (A * (2 ^ 53 * md)) (A * (2 ^ 54 * md)) ((2 * v + 4) * mn * 
     half : (a b r y z e : ℕ) → b ≡ 2 * a → r ≡ 2 * y + z → b ≤ r → z * 2 ^ 59 ≤ e → a * 2 ^ 60 ≤ y * 2 ^ 60 + e
     half a b r y z e p q h k = omega arith
 
--- ---- the argument
-module _ (s : Bool) (m : ℕ) (e : ℤ) (fits₁ : T (fits binary64 (fin s m e))) (inside : T (expInside (fin s m e))) (bound : m * up e ≤ 700 * down e) where
-  abbrev b : ℕ
-  b = toBits binary64 (fin s m e)
-
+-- ---- the argument: its sign s and its size A / D, as the bits b have them
+module _ (s : Bool) (A D b : ℕ) (sign-is : s ≡ leb 9223372036854775808 b) (size-is : A * 2 ^ 1074 ≡ unitsOf (b / 4503599627370496 % 2048) (b % 4503599627370496) * D) (bound : unitsOf (b / 4503599627370496 % 2048) (b % 4503599627370496) ≤ 700 * 2 ^ 1074) where
   abbrev field : ℕ
   field = b / 4503599627370496 % 2048
 
@@ -139,53 +136,57 @@ module _ (s : Bool) (m : ℕ) (e : ℤ) (fits₁ : T (fits binary64 (fin s m e))
       go : (b : ℕ) → b % 4503599627370496 < 4503599627370496
       go b = omega arith
 
-  sign-is : s ≡ leb 9223372036854775808 b
-  sign-is = decoded s m e fits₁ b refl .0 .0
-
-  size-is : m * up e * 2 ^ 1074 ≡ unitsOf field digits * down e
-  size-is = decoded s m e fits₁ b refl .0 .1
-
   field-ok : field < 1033
-  field-ok = field-lt 700 field digits (lit< tt) digits-lt (units-le 700 m e (unitsOf field digits) size-is bound)
+  field-ok = field-lt 700 field digits (lit< tt) digits-lt bound
 
-  size-fits : sizeOf b ≤ 2 ^ 64
-  size-fits = le-trans (size-le-of 700 field digits (lit< tt) digits-lt (units-le 700 m e (unitsOf field digits) size-is bound)) (lit≤ tt)
+  size-le : sizeOf b ≤ 700 * 2 ^ 54
+  size-le = size-le-of 700 field digits (lit< tt) digits-lt bound
 
   unit-split : (x d : ℕ) → x * 2 ^ 1020 * d ≡ x * d * 2 ^ 1020
   unit-split x d = simp (mul-assoc, mul-comm)
 
-  whole-split : m * up e * 2 ^ 1074 ≡ m * up e * 2 ^ 54 * 2 ^ 1020
-  whole-split = ap (λ (z : ℕ). m * up e * z) (pow-add 2 54 1020) ∙ sym (mul-assoc (m * up e) (2 ^ 54) (2 ^ 1020))
+  whole-split : A * 2 ^ 1074 ≡ A * 2 ^ 54 * 2 ^ 1020
+  whole-split = ap (λ (z : ℕ). A * z) (pow-add 2 54 1020) ∙ sym (mul-assoc A (2 ^ 54) (2 ^ 1020))
 
-  size-below : sizeOf b * down e ≤ m * up e * 2 ^ 54
-  size-below = le-of-mul-le-mul-right {k = 2 ^ 1020} (le-trans (le-of-eq (sym (unit-split (sizeOf b) (down e)))) (le-trans (mul-le-mul-right (down e) (size-lo field digits field-ok digits-lt)) (le-of-eq (sym size-is ∙ whole-split)))) (pow-pos 1020)
+  size-below : sizeOf b * D ≤ A * 2 ^ 54
+  size-below = le-of-mul-le-mul-right {k = 2 ^ 1020} (le-trans (le-of-eq (sym (unit-split (sizeOf b) D))) (le-trans (mul-le-mul-right D (size-lo field digits field-ok digits-lt)) (le-of-eq (sym size-is ∙ whole-split)))) (pow-pos 1020)
 
-  size-above : m * up e * 2 ^ 54 ≤ (sizeOf b + 1) * down e
-  size-above = le-of-mul-le-mul-right {k = 2 ^ 1020} (le-trans (le-of-eq (sym whole-split ∙ size-is)) (le-trans (mul-le-mul-right (down e) (size-hi field digits field-ok digits-lt)) (le-of-eq (unit-split (sizeOf b + 1) (down e))))) (pow-pos 1020)
+  size-above : A * 2 ^ 54 ≤ (sizeOf b + 1) * D
+  size-above = le-of-mul-le-mul-right {k = 2 ^ 1020} (le-trans (le-of-eq (sym whole-split ∙ size-is)) (le-trans (mul-le-mul-right D (size-hi field digits field-ok digits-lt)) (le-of-eq (unit-split (sizeOf b + 1) D)))) (pow-pos 1020)
 
   next : (x : ℕ) → x ≤ (x / 2 ^ 64 + 1) * 2 ^ 64
   next x = omega arith
 
-  low : binaryOf b * mn * down e ≤ m * up e * (2 ^ 53 * md)
-  low = scaled-lo (m * up e) (down e) (sizeOf b) (binaryOf b) 13306513097844322491 mn md size-below size-above size-fits (div-mul-le-self (sizeOf b * 13306513097844322491) (2 ^ 64)) (next (sizeOf b * 13306513097844322491)) (lit≤ tt) (lit≤ tt)
+  low : binaryOf b * mn * D ≤ A * (2 ^ 53 * md)
+  low = scaled-lo A D (sizeOf b) (binaryOf b) 13306513097844322491 mn md size-below size-above (le-trans size-le (lit≤ tt)) (div-mul-le-self (sizeOf b * 13306513097844322491) (2 ^ 64)) (next (sizeOf b * 13306513097844322491)) (lit≤ tt) (lit≤ tt)
 
-  high : m * up e * (2 ^ 53 * md) * 2 ^ 60 ≤ binaryOf b * mn * down e * 2 ^ 60 + 242 * (down e * (2 ^ 53 * md))
-  high = room (m * up e) (down e) (binaryOf b) (scaled-hi (m * up e) (down e) (sizeOf b) (binaryOf b) 13306513097844322491 mn md size-below size-above size-fits (div-mul-le-self (sizeOf b * 13306513097844322491) (2 ^ 64)) (next (sizeOf b * 13306513097844322491)) (lit≤ tt) (lit≤ tt))
+  high : A * (2 ^ 53 * md) * 2 ^ 60 ≤ binaryOf b * mn * D * 2 ^ 60 + 242 * (D * (2 ^ 53 * md))
+  high = room A D (binaryOf b) (scaled-hi A D (sizeOf b) (binaryOf b) 13306513097844322491 mn md size-below size-above (le-trans size-le (lit≤ tt)) (div-mul-le-self (sizeOf b * 13306513097844322491) (2 ^ 64)) (next (sizeOf b * 13306513097844322491)) (lit≤ tt) (lit≤ tt))
 
+  -- 700 / ln 2 is below 1010
   small : binaryOf b ≤ 1010 * 2 ^ 53
-  small = binary-le (fin s m e) fits₁ inside b refl
+  small = div-le-of-le-mul (2 ^ 64) (le-trans (mul-le-mul-right 13306513097844322491 size-le) (lit≤ tt))
 
-  -- w / 2 ^ 53 - 1023 times ln 2 is within 242 / 2 ^ 60 of x, and w in the core's range
-  pub argument-near : Bound (subF (valF (fin s m e)) (mulF (frac (exponentOf (fin s m e)) (1023 * 2 ^ 53) (2 ^ 53)) M)) (frac 242 0 (2 ^ 60)) × (2 ^ 53 ≤ exponentOf (fin s m e)) × (exponentOf (fin s m e) < 2046 * 2 ^ 53)
-  unfolding exponentOf exponentAt
-  argument-near = subst (λ (t : Bool). Bound (subF (valF (fin s m e)) (mulF (frac (cond t (1023 * 2 ^ 53 - binaryOf b) (1023 * 2 ^ 53 + binaryOf b)) (1023 * 2 ^ 53) (2 ^ 53)) M)) (frac 242 0 (2 ^ 60)) × (2 ^ 53 ≤ cond t (1023 * 2 ^ 53 - binaryOf b) (1023 * 2 ^ 53 + binaryOf b)) × (cond t (1023 * 2 ^ 53 - binaryOf b) (1023 * 2 ^ 53 + binaryOf b) < 2046 * 2 ^ 53)) sign-is (go s)
+  -- w / 2 ^ 53 - 1023 times ln 2 is within 242 / 2 ^ 60 of the argument, and w in the core's range
+  pub bits-near : Bound (subF (sgn s A D) (mulF (frac (exponentAt b) (1023 * 2 ^ 53) (2 ^ 53)) M)) (frac 242 0 (2 ^ 60)) × (2 ^ 53 ≤ exponentAt b) × (exponentAt b < 2046 * 2 ^ 53)
+  unfolding exponentAt
+  bits-near = subst (λ (t : Bool). Bound (subF (sgn s A D) (mulF (frac (cond t (1023 * 2 ^ 53 - binaryOf b) (1023 * 2 ^ 53 + binaryOf b)) (1023 * 2 ^ 53) (2 ^ 53)) M)) (frac 242 0 (2 ^ 60)) × (2 ^ 53 ≤ cond t (1023 * 2 ^ 53 - binaryOf b) (1023 * 2 ^ 53 + binaryOf b)) × (cond t (1023 * 2 ^ 53 - binaryOf b) (1023 * 2 ^ 53 + binaryOf b) < 2046 * 2 ^ 53)) sign-is (go s)
     where
       less : (v : ℕ) → v ≤ 1010 * 2 ^ 53 → 1023 * 2 ^ 53 ≡ 1023 * 2 ^ 53 - v + v
       less v h = omega arith
 
-      go : (t : Bool) → Bound (subF (sgn t (m * up e) (down e)) (mulF (frac (cond t (1023 * 2 ^ 53 - binaryOf b) (1023 * 2 ^ 53 + binaryOf b)) (1023 * 2 ^ 53) (2 ^ 53)) M)) (frac 242 0 (2 ^ 60)) × (2 ^ 53 ≤ cond t (1023 * 2 ^ 53 - binaryOf b) (1023 * 2 ^ 53 + binaryOf b)) × (cond t (1023 * 2 ^ 53 - binaryOf b) (1023 * 2 ^ 53 + binaryOf b) < 2046 * 2 ^ 53)
-      go false = (near-pos (m * up e) (down e) (binaryOf b) mn md (2 ^ 53) (2 ^ 60) 242 (1023 * 2 ^ 53) (1023 * 2 ^ 53 + binaryOf b) low high refl, up-range (binaryOf b) small .0, up-range (binaryOf b) small .1)
-      go true = (near-neg (m * up e) (down e) (binaryOf b) mn md (2 ^ 53) (2 ^ 60) 242 (1023 * 2 ^ 53) (1023 * 2 ^ 53 - binaryOf b) low high (less (binaryOf b) small), down-range (binaryOf b) small .0, down-range (binaryOf b) small .1)
+      go : (t : Bool) → Bound (subF (sgn t A D) (mulF (frac (cond t (1023 * 2 ^ 53 - binaryOf b) (1023 * 2 ^ 53 + binaryOf b)) (1023 * 2 ^ 53) (2 ^ 53)) M)) (frac 242 0 (2 ^ 60)) × (2 ^ 53 ≤ cond t (1023 * 2 ^ 53 - binaryOf b) (1023 * 2 ^ 53 + binaryOf b)) × (cond t (1023 * 2 ^ 53 - binaryOf b) (1023 * 2 ^ 53 + binaryOf b) < 2046 * 2 ^ 53)
+      go false = (near-pos A D (binaryOf b) mn md (2 ^ 53) (2 ^ 60) 242 (1023 * 2 ^ 53) (1023 * 2 ^ 53 + binaryOf b) low high refl, up-range (binaryOf b) small .0, up-range (binaryOf b) small .1)
+      go true = (near-neg A D (binaryOf b) mn md (2 ^ 53) (2 ^ 60) 242 (1023 * 2 ^ 53) (1023 * 2 ^ 53 - binaryOf b) low high (less (binaryOf b) small), down-range (binaryOf b) small .0, down-range (binaryOf b) small .1)
+
+-- the same of an f64
+pub argument-near : (s : Bool) (m : ℕ) (e : ℤ) → T (fits binary64 (fin s m e)) → m * up e ≤ 700 * down e
+    → Bound (subF (valF (fin s m e)) (mulF (frac (exponentOf (fin s m e)) (1023 * 2 ^ 53) (2 ^ 53)) M)) (frac 242 0 (2 ^ 60)) × (2 ^ 53 ≤ exponentOf (fin s m e)) × (exponentOf (fin s m e) < 2046 * 2 ^ 53)
+unfolding exponentOf
+argument-near s m e f bound =
+    let b = toBits binary64 (fin s m e) in
+    let d = decoded s m e f b refl in
+    bits-near s (m * up e) (down e) b (d .0 .0) (d .0 .1) (units-le 700 m e (unitsOf (b / 4503599627370496 % 2048) (b % 4503599627370496)) (d .0 .1) bound)
 
 -- ---- the law
 -- (216 + 3 · 242) / 2 ^ 60 is at most 2 ^ -48
@@ -201,11 +202,11 @@ pub exp-near : (x : Float) (e : Frac) → T (fits binary64 x) → T (expInside x
 exp-near x e f h v = go (exp-inside-is x h)
   where
     go : (s : Bool) × (m : ℕ) × (t : ℤ) × (x ≡ fin s m t) × (m * up t ≤ 700 * down t) → within (2 ^ 48) (valF (raiseOf (exponentOf x))) e
-    go (s, m, t, p, q) = subst (λ (y : Float). within (2 ^ 48) (valF (raiseOf (exponentOf y))) e) (sym p) (at s m t (subst (λ (y : Float). T (fits binary64 y)) p f) (subst (λ (y : Float). T (expInside y)) p h) q (subst (λ (y : Float). ExpValue (valF y) e) p v))
+    go (s, m, t, p, q) = subst (λ (y : Float). within (2 ^ 48) (valF (raiseOf (exponentOf y))) e) (sym p) (at s m t (subst (λ (y : Float). T (fits binary64 y)) p f) q (subst (λ (y : Float). ExpValue (valF y) e) p v))
       where
-        at : (s : Bool) (m : ℕ) (t : ℤ) → T (fits binary64 (fin s m t)) → T (expInside (fin s m t)) → m * up t ≤ 700 * down t → ExpValue (valF (fin s m t)) e → within (2 ^ 48) (valF (raiseOf (exponentOf (fin s m t)))) e
-        at s m t f h q v =
-            let z = argument-near s m t f h q in
+        at : (s : Bool) (m : ℕ) (t : ℤ) → T (fits binary64 (fin s m t)) → m * up t ≤ 700 * down t → ExpValue (valF (fin s m t)) e → within (2 ^ 48) (valF (raiseOf (exponentOf (fin s m t)))) e
+        at s m t f q v =
+            let z = argument-near s m t f q in
             let w = exponentOf (fin s m t) in
             loosen (valF (raiseOf w)) e (valF-pos (raiseOf w)) (v .proper .0) (raise-near w 242 (valF (fin s m t)) e (z .1) (z .2) (lit≤ tt) (valF-pos (fin s m t)) (z .0) v)
 

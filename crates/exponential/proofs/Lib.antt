@@ -26,4 +26,7 @@ pub mod M1Distance
 pub mod Zeros
 pub mod Tiny
 pub mod TinyNear
+pub mod TanhNear
+pub mod TanhTiny
+pub mod TanhDistance
 pub mod Inhabited

@@ -45,7 +45,7 @@ binary-least b h = le-div-iff-mul-le (lit< {m = 0} {n = 2 ^ 64} tt) .1 (le-trans
         most : (b : ℕ) → 2 ^ 52 * 2 ^ 11 ≤ (b % 2 ^ 52 + 2 ^ 52) * 2048
         most b = omega arith
 
-module _ (s : Bool) (m : ℕ) (e : ℤ) (fit : T (fits binary64 (fin s m e))) (inside : T (expInside (fin s m e))) (bound : m * up e ≤ 700 * down e) (x : Frac) (value : ExpM1Value (valF (fin s m e)) x) where
+module _ (s : Bool) (m : ℕ) (e : ℤ) (fit : T (fits binary64 (fin s m e))) (bound : m * up e ≤ 700 * down e) (x : Frac) (value : ExpM1Value (valF (fin s m e)) x) where
   abbrev b : ℕ
   b = toBits binary64 (fin s m e)
 
@@ -115,11 +115,11 @@ module _ (s : Bool) (m : ℕ) (e : ℤ) (fit : T (fits binary64 (fin s m e))) (i
   -- ---- from 1/4 on
   bracket : Bracket (exponentOf (fin s m e)) 242 (value .e)
   bracket =
-      let z = argument-near s m e fit inside bound in
+      let z = argument-near s m e fit bound in
       raise-bracket (exponentOf (fin s m e)) 242 (valF (fin s m e)) (value .e) (z .1) (z .2) (lit≤ tt) (valF-pos (fin s m e)) (z .0) (value .isExp)
 
   near-below : 1021 ≤ fieldOf b → s ≡ true → within (2 ^ 48) (valF (belowOf (exponentOf (fin s m e)))) x
-  near-below l p = below-near (exponentOf (fin s m e)) (argument-near s m e fit inside bound .1) (subst (λ (w : ℕ). w < 1022 * 2 ^ 53 + 101 * 2 ^ 46) exponent (less (binaryOf b) (binary-least b l))) (value .e) x (value .isExp .proper .0) (value .proper) bracket (value .same)
+  near-below l p = below-near (exponentOf (fin s m e)) (argument-near s m e fit bound .1) (subst (λ (w : ℕ). w < 1022 * 2 ^ 53 + 101 * 2 ^ 46) exponent (less (binaryOf b) (binary-least b l))) (value .e) x (value .isExp .proper .0) (value .proper) bracket (value .same)
     where
       less : (v : ℕ) → 42 * 2 ^ 46 ≤ v → 1023 * 2 ^ 53 - v < 1022 * 2 ^ 53 + 101 * 2 ^ 46
       less v h = omega arith
@@ -128,7 +128,7 @@ module _ (s : Bool) (m : ℕ) (e : ℤ) (fit : T (fits binary64 (fin s m e))) (i
       exponent = negative-at b (binaryOf b) refl (negative p) ∙ of s m e
 
   near-above : 1021 ≤ fieldOf b → s ≡ false → within (2 ^ 48) (valF (aboveOf (exponentOf (fin s m e)))) x
-  near-above l p = above-near (exponentOf (fin s m e)) (subst (λ (w : ℕ). 1023 * 2 ^ 53 + 42 * 2 ^ 46 ≤ w) exponent (more (binaryOf b) (binary-least b l))) (argument-near s m e fit inside bound .2) (value .e) x (value .isExp .proper .0) (value .proper) bracket (value .same)
+  near-above l p = above-near (exponentOf (fin s m e)) (subst (λ (w : ℕ). 1023 * 2 ^ 53 + 42 * 2 ^ 46 ≤ w) exponent (more (binaryOf b) (binary-least b l))) (argument-near s m e fit bound .2) (value .e) x (value .isExp .proper .0) (value .proper) bracket (value .same)
     where
       more : (v : ℕ) → 42 * 2 ^ 46 ≤ v → 1023 * 2 ^ 53 + 42 * 2 ^ 46 ≤ 1023 * 2 ^ 53 + v
       more v h = omega arith
@@ -161,7 +161,7 @@ unfolding expM1Of
 exp-m1-distance x v t f h w = go (expInside x) refl h
   where
     at : (s : Bool) × (m : ℕ) × (e : ℤ) × (x ≡ fin s m e) × (m * up e ≤ 700 * down e) → T (expInside x) → within (2 ^ 48) (valF (cond (ltb (fieldOf (toBits binary64 x)) 969) x (awayOf x))) t
-    at (s, m, e, p, q) i = subst (λ (y : Float). within (2 ^ 48) (valF (cond (ltb (fieldOf (toBits binary64 y)) 969) y (awayOf y))) t) (sym p) (near-any s m e (subst (λ (y : Float). T (fits binary64 y)) p f) (subst (λ (y : Float). T (expInside y)) p i) q t (subst (λ (y : Float). ExpM1Value (valF y) t) p w))
+    at (s, m, e, p, q) i = subst (λ (y : Float). within (2 ^ 48) (valF (cond (ltb (fieldOf (toBits binary64 y)) 969) y (awayOf y))) t) (sym p) (near-any s m e (subst (λ (y : Float). T (fits binary64 y)) p f) q t (subst (λ (y : Float). ExpM1Value (valF y) t) p w))
 
     go : (b : Bool) → b ≡ expInside x → cond b (held (cond (ltb (fieldOf (toBits binary64 x)) 969) x (awayOf x))) (refused 6) ≡ held v → within (2 ^ 48) (valF v) t
     go true p h = subst (λ (y : Float). within (2 ^ 48) (valF y) t) (same h) (at (exp-inside-is x (subst T p tt)) (subst T p tt))

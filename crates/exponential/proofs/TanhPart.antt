@@ -2,7 +2,7 @@
 use mathlib.Core.Path.{_≡_, refl, sym, ap, _∙_, subst}
 use mathlib.Core.Bool.{Bool, true, false, _&&_, not}
 use Prim.Native.Nat.{ℕ, zero, suc, _+_, _-_, _*_, _/_, _%_, _^_, _≤_, _<_}
-use native.Mathlib.Nat.{le-trans, le-of-eq, not-le-of-lt, mul-one, mul-assoc, mul-le-mul-left, mul-le-mul-right, le-of-mul-le-mul-right, div-le-of-le-mul, le-div-iff-mul-le}
+use native.Mathlib.Nat.{le-trans, le-of-eq, not-le-of-lt, mul-one, mul-assoc, mul-left-comm, mul-le-mul-left, mul-le-mul-right, le-of-mul-le-mul-right, div-le-of-le-mul, le-div-iff-mul-le}
 use native.Mathlib.Decide.{decLe}
 use native.Mathlib.Omega.{arith}
 use lib.IntN.{ℤ, pos}
@@ -52,7 +52,7 @@ unfolding minusOf
 minus-is w y z q x a b c e = rw (e, c, b, a)
 
 -- ---- above 0
-one-le : (k : ℕ) → 2 ^ 63 / 2 ^ k ≤ 2 ^ 63
+pub one-le : (k : ℕ) → 2 ^ 63 / 2 ^ k ≤ 2 ^ 63
 one-le k = div-le-of-le-mul (2 ^ k) (le-trans (lit≤ tt) (mul-le-mul-right (2 ^ 63) (pow-pos k)))
 
 half-le : (k : ℕ) → 1 ≤ k → 2 ^ 63 / 2 ^ k ≤ 2 ^ 62
@@ -183,6 +183,17 @@ tanh-bits-le x f h = go (tanh-inside-is x h)
 digits-lt : (b : ℕ) → b % 4503599627370496 < 4503599627370496
 digits-lt b = omega arith
 
+-- one more in the exponent's field is twice the size
+units-twice : (f t : ℕ) → 1 ≤ f → unitsOf (f + 1) t ≡ 2 * unitsOf f t
+units-twice zero t h = absurd (none h)
+  where
+    none : 1 ≤ 0 → ⊥
+    none h = omega arith
+units-twice (suc k) t h = ap (λ (f : ℕ). unitsOf f t) (step k) ∙ ap (λ (p : ℕ). (4503599627370496 + t) * p) (pow-add 2 1 k) ∙ mul-left-comm (4503599627370496 + t) 2 (2 ^ k)
+  where
+    step : (k : ℕ) → suc k + 1 ≡ suc (1 + k)
+    step k = omega arith
+
 module _ (b : ℕ) (units : unitsOf (fieldOf b) (b % 4503599627370496) ≤ 350 * 2 ^ 1074) where
   pub twice-low : fieldOf b ≤ 1031
   twice-low = go (fieldOf b) (b % 4503599627370496) (field-lt 350 (fieldOf b) (b % 4503599627370496) (lit< tt) (digits-lt b) units) (size-le-of 350 (fieldOf b) (b % 4503599627370496) (lit< tt) (digits-lt b) units) (decLe 1032 (fieldOf b))
@@ -200,23 +211,6 @@ module _ (b : ℕ) (units : unitsOf (fieldOf b) (b % 4503599627370496) ≤ 350 *
       go f t h k (yes l) = absurd (never t (subst (λ (f : ℕ). (t + 4503599627370496) * 2048 / 2 ^ (1032 - f) ≤ 350 * 2 ^ 54) (same f h l) k))
       go f t h k (no l) = less f l
 
-  -- the size of 2x
-  twice-units : 1006 ≤ fieldOf b → unitsOf (fieldOf b + 1) (b % 4503599627370496) ≤ 700 * 2 ^ 1074
-  twice-units l = go (fieldOf b) (b % 4503599627370496) l units
-    where
-      double : (x p : ℕ) → x * p ≤ 350 * 2 ^ 1074 → x * (p * 2) ≤ 700 * 2 ^ 1074
-      double x p h = le-trans (le-of-eq (sym (mul-assoc x p 2))) (le-trans (mul-le-mul-right 2 h) (lit≤ tt))
-
-      go : (f t : ℕ) → 1006 ≤ f → unitsOf f t ≤ 350 * 2 ^ 1074 → unitsOf (f + 1) t ≤ 700 * 2 ^ 1074
-      go zero t l h = absurd (none l)
-        where
-          none : 1006 ≤ 0 → ⊥
-          none l = omega arith
-      go (suc k) t l h = subst (λ (f : ℕ). unitsOf f t ≤ 700 * 2 ^ 1074) (step k) (subst (λ (p : ℕ). (4503599627370496 + t) * p ≤ 700 * 2 ^ 1074) (sym (pow-add 2 k 1)) (double (4503599627370496 + t) (2 ^ k) h))
-        where
-          step : (k : ℕ) → suc (k + 1) ≡ suc k + 1
-          step k = omega arith
-
   module _ (l : 1006 ≤ fieldOf b) where
     pub twice-field-le : fieldOf (b + 2 ^ 52) ≤ 1032
     twice-field-le = subst (λ (f : ℕ). f ≤ 1032) (sym (twice-field b twice-low l)) (lin (fieldOf b) twice-low)
@@ -224,11 +218,18 @@ module _ (b : ℕ) (units : unitsOf (fieldOf b) (b % 4503599627370496) ≤ 350 *
         lin : (f : ℕ) → f ≤ 1031 → f + 1 ≤ 1032
         lin f h = omega arith
 
-    pub twice-binary-le : binaryOf (b + 2 ^ 52) ≤ 1010 * 2 ^ 53
-    twice-binary-le = div-le-of-le-mul (2 ^ 64) (le-trans (mul-le-mul-right 13306513097844322491 (size-le-of 700 (fieldOf (b + 2 ^ 52)) ((b + 2 ^ 52) % 4503599627370496) (lit< tt) (digits-lt (b + 2 ^ 52)) (subst (λ (f : ℕ). unitsOf f ((b + 2 ^ 52) % 4503599627370496) ≤ 700 * 2 ^ 1074) (sym (twice-field b twice-low l)) (subst (λ (t : ℕ). unitsOf (fieldOf b + 1) t ≤ 700 * 2 ^ 1074) (same b) (twice-units l))))) (lit≤ tt))
+    -- the size of 2x
+    pub twice-size : unitsOf (fieldOf (b + 2 ^ 52)) ((b + 2 ^ 52) % 4503599627370496) ≡ 2 * unitsOf (fieldOf b) (b % 4503599627370496)
+    twice-size = ap (λ (f : ℕ). unitsOf f ((b + 2 ^ 52) % 4503599627370496)) (twice-field b twice-low l) ∙ ap (λ (t : ℕ). unitsOf (fieldOf b + 1) t) (same b) ∙ units-twice (fieldOf b) (b % 4503599627370496) (le-trans (lit≤ tt) l)
       where
-        same : (b : ℕ) → b % 4503599627370496 ≡ (b + 2 ^ 52) % 4503599627370496
+        same : (b : ℕ) → (b + 2 ^ 52) % 4503599627370496 ≡ b % 4503599627370496
         same b = omega arith
+
+    pub twice-units : unitsOf (fieldOf (b + 2 ^ 52)) ((b + 2 ^ 52) % 4503599627370496) ≤ 700 * 2 ^ 1074
+    twice-units = le-trans (le-of-eq twice-size) (le-trans (mul-le-mul-left 2 units) (lit≤ tt))
+
+    pub twice-binary-le : binaryOf (b + 2 ^ 52) ≤ 1010 * 2 ^ 53
+    twice-binary-le = div-le-of-le-mul (2 ^ 64) (le-trans (mul-le-mul-right 13306513097844322491 (size-le-of 700 (fieldOf (b + 2 ^ 52)) ((b + 2 ^ 52) % 4503599627370496) (lit< tt) (digits-lt (b + 2 ^ 52)) twice-units)) (lit≤ tt))
 
 -- ---- the answer
 module _ (x : Float) where

@@ -41,7 +41,7 @@ regroup (frac p m c) n d f = go p m c n d f
     go p m c n d f = simp (ring, mul-zero, zero-mul, add-zero, zero-add) (omega arith)
 
 -- the sum less its first two terms, one term more
-split : (s t u : Frac) → eqF (subF (addF s t) u) (addF (subF s u) t)
+pub split : (s t u : Frac) → eqF (subF (addF s t) u) (addF (subF s u) t)
 split (frac p n d) (frac q m c) (frac a b e) = (one p n d q m c a b e, two p n d q m c a b e)
   where
     one : (p n d q m c a b e : ℕ) → leF (subF (addF (frac p n d) (frac q m c)) (frac a b e)) (addF (subF (frac p n d) (frac a b e)) (frac q m c))

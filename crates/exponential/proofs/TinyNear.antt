@@ -28,13 +28,13 @@ zero-apart (frac p n d) (frac q m c) h = (one p n d q m c (h .0), two p n d q m 
     two p n d q m c h = let k = simp (ring, zero-mul, add-zero, zero-add) at h in omega arith
 
 -- a ≤ b + x from a - b ≤ x
-moved : (a b x : Frac) → Pos b → leF (subF a b) x → leF a (addF b x)
+pub moved : (a b x : Frac) → Pos b → leF (subF a b) x → leF a (addF b x)
 moved (frac p n d) (frac q m c) (frac r s f) B h = le-of-mul-le-mul-right {k = c} (go p n d q m c r s f (mul-le-mul-right c h)) B
   where
     go : (p n d q m c r s f : ℕ) → ((p * c + m * d) * f + s * (d * c)) * c ≤ (r * (d * c) + (n * c + q * d) * f) * c → (p * (c * f) + (m * f + s * c) * d) * c ≤ ((q * f + r * c) * d + n * (c * f)) * c
     go p n d q m c r s f h = let k = simp ring at h in simp ring (omega arith)
 
-moved-back : (a b x : Frac) → Pos a → leF (negF (subF a b)) x → leF b (addF a x)
+pub moved-back : (a b x : Frac) → Pos a → leF (negF (subF a b)) x → leF b (addF a x)
 moved-back (frac p n d) (frac q m c) (frac r s f) A h = le-of-mul-le-mul-right {k = d} (go p n d q m c r s f (mul-le-mul-right d h)) A
   where
     go : (p n d q m c r s f : ℕ) → ((n * c + q * d) * f + s * (d * c)) * d ≤ (r * (d * c) + (p * c + m * d) * f) * d → (q * (d * f) + (n * f + s * d) * c) * d ≤ ((p * f + r * d) * c + m * (d * f)) * d

@@ -1,0 +1,2 @@
+pub mod Diameter
+pub mod Answer
