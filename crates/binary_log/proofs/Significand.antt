@@ -465,15 +465,15 @@ module _ (m : ℕ) (lo : 2 ^ 52 ≤ m) (hi : m < 2 ^ 53) where
       (fin-hi1 (2 * 2 ^ 61 * md * p) (mn * 2 ^ 61 * q) mn (significandLog m) (eightTerms (gapOf m)) q (r .0), fin-lo1 (2 * 2 ^ 61 * md * p) (mn * 2 ^ 61 * q) mn (significandLog m) (eightTerms (gapOf m)) q (r .1))
 
   -- on which side of a half
-  pub upper-half : 2 ^ 60 + 2 ≤ significandLog m → 42 ≤ j
-  upper-half h = go (decLe 42 j)
+  pub upper-half : 2 ^ 60 + 2 ≤ significandLog m → 46 ≤ j
+  upper-half h = go (decLe 46 j)
     where
       never : (l r : ℕ) → 2 ^ 60 + 2 ≤ l - r → l ≤ 2 ^ 60 + 1 → 1 ≤ 0
       never l r h k = omega arith
 
-      go : Dec (42 ≤ j) → 42 ≤ j
+      go : Dec (46 ≤ j) → 46 ≤ j
       go (yes k) = k
-      go (no k) = absurd (not-suc-le-zero {n = 0} (never (getD logs j 0) (eightTerms (gapOf m)) h (leb→le (getD logs j 0) (2 ^ 60 + 1) (pick (ltb 41 j) (leb (getD logs j 0) (2 ^ 60 + 1)) (and-r (unless (ltb j 55) (leb (2 ^ 60 + 2 ^ 55 + 2 ^ 53 + 2) (getD logs j 0))) (unless (ltb 41 j) (leb (getD logs j 0) (2 ^ 60 + 1))) (at sided logs sides j (bin-j m lo hi))) (λ (t : T (ltb 41 j)). absurd (k (ltb→lt 41 j t)))))))
+      go (no k) = absurd (not-suc-le-zero {n = 0} (never (getD logs j 0) (eightTerms (gapOf m)) h (leb→le (getD logs j 0) (2 ^ 60 + 1) (pick (ltb 45 j) (leb (getD logs j 0) (2 ^ 60 + 1)) (and-r (unless (ltb j 55) (leb (2 ^ 60 + 2 ^ 55 + 2 ^ 53 + 2) (getD logs j 0))) (unless (ltb 45 j) (leb (getD logs j 0) (2 ^ 60 + 1))) (at sided logs sides j (bin-j m lo hi))) (λ (t : T (ltb 45 j)). absurd (k (ltb→lt 45 j t)))))))
 
   pub lower-half : significandLog m ≤ 2 ^ 60 + 1 → j ≤ 54
   lower-half h = go (decLe j 54)
@@ -486,4 +486,4 @@ module _ (m : ℕ) (lo : 2 ^ 52 ≤ m) (hi : m < 2 ^ 53) where
 
       go : Dec (j ≤ 54) → j ≤ 54
       go (yes k) = k
-      go (no k) = absurd (not-suc-le-zero {n = 0} (never (getD logs j 0) (eightTerms (gapOf m)) h (subst (λ (c : ℕ). eightTerms ((2 ^ 63 - c * m) * 128) ≤ 2 ^ 55 + 2 ^ 53) (sym factor-is) (terms-small (gapAt j m) (h15 j (m % 2 ^ 45) m (bin-j m lo hi) (bin-t m) (bin-m m lo)))) (leb→le (2 ^ 60 + 2 ^ 55 + 2 ^ 53 + 2) (getD logs j 0) (pick (ltb j 55) (leb (2 ^ 60 + 2 ^ 55 + 2 ^ 53 + 2) (getD logs j 0)) (and-l (unless (ltb j 55) (leb (2 ^ 60 + 2 ^ 55 + 2 ^ 53 + 2) (getD logs j 0))) (unless (ltb 41 j) (leb (getD logs j 0) (2 ^ 60 + 1))) (at sided logs sides j (bin-j m lo hi))) (λ (t : T (ltb j 55)). absurd (less j k (ltb→lt j 55 t)))))))
+      go (no k) = absurd (not-suc-le-zero {n = 0} (never (getD logs j 0) (eightTerms (gapOf m)) h (subst (λ (c : ℕ). eightTerms ((2 ^ 63 - c * m) * 128) ≤ 2 ^ 55 + 2 ^ 53) (sym factor-is) (terms-small (gapAt j m) (h15 j (m % 2 ^ 45) m (bin-j m lo hi) (bin-t m) (bin-m m lo)))) (leb→le (2 ^ 60 + 2 ^ 55 + 2 ^ 53 + 2) (getD logs j 0) (pick (ltb j 55) (leb (2 ^ 60 + 2 ^ 55 + 2 ^ 53 + 2) (getD logs j 0)) (and-l (unless (ltb j 55) (leb (2 ^ 60 + 2 ^ 55 + 2 ^ 53 + 2) (getD logs j 0))) (unless (ltb 45 j) (leb (getD logs j 0) (2 ^ 60 + 1))) (at sided logs sides j (bin-j m lo hi))) (λ (t : T (ltb j 55)). absurd (less j k (ltb→lt j 55 t)))))))

@@ -74,9 +74,9 @@ lowest j l = leb l (2 ^ 61)
 pub units : T (every lowest 0 logs)
 units = tt
 
--- a logarithm is at least a half from the place 55 on, and at most a half up to the place 41, with room for the eight terms and for two units
+-- a logarithm is at least a half from the place 55 on, and at most a half up to the place 45, with room for the eight terms and for two units
 abbrev pub sided : ℕ → ℕ → Bool
-sided j l = unless (ltb j 55) (leb (2 ^ 60 + 2 ^ 55 + 2 ^ 53 + 2) l) && unless (ltb 41 j) (leb l (2 ^ 60 + 1))
+sided j l = unless (ltb j 55) (leb (2 ^ 60 + 2 ^ 55 + 2 ^ 53 + 2) l) && unless (ltb 45 j) (leb l (2 ^ 60 + 1))
 
 pub sides : T (every sided 0 logs)
 sides = tt

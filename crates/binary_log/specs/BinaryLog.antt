@@ -8,7 +8,7 @@ use Rattle.fixed_point.specs.Horner.{horner}
 use Rattle.binary_log.specs.Tables.{factors, logs, oddTerms, evenTerms}
 use Rattle.binary_log.specs.declared.Log.{Log}
 
--- 'Power: base 1/32 to 32. Ends belong, NaN never'
+-- 'Power: base 1/32 to 32, .. Ends belong, NaN never'
 unfoldable pub baseInside : Float → Bool
 baseInside x = le (ofBits binary64 0x3fa0_0000_0000_0000) x && le x (ofBits binary64 0x4040_0000_0000_0000)
 

@@ -2,7 +2,7 @@
 use mathlib.Core.Path.{_≡_, refl, sym, ap, ap₂, _∙_, subst}
 use mathlib.Core.List.{List, [], _∷_}
 use mathlib.Core.Bool.{Bool, _&&_}
-use Prim.Native.Nat.{ℕ, zero, suc, _+_, _*_, _/_, _^_, _≤_, _<_}
+use Prim.Native.Nat.{ℕ, zero, suc, _+_, _-_, _*_, _/_, _^_, _≤_, _<_}
 use native.Mathlib.Nat.{le-trans, le-of-eq, add-le-add, mul-comm, mul-assoc, add-mul, mul-add, add-comm, mul-one, one-mul, zero-mul, mul-zero, add-zero, zero-add, mul-le-mul, mul-le-mul-left, mul-le-mul-right, le-of-mul-le-mul-right, le-dest, mul-pos, one-le-pow, pow-suc, pow-zero}
 use native.Mathlib.Omega.{arith}
 use lib.Dec.{T, lit<}
@@ -595,7 +595,7 @@ module _ (n d : ℕ) where
           go : (r n : ℕ) → 0 < r → 0 < r + n
           go r n h = omega arith
 
-      U-pos : 0 < U d
+      pub U-pos : 0 < U d
       U-pos = mul-pos {m = L} (lit< tt) (one-le-pow 23 d d-pos)
 
       F-pos : 0 < K * U d ^ 29

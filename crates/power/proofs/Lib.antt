@@ -7,3 +7,7 @@ pub mod PowerNear
 pub mod Compose
 pub mod SeriesCut
 pub mod OneNear
+pub mod ExpLn
+pub mod ExponentOne
+pub mod Distance
+pub mod Exists

@@ -1,7 +1,7 @@
 -- Exponent 1 gives the base, and so is within 2 ^ -48 of every value of document 01's bracket: exp of ln x is near x. Assumes nothing.
 use mathlib.Core.Path.{_≡_, refl, sym, ap, _∙_, subst}
 use Prim.Native.Nat.{ℕ, _+_, _-_, _*_, _^_, _≤_, _<_}
-use native.Mathlib.Nat.{le-trans, le-of-eq, add-mul, one-mul, zero-mul, mul-zero, add-zero, zero-add, mul-le-mul-right, le-of-mul-le-mul-right, le-dest, mul-pos}
+use native.Mathlib.Nat.{le-trans, le-of-eq, add-mul, one-mul, zero-mul, mul-zero, add-zero, mul-le-mul-right, le-of-mul-le-mul-right, le-dest, mul-pos}
 use native.Mathlib.Omega.{arith}
 use lib.Dec.{lit<, lit≤}
 use Rattle.number.specs.Frac.{Frac, frac, Pos, leF, zeroF, negF, addF, subF, mulF}
@@ -25,7 +25,7 @@ abs-neg (frac p n d) = go p n d (more p n)
 abs-pos : (x : Frac) → Pos x → Pos (absF x)
 abs-pos (frac p n d) h = h
 
-turned : (x a : Frac) → Bound x a → Bound (negF x) a
+pub turned : (x a : Frac) → Bound x a → Bound (negF x) a
 turned (frac p n d) a h = (h .1, h .0)
 
 -- a distance as a bound
@@ -75,7 +75,7 @@ last D E x DP EP XP h l δ c e k p q =
     numbers δ c e k C E h = fin δ c e k (lin (δ * k) (e * c) (le-of-mul-le-mul-right {k = c * k} (le-of-mul-le-mul-right {k = 2 ^ 60} (same (2 ^ 60) δ c e k h) (lit< tt)) (mul-pos C E)))
       where
         same : (u δ c e k : ℕ) → leF (frac δ 0 c) (addF (mulF (frac 498 0 u) (frac e 0 k)) (mulF (frac 1012 0 u) (addF (frac e 0 k) (frac δ 0 c)))) → u * (δ * k) * (c * k) * u ≤ (1510 * (e * c) + 1012 * (δ * k)) * (c * k) * u
-        same u δ c e k h = let z = simp (ring, mul-zero, zero-mul, add-zero, zero-add) at h in simp ring (omega arith)
+        same u δ c e k h = let z = simp (ring, mul-zero, zero-mul, add-zero) at h in simp ring (omega arith)
 
         lin : (x y : ℕ) → 2 ^ 60 * x ≤ 1510 * y + 1012 * x → 2 ^ 48 * x ≤ y
         lin x y h = omega arith

@@ -9,7 +9,7 @@ use Rattle.binary_log.specs.BinaryLog.{baseInside, logOf}
 use Rattle.binary_log.specs.declared.Log.{Log}
 use Rattle.power.specs.declared.FixedExponent.{FixedExponent}
 
--- 'Power: exponent −192 to 192. Ends belong, NaN never'
+-- 'Power: .. exponent −192 to 192. Ends belong, NaN never'
 unfoldable pub exponentInside : Float → Bool
 exponentInside y = le (neg (ofBits binary64 0x4068_0000_0000_0000)) y && le y (ofBits binary64 0x4068_0000_0000_0000)
 
@@ -37,6 +37,6 @@ wordOf l y = cond (Bool·beq (l .negative) (y .negative)) (1023 * 2 ^ 53 + produ
 unfoldable pub powerOf : Log → FixedExponent → Float
 powerOf l y = cond (y .one) (l .base) (raiseOf (wordOf l y))
 
--- 'both arguments are tested': 6 outside either domain
+-- '6 if the argument is outside', of both domains
 unfoldable pub powfOf : Float → Float → Ans Float
 powfOf x y = demand 6 (baseInside x) >>= λ _. demand 6 (exponentInside y) >>= λ _. held (powerOf (logOf x) (exponentOf y))
