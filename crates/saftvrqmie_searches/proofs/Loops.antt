@@ -12,7 +12,8 @@ use Rattle.saftvrqmie_potential.specs.Potential.{PotentialIn}
 use Rattle.saftvrqmie_potential.specs.Staged.{potentialAt}
 use Rattle.saftvrqmie_potential.specs.declared.Shared.{Shared}
 use Rattle.saftvrqmie_potential.proofs.Staged.{at-either}
-use Rattle.saftvrqmie_searches.specs.Searches.{Counted, found, spent, small, searchFrom, searched, epsilon, zeroValue, zeroTested, sigmaSearch, depthSearch, zeroSearch, zeroSearchBy}
+use Rattle.saftvrqmie_searches.specs.declared.SearchKind.the-variants.{Sigma, Zero, Depth}
+use Rattle.saftvrqmie_searches.specs.Searches.{Counted, found, spent, small, searchFrom, searched, epsilon, zeroValue, zeroTested, sigmaSearch, depthSearch, zeroSearch, searchBy}
 
 -- ---- at the loop: k evaluations done; what is left, run on from here, is the whole search
 module _ (U : Float → Ans (PotentialIn Float)) (tested : PotentialIn Float → Float) (moved : Float → PotentialIn Float → Float → Float) where
@@ -35,14 +36,14 @@ module _ (U : Float → Ans (PotentialIn Float)) (tested : PotentialIn Float →
       unfolding searchFrom _>>=_
       outside-at n e = rw e at turn
 
-      module _ (v : PotentialIn Float) (e : U r ≡ held v) (t : Bool) (is-t : t ≡ small floats (tested v)) where
+      module _ (v : PotentialIn Float) (e : U r ≡ held v) (f : Float) (is-f : f ≡ tested v) (t : Bool) (is-t : t ≡ small floats f) where
         pub found-at : t ≡ true → held (record { search = found r (v .u); count = k + 1 }) ≡ whole
         unfolding searchFrom _>>=_
-        found-at q = let d : 19 - (19 - (k + 1)) ≡ k + 1 = omega arith in rw (e, ← is-t, q, d) at turn
+        found-at q = let d : 19 - (19 - (k + 1)) ≡ k + 1 = omega arith in rw (e, ← is-f, ← is-t, q, d) at turn
 
-        pub goes-on : t ≡ false → On whole (moved r v (tested v)) (v .u) (k + 1)
+        pub goes-on : (s : Float) → t ≡ false → s ≡ moved r v f → On whole s (v .u) (k + 1)
         unfolding searchFrom _>>=_
-        goes-on q = (omega arith, rw (e, ← is-t, q) at turn)
+        goes-on s q is-s = (omega arith, rw (e, ← is-f, ← is-t, q, ← is-s) at turn)
 
 -- ---- a pair without a potential at any radius has no search
 module _ (n : ℕ) where
@@ -61,6 +62,16 @@ module _ (n : ℕ) where
   unfolding zeroSearch searched searchFrom _>>=_
   zero-none t s = refl
 
+-- ---- two searches read no temperature and no logarithm
+module _ (U : Float → Ans (PotentialIn Float)) (t l s : Float) where
+  pub sigma-by : searchBy floats Sigma U t l s ≡ sigmaSearch floats U s
+  unfolding searchBy sigmaSearch
+  sigma-by = refl
+
+  pub depth-by : searchBy floats Depth U t l s ≡ depthSearch floats U s
+  unfolding searchBy depthSearch
+  depth-by = refl
+
 -- ---- the logarithm of EPSILON, asked once
 pub once : (a : Ans Float) (x : Float) → answered floats a x ≡ a
 unfolding answered _>>=_
@@ -72,8 +83,8 @@ module _ (w : Shared) (t s : Float) where
   unfolding zeroTested _>>=_
   tested-held l e = fun-ext (λ v. rw (once (port .ln epsilon) epsilon, e))
 
-  pub log-held : (l : Float) → port .ln epsilon ≡ held l → zeroSearchBy floats (potentialAt w) t l s ≡ zeroSearch floats (potentialAt w) (calls floats port) t s
-  unfolding zeroSearch zeroSearchBy
+  pub log-held : (l : Float) → port .ln epsilon ≡ held l → searchBy floats Zero (potentialAt w) t l (floats .mul s (decimal false 7 1)) ≡ zeroSearch floats (potentialAt w) (calls floats port) t s
+  unfolding zeroSearch searchBy
   log-held l e = rw (tested-held l e)
 
   pub log-refused : port .ln epsilon ≡ refused 6 → refused 6 ≡ zeroSearch floats (potentialAt w) (calls floats port) t s

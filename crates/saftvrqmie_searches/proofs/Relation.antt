@@ -93,11 +93,11 @@ module _ (A B : Arith) (K : Rel A B) where
 
     pub sigmaEff-rel : Both (CountedR R) (sigmaEff A F p) (sigmaEff B G q)
     unfolding sigmaEff
-    sigmaEff-rel = sigmaSearch-rel _ _ at (P .sigma)
+    sigmaEff-rel = sigmaSearch-rel _ _ at (r-mul (r-lit _) (P .sigma))
 
     pub epsilonKEff-rel : Both (CountedR R) (epsilonKEff A F p) (epsilonKEff B G q)
     unfolding epsilonKEff
-    epsilonKEff-rel = depthSearch-rel _ _ at (P .sigma)
+    epsilonKEff-rel = depthSearch-rel _ _ at (r-mul (r-lit _) (P .sigma))
 
     pub zeroIntegrand-rel : {s : A .Num} {s' : B .Num} → R s s' → Both (CountedR R) (zeroIntegrand A F p s) (zeroIntegrand B G q s')
     unfolding zeroIntegrand

@@ -7,9 +7,11 @@ use Rattle.number.specs.Ans.{Ans, held, refused, _>>=_}
 use Rattle.number.specs.Arith.{Arith, decimal, zero64, bits}
 use Rattle.number.specs.Functions.{Functions}
 use Rattle.number.specs.Neighbour.{absolute}
-use Rattle.saftvrqmie_potential.specs.Potential.{PairIn, PotentialIn, potential}
+use Rattle.saftvrqmie_potential.specs.Potential.{PairIn, PotentialIn, whole, potential}
 use Rattle.saftvrqmie_searches.specs.declared.Search.{Search}
 use Rattle.saftvrqmie_searches.specs.declared.Search.the-variants.{Found, Spent}
+use Rattle.saftvrqmie_searches.specs.declared.SearchKind.{SearchKind}
+use Rattle.saftvrqmie_searches.specs.declared.SearchKind.the-variants.{Sigma, Zero, Depth}
 use Rattle.saftvrqmie_searches.specs.declared.SearchAnswer.{SearchAnswer}
 use Rattle.saftvrqmie_searches.specs.declared.SearchAnswer.the-variants.{Ended, Outside}
 
@@ -93,17 +95,27 @@ module _ (A : Arith) where
     unfoldable pub depthSearch : Num → Ans (Counted Num)
     depthSearch sigma = searched U (λ v. held (v .u-r)) depthStep sigma
 
-    -- with the logarithm of EPSILON at hand
-    unfoldable pub zeroSearchBy : Num → Num → Num → Ans (Counted Num)
-    zeroSearchBy temperature l sigma-eff = searched U (λ v. held (zeroValue temperature l v)) (zeroStep temperature) (sigma-eff ⊗ lit (decimal false 7 1))
-
     unfoldable pub zeroSearch : Functions Num → Num → Num → Ans (Counted Num)
     zeroSearch F temperature sigma-eff = searched U (zeroTested F temperature) (zeroStep temperature) (sigma-eff ⊗ lit (decimal false 7 1))
+
+  -- the three searches as one, with the logarithm l of EPSILON at hand: what is tested, and the step
+  abbrev pub testedBy : SearchKind → Num → Num → PotentialIn Num → Num
+  testedBy Sigma temperature l v = v .u
+  testedBy Zero temperature l v = zeroValue temperature l v
+  testedBy Depth temperature l v = v .u-r
+
+  abbrev pub stepBy : SearchKind → Num → Num → PotentialIn Num → Num → Num
+  stepBy Sigma temperature r v f = sigmaStep r v f
+  stepBy Zero temperature r v f = zeroStep temperature r v f
+  stepBy Depth temperature r v f = depthStep r v f
+
+  unfoldable pub searchBy : SearchKind → (Num → Ans (PotentialIn Num)) → Num → Num → Num → Ans (Counted Num)
+  searchBy kind U temperature l start = searched U (λ v. held (testedBy kind temperature l v)) (stepBy kind temperature) start
 
   module _ (F : Functions Num) (p : PairIn Num) where
     -- `calc_sigma_eff_ij`: from sigma_ij to where u is zero
     unfoldable pub sigmaEff : Ans (Counted Num)
-    sigmaEff = sigmaSearch (potential A F p) (p .sigma)
+    sigmaEff = sigmaSearch (potential A F p) (whole A 1 ⊗ p .sigma)
 
     -- `zero_integrand`: from 0.7 sigma_eff to where exp(-u / T) is EPSILON
     unfoldable pub zeroIntegrand : Num → Ans (Counted Num)
@@ -111,4 +123,4 @@ module _ (A : Arith) where
 
     -- `calc_epsilon_k_eff_ij`: from sigma_ij to where u_r is zero; epsilon_k_eff is minus the last potential
     unfoldable pub epsilonKEff : Ans (Counted Num)
-    epsilonKEff = depthSearch (potential A F p) (p .sigma)
+    epsilonKEff = depthSearch (potential A F p) (whole A 1 ⊗ p .sigma)

@@ -5,13 +5,14 @@ ghost use Rattle.number.specs.Answer.{answer};
 ghost use Rattle.number.specs.Arith.{floats};
 ghost use Rattle.number.specs.Functions.{calls};
 ghost use Rattle.elementary.specs.Port.{port};
-ghost use Rattle.saftvrqmie_potential.specs.Potential.{pairIn};
+ghost use Rattle.saftvrqmie_potential.specs.Potential.{pairIn, potentialIn};
 ghost use Rattle.saftvrqmie_potential.specs.Staged.{potentialAt};
-ghost use Rattle.saftvrqmie_searches.specs.Searches.{searchAnswer, small, clamped, sigmaSearch, depthSearch, zeroSearchBy, sigmaEff, zeroIntegrand, epsilonKEff};
+ghost use Rattle.saftvrqmie_searches.specs.Searches.{searchAnswer, small, clamped, testedBy, stepBy, searchBy, sigmaSearch, zeroSearch, depthSearch, sigmaEff, zeroIntegrand, epsilonKEff};
 ghost use Rattle.saftvrqmie_searches.specs.Diameter.{abscissas, weights, entry, nodeTurn, diameterBy, diameter};
 use number::FloatAnswer;
 use saftvrqmie_potential::Pair;
 use saftvrqmie_potential::PotentialAnswer;
+use saftvrqmie_potential::QMiePotential;
 use saftvrqmie_potential::Shared;
 use saftvrqmie_potential::SharedAnswer;
 
@@ -76,6 +77,12 @@ pub enum SearchAnswer {
     Outside,
 }
 
+enum SearchKind {
+    Sigma,
+    Zero,
+    Depth,
+}
+
 fn is_small(x: f64) -> bool
     ensures { λ r. ⌜ r ≡ small floats x ⌝ }
 {
@@ -92,60 +99,69 @@ fn clamp(dr: f64) -> f64
     dr
 }
 
-fn sigma_search(w: Shared, sigma: f64) -> SearchAnswer
+// The value that a search tests; l is the logarithm of EPSILON.
+fn tested(kind: SearchKind, temperature: f64, l: f64, v: QMiePotential) -> f64
+    ensures { λ r. ⌜ r ≡ testedBy floats kind temperature l (potentialIn v) ⌝ }
+{
+    match kind {
+        SearchKind::Sigma => v.u,
+        SearchKind::Zero => v.u / temperature + l,
+        SearchKind::Depth => v.u_r,
+    }
+}
+
+// The next radius, from the radius, its potential and the tested value.
+fn stepped(kind: SearchKind, temperature: f64, r: f64, v: QMiePotential, f: f64) -> f64
+    ensures { λ s. ⌜ s ≡ stepBy floats kind temperature r (potentialIn v) f ⌝ }
+{
+    match kind {
+        SearchKind::Sigma => r + -v.u / v.u_r,
+        SearchKind::Zero => r + clamp(-(f / (v.u_r / temperature))),
+        SearchKind::Depth => r + -v.u_r / v.u_rr,
+    }
+}
+
+// One search. The logarithm of EPSILON is handed in: it is the same at every evaluation.
+fn radius_search(kind: SearchKind, w: Shared, temperature: f64, l: f64, start: f64) -> SearchAnswer
+    ensures { λ r. ⌜ searchAnswer r ≡ searchBy floats kind (potentialAt w) temperature l start ⌝ }
+{
+    let mut r = start;
+    let mut u = 0.0;
+    for k in 0u8..19u8 {
+        let PotentialAnswer::Value(v) = saftvrqmie_potential::potential_at(w, r) else {
+            return SearchAnswer::Outside;
+        };
+        let f = tested(kind, temperature, l, v);
+        let count = k + 1;
+        if is_small(f) {
+            return SearchAnswer::Ended(Search::Found(r, v.u), count);
+        }
+        r = stepped(kind, temperature, r, v, f);
+        u = v.u;
+    }
+    SearchAnswer::Ended(Search::Spent(r, u), 20)
+}
+
+// The three searches from what a pair's radii share.
+pub fn sigma_search(w: Shared, sigma: f64) -> SearchAnswer
     ensures { λ r. ⌜ searchAnswer r ≡ sigmaSearch floats (potentialAt w) sigma ⌝ }
 {
-    let mut r = sigma;
-    let mut u = 0.0;
-    for k in 0u8..19u8 {
-        let PotentialAnswer::Value(v) = saftvrqmie_potential::potential_at(w, r) else {
-            return SearchAnswer::Outside;
-        };
-        if is_small(v.u) {
-            return SearchAnswer::Ended(Search::Found(r, v.u), k + 1);
-        }
-        r = r + -v.u / v.u_r;
-        u = v.u;
-    }
-    SearchAnswer::Ended(Search::Spent(r, u), 20)
+    radius_search(SearchKind::Sigma, w, 0.0, 0.0, sigma)
 }
 
-fn depth_search(w: Shared, sigma: f64) -> SearchAnswer
+pub fn zero_search(w: Shared, temperature: f64, sigma_eff: f64) -> SearchAnswer
+    ensures { λ r. ⌜ searchAnswer r ≡ zeroSearch floats (potentialAt w) (calls floats port) temperature «sigma_eff» ⌝ }
+{
+    let FloatAnswer::Value(l) = elementary::ln(2.220446049250313e-16) else {
+        return SearchAnswer::Outside;
+    };
+    radius_search(SearchKind::Zero, w, temperature, l, sigma_eff * 0.7)
+}
+
+pub fn depth_search(w: Shared, sigma: f64) -> SearchAnswer
     ensures { λ r. ⌜ searchAnswer r ≡ depthSearch floats (potentialAt w) sigma ⌝ }
 {
-    let mut r = sigma;
-    let mut u = 0.0;
-    for k in 0u8..19u8 {
-        let PotentialAnswer::Value(v) = saftvrqmie_potential::potential_at(w, r) else {
-            return SearchAnswer::Outside;
-        };
-        if is_small(v.u_r) {
-            return SearchAnswer::Ended(Search::Found(r, v.u), k + 1);
-        }
-        r = r + -v.u_r / v.u_rr;
-        u = v.u;
-    }
-    SearchAnswer::Ended(Search::Spent(r, u), 20)
-}
-
-// The logarithm of EPSILON is handed in: it is one at all evaluations.
-fn zero_search(w: Shared, temperature: f64, l: f64, sigma_eff: f64) -> SearchAnswer
-    ensures { λ r. ⌜ searchAnswer r ≡ zeroSearchBy floats (potentialAt w) temperature l «sigma_eff» ⌝ }
-{
-    let mut r = sigma_eff * 0.7;
-    let mut u = 0.0;
-    for k in 0u8..19u8 {
-        let PotentialAnswer::Value(v) = saftvrqmie_potential::potential_at(w, r) else {
-            return SearchAnswer::Outside;
-        };
-        let f = v.u / temperature + l;
-        if is_small(f) {
-            return SearchAnswer::Ended(Search::Found(r, v.u), k + 1);
-        }
-        r = r + clamp(-(f / (v.u_r / temperature)));
-        u = v.u;
-    }
-    SearchAnswer::Ended(Search::Spent(r, u), 20)
+    radius_search(SearchKind::Depth, w, 0.0, 0.0, sigma)
 }
 
 // `calc_sigma_eff_ij`.
@@ -155,7 +171,7 @@ pub fn calc_sigma_eff(pair: Pair) -> SearchAnswer
     let SharedAnswer::At(w) = saftvrqmie_potential::share(pair) else {
         return SearchAnswer::Outside;
     };
-    sigma_search(w, pair.sigma)
+    sigma_search(w, 1.0 * pair.sigma)
 }
 
 // `zero_integrand`.
@@ -165,10 +181,7 @@ pub fn zero_integrand(pair: Pair, sigma_eff: f64) -> SearchAnswer
     let SharedAnswer::At(w) = saftvrqmie_potential::share(pair) else {
         return SearchAnswer::Outside;
     };
-    let FloatAnswer::Value(l) = elementary::ln(2.220446049250313e-16) else {
-        return SearchAnswer::Outside;
-    };
-    zero_search(w, pair.temperature, l, sigma_eff)
+    zero_search(w, pair.temperature, sigma_eff)
 }
 
 // `calc_epsilon_k_eff_ij`; epsilon_k_eff is minus the last potential.
@@ -178,7 +191,7 @@ pub fn calc_epsilon_k_eff(pair: Pair) -> SearchAnswer
     let SharedAnswer::At(w) = saftvrqmie_potential::share(pair) else {
         return SearchAnswer::Outside;
     };
-    depth_search(w, pair.sigma)
+    depth_search(w, 1.0 * pair.sigma)
 }
 
 // Entries of the rule: 21 nodes.
@@ -211,7 +224,7 @@ fn node(w: Shared, temperature: f64, sigma_eff: f64, r0: f64, k: usize, d_hs: f6
     FloatAnswer::Value(d_hs + width * (-e + 1.0) * weight(k))
 }
 
-fn diameter_by(w: Shared, temperature: f64, sigma_eff: f64, r0: f64) -> FloatAnswer
+pub fn diameter_by(w: Shared, temperature: f64, sigma_eff: f64, r0: f64) -> FloatAnswer
     ensures { λ r. ⌜ answer r ≡ diameterBy floats (calls floats port) (potentialAt w) temperature «sigma_eff» r0 ⌝ }
 {
     let mut d_hs = r0;

@@ -1,6 +1,8 @@
 -- `saftvrqmie_searches::calc_epsilon_k_eff` meets its contract. Assumes nothing.
 use Rattle.saftvrqmie_searches.proofs.Loops.{depth-none}
 use Rattle.saftvrqmie_searches.specs.Searches.{epsilonKEff}
+use lib.Ieee.{ofBits}
+use Rattle.number.specs.Arith.{decimal}
 use Rattle.saftvrqmie_potential.proofs.Staged.{shared-held, shared-refused}
 use Rattle.number.proofs.Walk.{via}
 use Rattle.saftvrqmie_potential.specs.Staged.{sharedAnswer}
@@ -25,8 +27,8 @@ depth-search-requires : tie.Need-depth-search-requires
 depth-search-requires c κs = search needs
 
 returns-2 : tie.Need-returns-2
-unfolding epsilonKEff
-returns-2 c = rw (shared-held _ _ (via sharedAnswer ((c .before .before .before .before .share) .ensures) ((c .before .before .w) .given .1))) ((c .depth-search) .ensures)
+unfolding epsilonKEff decimal ofBits
+returns-2 c = rw (shared-held _ _ (via sharedAnswer ((c .before .before .before .before .before .share) .ensures) ((c .before .before .before .w) .given .1))) ((c .depth-search) .ensures)
 
 pub calc-epsilon-k-eff-spec : {M : Type 1} → statement M
 calc-epsilon-k-eff-spec =

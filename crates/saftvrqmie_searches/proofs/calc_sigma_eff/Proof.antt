@@ -1,6 +1,8 @@
 -- `saftvrqmie_searches::calc_sigma_eff` meets its contract. Assumes nothing.
 use Rattle.saftvrqmie_searches.proofs.Loops.{sigma-none}
 use Rattle.saftvrqmie_searches.specs.Searches.{sigmaEff}
+use lib.Ieee.{ofBits}
+use Rattle.number.specs.Arith.{decimal}
 use Rattle.saftvrqmie_potential.proofs.Staged.{shared-held, shared-refused}
 use Rattle.number.proofs.Walk.{via}
 use Rattle.saftvrqmie_potential.specs.Staged.{sharedAnswer}
@@ -25,8 +27,8 @@ sigma-search-requires : tie.Need-sigma-search-requires
 sigma-search-requires c κs = search needs
 
 returns-2 : tie.Need-returns-2
-unfolding sigmaEff
-returns-2 c = rw (shared-held _ _ (via sharedAnswer ((c .before .before .before .before .share) .ensures) ((c .before .before .w) .given .1))) ((c .sigma-search) .ensures)
+unfolding sigmaEff decimal ofBits
+returns-2 c = rw (shared-held _ _ (via sharedAnswer ((c .before .before .before .before .before .share) .ensures) ((c .before .before .before .w) .given .1))) ((c .sigma-search) .ensures)
 
 pub calc-sigma-eff-spec : {M : Type 1} → statement M
 calc-sigma-eff-spec =

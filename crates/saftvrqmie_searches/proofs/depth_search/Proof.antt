@@ -1,79 +1,15 @@
 -- `saftvrqmie_searches::depth_search` meets its contract. Assumes nothing.
-use Rattle.saftvrqmie_searches.proofs.Loops.{On, spent-at, outside-at, found-at, goes-on}
-use Rattle.saftvrqmie_searches.specs.Searches.{depthStep, depthSearch, searched}
-use Rattle.number.specs.Arith.{floats}
-use Prim.Native.Nat.{_-_}
-use mathlib.Core.Path.{refl}
-use Rattle.number.proofs.Walk.{via}
-use Rattle.saftvrqmie_potential.specs.Potential.{potentialAnswer}
-use Rattle.saftvrqmie_potential.specs.Staged.{potentialAt}
-use lib.Ieee.{ofBits}
-use Rattle.number.specs.Arith.{decimal}
-use Rattle.saftvrqmie_potential.specs.Potential.{PotentialIn}
-use lib.Ieee.{Float}
+use Rattle.saftvrqmie_searches.proofs.Loops.{depth-by}
+use mathlib.Core.Path.{_∙_}
 use borrow.Author.Needs.{needs}
 use Rattle.saftvrqmie_searches.proofs.depth_search.Statement.{statement}
 use Rattle.saftvrqmie_searches.proofs.depth_search.Tie as tie
 
-abbrev Inv-loop : tie.InvT-loop
-Inv-loop w sigma r₀ u₀ k₀ r u k = On (potentialAt w) (λ (v : PotentialIn Float). v .u-r) (depthStep floats) (depthSearch floats (potentialAt w) sigma) r u k
+radius-search-requires : tie.Need-radius-search-requires
+radius-search-requires c κs = search needs
 
-abbrev μ-loop : tie.MeasureT-loop
-μ-loop w sigma r₀ u₀ k₀ r u k = 19 - k
-
-loop-holds : tie.Need-loop-holds Inv-loop μ-loop
-unfolding depthSearch searched decimal ofBits
-loop-holds c = (search needs, refl)
-
-potential-at-requires : tie.Need-potential-at-requires Inv-loop μ-loop
-potential-at-requires c κs = search needs
-
-enum-known-v : tie.Need-enum-known-v Inv-loop μ-loop
-enum-known-v c = search needs
-
-enum-told : tie.Need-enum-told Inv-loop μ-loop
-enum-told c = search needs
-
-returns : tie.Need-returns Inv-loop μ-loop
-returns c = outside-at _ _ _ _ _ _ _ ((c .before .before .before .before .loop) .inv) ((c .before .before .before .loop-test) .taken) _ (via potentialAnswer ((c .before .before .potential-at) .ensures) ((c .enum-told) .given .1))
-
-is-small-requires : tie.Need-is-small-requires Inv-loop μ-loop
-is-small-requires c κs = search needs
-
-add-t11 : tie.Need-add-t11 Inv-loop μ-loop
-add-t11 c = search needs
-
-returns-2 : tie.Need-returns-2 Inv-loop μ-loop
-returns-2 c = found-at _ _ _ _ _ _ _ ((c .before .before .before .before .before .before .before .loop) .inv) ((c .before .before .before .before .before .before .loop-test) .taken) _ (via potentialAnswer ((c .before .before .before .before .before .potential-at) .ensures) ((c .before .before .before .v) .given .1)) _ ((c .before .is-small) .ensures) ((c .if1) .taken)
-
-add-k : tie.Need-add-k Inv-loop μ-loop
-add-k c = search needs
-
-loop-less : tie.Need-loop-less Inv-loop μ-loop
-loop-less c = search needs
-
-loop-again : tie.Need-loop-again Inv-loop μ-loop
-unfolding decimal ofBits
-loop-again c = (goes-on _ _ _ _ _ _ _ ((c .before .before .before .before .before .before .before .before .before .loop) .inv) ((c .before .before .before .before .before .before .before .before .loop-test) .taken) _ (via potentialAnswer ((c .before .before .before .before .before .before .before .potential-at) .ensures) ((c .before .before .before .before .before .v) .given .1)) _ ((c .before .before .before .is-small) .ensures) ((c .before .before .if1) .left))
-
-returns-3 : tie.Need-returns-3 Inv-loop μ-loop
-returns-3 c = spent-at _ _ _ _ _ _ _ ((c .before .loop) .inv) ((c .loop-test) .left)
+returns : tie.Need-returns
+returns c = (c .radius-search) .ensures ∙ depth-by _ _ _ _
 
 pub depth-search-spec : {M : Type 1} → statement M
-depth-search-spec =
-    tie.close
-    (tie.spec
-    Inv-loop
-    μ-loop
-    loop-holds
-    potential-at-requires
-    enum-known-v
-    enum-told
-    returns
-    is-small-requires
-    add-t11
-    returns-2
-    add-k
-    loop-less
-    loop-again
-    returns-3)
+depth-search-spec = tie.close (tie.spec radius-search-requires returns)
