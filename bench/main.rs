@@ -8,6 +8,11 @@ extern "C" {
     fn domthelv_bench_interval(op: u8, x: f64, y: f64, n: u64) -> f64;
 }
 
+#[link(name = "power_bench", kind = "static")]
+extern "C" {
+    fn domthelv_bench_powers(x: f64, exponents: &[f64; 14]) -> f64;
+}
+
 #[link(name = "domthelv", kind = "static")]
 extern "C" {
     fn domthelv_sqrt(x: f64, out: &mut f64) -> u8;
@@ -92,6 +97,17 @@ fn power() {
     println!("{:<14} {:>9.2} {:>9.2} {:>6.1}x {:>5.1}x", "powf", b, a, a / b, 1.5);
 }
 
+/// Fourteen exponents of one base a turn: the port works the base's logarithm once.
+fn powers() {
+    let (bases, list) = (arguments(0.3, 3.0), arguments(3.0, 20.0));
+    let exponents: [f64; 14] = std::array::from_fn(|i| list[i]);
+    let turns = 5 * bases.len() as u64;
+    let over = |f: &dyn Fn(f64) -> f64| best(turns, |n| (0..n as usize).map(|i| f(bases[i % 4096])).sum());
+    let a = over(&|x| unsafe { domthelv_bench_powers(x, &exponents) });
+    let b = over(&|x| exponents.iter().map(|&y| black_box(x).powf(black_box(y))).sum());
+    println!("{:<14} {:>9.2} {:>9.2} {:>6.2}x {:>5.1}x", "14 powers", b, a, a / b, 0.7);
+}
+
 fn main() {
     intervals();
     println!("elementary functions: independent calls on random arguments");
@@ -103,4 +119,5 @@ fn main() {
     elementary("exp_m1", -20.0, 20.0, 1.6, domthelv_exp_m1, f64::exp_m1);
     elementary("tanh", -5.0, 5.0, 1.8, domthelv_tanh, f64::tanh);
     power();
+    powers();
 }

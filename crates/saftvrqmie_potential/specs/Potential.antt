@@ -142,6 +142,10 @@ module _ (A : Arith) where
     abbrev d : Num
     d = quantumD F (p .mass) (p .temperature)
 
+    -- q1, q2 and d are worked at every order, whether used or not: u stands after them
+    unfoldable pub afterShared : PotentialIn Num → PotentialIn Num
+    afterShared v = record { u = after q1r (after q1a (after q2r (after q2a (after d (v .u))))); u-r = v .u-r; u-rr = v .u-rr }
+
     module _ (r : Num) where
       -- a line with its four powers: of the radius er and ea, of sigma lr and la
       unfoldable pub line : Num → Num → (Num → Num → Num → Num → Num) → Ans Num
@@ -172,10 +176,6 @@ module _ (A : Arith) where
           line (p .lr ⊕ whole 5) (p .la ⊕ whole 5) (urSecond (p .lr) (p .la) q2r q2a) >>= λ y.
           line (p .lr ⊕ whole 6) (p .la ⊕ whole 6) (urrSecond (p .lr) (p .la) q2r q2a) >>= λ z.
           held (corrected (pow d 2) v x y z)
-
-      -- q1, q2 and d are worked at every order, whether used or not: u stands after them
-      unfoldable pub afterShared : PotentialIn Num → PotentialIn Num
-      afterShared v = record { u = after q1r (after q1a (after q2r (after q2a (after d (v .u))))); u-r = v .u-r; u-rr = v .u-rr }
 
       unfoldable pub potential : Ans (PotentialIn Num)
       potential =

@@ -1,4 +1,4 @@
--- What the float code works once for a pair, and the potential from it: the same bits and refusals, the powers in their stages.
+-- What the float code works once for a pair, and the potential from it, with the powers in their stages: the contracts of helpers alone. That this is the potential, bits and refusals, is shown in proofs/Staged (`shared-held`, `shared-refused`).
 use Prim.Native.Nat.{ℕ}
 use lib.Ieee.{Float}
 use mathlib.Core.Bool.{Bool, true, _&&_, cond}
@@ -16,6 +16,7 @@ use Rattle.saftvrqmie_potential.specs.declared.Shared.{Shared}
 use Rattle.saftvrqmie_potential.specs.declared.SharedAnswer.{SharedAnswer}
 use Rattle.saftvrqmie_potential.specs.declared.SharedAnswer.the-variants.{At, Outside}
 
+-- the number or value of each case of `SharedAnswer`
 abbrev pub sharedAnswer : SharedAnswer → Ans Shared
 sharedAnswer (At w) = held w
 sharedAnswer Outside = refused 6
@@ -24,10 +25,11 @@ sharedAnswer Outside = refused 6
 abbrev pub plus : Float → Float → Float
 plus l k = floats .add l k
 
--- lr + k and la + k lie within the power's domain
+-- a line's two exponents lie within the power's domain
 abbrev pub bothInside : Float → Float → Bool
 bothInside er ea = exponentInside er && exponentInside ea
 
+-- those of lr + k and la + k
 abbrev pub bothAt : Float → Float → ℕ → Bool
 bothAt lr la k = bothInside (plus lr (whole floats k)) (plus la (whole floats k))
 

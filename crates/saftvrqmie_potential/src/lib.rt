@@ -1,4 +1,4 @@
-// The quantum Mie potential of a pair, its three radius searches and its diameter (saftvrqmie/eos/hard_sphere.rs), in floats.
+// The quantum Mie potential of a pair with its two derivatives (saftvrqmie/eos/hard_sphere.rs), in floats.
 // What all radii of a pair share is worked once (`Shared`): powers of sigma, exponents, factors. At a radius its logarithm is taken once, and each power of it once.
 ghost use mathlib.Core.Path.{_≡_};
 ghost use mathlib.Core.Bool.{true, cond};
@@ -290,7 +290,7 @@ pub fn potential_at(w: Shared, r: f64) -> PotentialAnswer
     PotentialAnswer::Value(values_at(w, binary_log::log_base(r)))
 }
 
-// The potential alone, where nothing reads its derivatives: their powers refuse nothing that this does not.
+// The potential alone, where nothing reads its derivatives. Their powers need not be worked: what they refuse is tested once for the pair.
 fn u_value(w: Shared, l: Log) -> f64
     ensures { λ r. ⌜ r ≡ valuesAt w l .u ⌝ }
 {

@@ -16,6 +16,9 @@ use saftvrqmie_potential::QMiePotential;
 use saftvrqmie_potential::Shared;
 use saftvrqmie_potential::SharedAnswer;
 
+// f64::EPSILON
+const EPSILON: f64 = 2.220446049250313e-16;
+
 // Abscissas and weights of the 21-node rule of QUADPACK.
 const X_K21: [f64; 21] = [
     -0.995657163025808080735527280689003,
@@ -77,18 +80,21 @@ pub enum SearchAnswer {
     Outside,
 }
 
+// Which of the three searches.
 enum SearchKind {
     Sigma,
     Zero,
     Depth,
 }
 
+// Whether a search leaves: the tested value is below 1.0e-12 in size.
 fn is_small(x: f64) -> bool
     ensures { λ r. ⌜ r ≡ small floats x ⌝ }
 {
     number::abs(x) < 1.0e-12
 }
 
+// A step above 0.5 in size is multiplied by 0.5 / size, so that its size is 0.5 only to rounding.
 fn clamp(dr: f64) -> f64
     ensures { λ r. ⌜ r ≡ clamped floats dr ⌝ }
 {
@@ -152,7 +158,7 @@ pub fn sigma_search(w: Shared, sigma: f64) -> SearchAnswer
 pub fn zero_search(w: Shared, temperature: f64, sigma_eff: f64) -> SearchAnswer
     ensures { λ r. ⌜ searchAnswer r ≡ zeroSearch floats (potentialAt w) (calls floats port) temperature «sigma_eff» ⌝ }
 {
-    let FloatAnswer::Value(l) = elementary::ln(2.220446049250313e-16) else {
+    let FloatAnswer::Value(l) = elementary::ln(EPSILON) else {
         return SearchAnswer::Outside;
     };
     radius_search(SearchKind::Zero, w, temperature, l, sigma_eff * 0.7)
@@ -194,7 +200,7 @@ pub fn calc_epsilon_k_eff(pair: Pair) -> SearchAnswer
     depth_search(w, 1.0 * pair.sigma)
 }
 
-// Entries of the rule: 21 nodes.
+// Entries of the rule; k is the turn of a loop over its 21 nodes, and beyond them there is no entry.
 fn abscissa(k: usize) -> f64
     requires { ⌜ k < 21 ⌝ }
     ensures { λ r. ⌜ r ≡ entry (calls floats port) abscissas k ⌝ }
@@ -209,6 +215,7 @@ fn weight(k: usize) -> f64
     W_K21[k]
 }
 
+// One node's part, added. Nothing reads the derivatives there.
 fn node(w: Shared, temperature: f64, sigma_eff: f64, r0: f64, k: usize, d_hs: f64) -> FloatAnswer
     requires { ⌜ k < 21 ⌝ }
     ensures { λ r. ⌜ answer r ≡ nodeTurn floats (calls floats port) (potentialAt w) temperature «sigma_eff» r0 k «d_hs» ⌝ }
