@@ -49,12 +49,6 @@ def pack(s, y, e):
     return s * 2**63 + (e - l) * 2**52 + ((y << l >> 10) + 1) // 2
 
 
-def quotient(n, d):
-    u = d >> 32
-    g = n // (u + 1)
-    return (g << 32) + ((n - g * u << 32) - g * (d & 2**32 - 1)) // (u + 1)
-
-
 def exp(b):
     w = exponent(b)
     return ((w >> 53) - 1) * 2**52 + ((significand(w) >> 10) + 1) // 2
@@ -81,14 +75,10 @@ def tanh(b):
     if b >> 52 & 2047 < 1006:
         return b
     w = exponent(b + 2**52)
-    y = significand(w)
-    if b >> 63:
-        z = y >> 1023 - (w >> 53)
-        return pack(1, quotient((2**63 - z) // 16, (2**63 + z) // 2) + 1, 1024)
-    o = 2**63 >> (w >> 53) - 1023
-    d = y // 2 + o // 2
-    q = quotient((y - o) // 32, d // 2) if w < 2**63 else quotient((y - o) // 16, d)
-    return pack(0, q + 1, 1024)
+    k = (w >> 53) - 1023
+    e = float((significand(w) >> max(0, -k)) // 4096)
+    one = float((2**63 >> max(0, k)) // 4096)
+    return bits((e - one) / (e + one))
 
 
 def arguments():

@@ -15,7 +15,7 @@ use lib.Ieee.Fits.{and-l, and-r, eq→eqb}
 use Rattle.fixed_point.proofs.Patterns64.{ofBits-is}
 
 -- ---- what is between - n and n, both floats
-or-le : (a b : ℕ) (c : Bool) → T (ltb a b || (eqb a b && c)) → a ≤ b
+pub or-le : (a b : ℕ) (c : Bool) → T (ltb a b || (eqb a b && c)) → a ≤ b
 or-le a b c h = go (ltb a b) refl h
   where
     go : (t : Bool) → t ≡ ltb a b → T (t || (eqb a b && c)) → a ≤ b

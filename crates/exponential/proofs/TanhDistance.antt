@@ -19,7 +19,7 @@ use Rattle.series.specs.Exact.{TanhValue}
 use Rattle.series.specs.Distance.{near}
 use Rattle.exponential.specs.Exp.{exponentAt}
 use Rattle.exponential.specs.ExpM1.{fieldOf}
-use Rattle.exponential.specs.Tanh.{tanhInside, tanhValueOf, tanhOf}
+use Rattle.exponential.specs.Tanh.{tanhInside, tanhRatioOf, tanhOf}
 use Rattle.exponential.proofs.Decode.{unitsOf, decoded}
 use Rattle.exponential.proofs.Argument.{units-le}
 use Rattle.exponential.proofs.Bounds.{Bound, bound-eq, sub-pos}
@@ -27,8 +27,8 @@ use Rattle.exponential.proofs.Position.{M}
 use Rattle.exponential.proofs.ExpNear.{bits-near}
 use Rattle.exponential.proofs.RaiseNear.{Bracket, raise-bracket}
 use Rattle.exponential.proofs.LargePart.{holds, fails}
-use Rattle.exponential.proofs.TanhPart.{tanh-inside-is, twice-low, twice-size, twice-units, minus-exponent, plus-exponent}
-use Rattle.exponential.proofs.TanhNear.{plus-near, minus-near}
+use Rattle.exponential.proofs.TanhPart.{tanh-inside-is, twice-low, twice-size, twice-units}
+use Rattle.exponential.proofs.TanhNear.{tanh-near}
 use Rattle.exponential.proofs.TanhTiny.{tiny-near}
 
 -- 2x, as its sign and size
@@ -138,22 +138,13 @@ module _ (s : Bool) (m : ℕ) (e : ℤ) (fit : T (fits binary64 (fin s m e))) (b
             let u = mulF (frac w (1023 * 2 ^ 53) (2 ^ 53)) M in
             bound-eq (subF t u) (subF v u) (frac 242 0 (2 ^ 60)) (sub-pos t u (sgn-pos s (2 * (m * up e)) (down e) (down-pos e)) (lit< tt)) (add-monoF v t (negF u) (negF u) (q .0) (le-reflF (negF u)), add-monoF t v (negF u) (negF u) (q .1) (le-reflF (negF u))) (argument .0)
 
-    near-away : near (2 ^ 48) (valF (tanhValueOf b)) x
-    unfolding tanhValueOf
-    near-away = go s refl
-      where
-        go : (t : Bool) → s ≡ t → near (2 ^ 48) (valF (tanhValueOf b)) x
-        go true p =
-            let r = minus-exponent b low l (negative p) w refl (argument .1) in
-            rw (sym sign-is ∙ p) (minus-near w (r .0) (r .1) (value .e) x (value .isExp .proper .0) bracket (value .same))
-        go false p =
-            let r = plus-exponent b low l (positive p) w refl (argument .2) in
-            rw (sym sign-is ∙ p) (plus-near w (r .0) (value .e) x (value .isExp .proper .0) bracket (value .same))
+    near-away : near (2 ^ 48) (valF (tanhRatioOf w)) x
+    near-away = tanh-near w (value .e) x (value .isExp .proper .0) bracket (value .same)
 
-  pub near-any : near (2 ^ 48) (valF (cond (ltb (fieldOf b) 1006) (fin s m e) (tanhValueOf b))) x
+  pub near-any : near (2 ^ 48) (valF (cond (ltb (fieldOf b) 1006) (fin s m e) (tanhRatioOf (exponentAt (b + 2 ^ 52))))) x
   near-any = go (decLe 1006 (fieldOf b))
     where
-      go : Dec (1006 ≤ fieldOf b) → near (2 ^ 48) (valF (cond (ltb (fieldOf b) 1006) (fin s m e) (tanhValueOf b))) x
+      go : Dec (1006 ≤ fieldOf b) → near (2 ^ 48) (valF (cond (ltb (fieldOf b) 1006) (fin s m e) (tanhRatioOf (exponentAt (b + 2 ^ 52))))) x
       go (yes h) = rw (fails (fieldOf b) 1006 h) (near-away h)
       go (no h) = rw (holds (fieldOf b) 1006 (lt-of-not-le h)) (near-tiny (lt-of-not-le h))
 
@@ -162,13 +153,13 @@ pub tanh-distance : (x v : Float) (t : Frac) → T (fits binary64 x) → tanhOf 
 unfolding tanhOf
 tanh-distance x v t f h w = go (tanhInside x) refl h
   where
-    at : (s : Bool) × (m : ℕ) × (e : ℤ) × (x ≡ fin s m e) × (m * up e ≤ 350 * down e) → near (2 ^ 48) (valF (cond (ltb (fieldOf (toBits binary64 x)) 1006) x (tanhValueOf (toBits binary64 x)))) t
-    at (s, m, e, p, q) = subst (λ (y : Float). near (2 ^ 48) (valF (cond (ltb (fieldOf (toBits binary64 y)) 1006) y (tanhValueOf (toBits binary64 y)))) t) (sym p) (near-any s m e (subst (λ (y : Float). T (fits binary64 y)) p f) q t (subst (λ (y : Float). TanhValue (valF y) t) p w))
+    at : (s : Bool) × (m : ℕ) × (e : ℤ) × (x ≡ fin s m e) × (m * up e ≤ 350 * down e) → near (2 ^ 48) (valF (cond (ltb (fieldOf (toBits binary64 x)) 1006) x (tanhRatioOf (exponentAt (toBits binary64 x + 2 ^ 52))))) t
+    at (s, m, e, p, q) = subst (λ (y : Float). near (2 ^ 48) (valF (cond (ltb (fieldOf (toBits binary64 y)) 1006) y (tanhRatioOf (exponentAt (toBits binary64 y + 2 ^ 52))))) t) (sym p) (near-any s m e (subst (λ (y : Float). T (fits binary64 y)) p f) q t (subst (λ (y : Float). TanhValue (valF y) t) p w))
 
-    go : (b : Bool) → b ≡ tanhInside x → cond b (held (cond (ltb (fieldOf (toBits binary64 x)) 1006) x (tanhValueOf (toBits binary64 x)))) (refused 6) ≡ held v → near (2 ^ 48) (valF v) t
+    go : (b : Bool) → b ≡ tanhInside x → cond b (held (cond (ltb (fieldOf (toBits binary64 x)) 1006) x (tanhRatioOf (exponentAt (toBits binary64 x + 2 ^ 52))))) (refused 6) ≡ held v → near (2 ^ 48) (valF v) t
     go true p h = subst (λ (y : Float). near (2 ^ 48) (valF y) t) (same h) (at (tanh-inside-is x (subst T p tt)))
       where
-        same : held (cond (ltb (fieldOf (toBits binary64 x)) 1006) x (tanhValueOf (toBits binary64 x))) ≡ held v → cond (ltb (fieldOf (toBits binary64 x)) 1006) x (tanhValueOf (toBits binary64 x)) ≡ v
+        same : held (cond (ltb (fieldOf (toBits binary64 x)) 1006) x (tanhRatioOf (exponentAt (toBits binary64 x + 2 ^ 52)))) ≡ held v → cond (ltb (fieldOf (toBits binary64 x)) 1006) x (tanhRatioOf (exponentAt (toBits binary64 x + 2 ^ 52))) ≡ v
         same h = cc
     go false p h = absurd (never h)
       where

@@ -1,29 +1,34 @@
 -- tanh's distance from document 01's values for an argument of at least 2 ^ -17 in size: the quotient of the core's numbers. Assumes nothing.
-use mathlib.Core.Path.{_≡_, refl, sym, ap, _∙_, subst}
-use mathlib.Core.Bool.{true, false}
+use mathlib.Core.Path.{_≡_, sym, ap, _∙_, subst}
+use mathlib.Core.Bool.{Bool, true, false, true≢false}
 use Prim.Native.Nat.{ℕ, _+_, _-_, _*_, _/_, _^_, _≤_, _<_}
-use native.Mathlib.Nat.{add-comm, add-mul, mul-add, mul-assoc, mul-comm, mul-left-comm, mul-zero, zero-mul, one-mul, mul-one, add-zero, zero-add, le-trans, le-of-eq, le-of-lt, le-dest, lt-of-not-le, mul-pos, mul-le-mul-left, mul-le-mul-right, le-of-mul-le-mul-right, div-mul-le-self, lt-div-mul-add}
+use native.Mathlib.Nat.{add-comm, add-mul, mul-assoc, mul-comm, mul-left-comm, mul-zero, zero-mul, one-mul, mul-one, add-zero, zero-add, le-refl, le-trans, le-of-eq, le-of-lt, le-dest, lt-of-not-le, lt-of-lt-of-le, add-le-add, mul-pos, mul-le-mul-left, mul-le-mul-right, mul-lt-mul-of-pos-right, le-of-mul-le-mul-right, div-mul-le-self, lt-div-mul-add, div-le-of-le-mul}
 use native.Mathlib.Decide.{decLe}
 use native.Mathlib.Omega.{arith}
-use lib.Dec.{lit<, lit≤}
+use lib.IntN.{pos}
+use lib.Dec.{T, eqb, eqb→eq, not-T, lit<, lit≤}
 use lib.Pow.{pow-pos, pow-add, pow-mono}
+use lib.Ieee.{Float, nan, inf, fin, up, down, unlike, binary64, ofInt, add, sub, sum, div, round, le, lt, eq, neg}
+use lib.Ieee.Back.{round-whole}
+use lib.Ieee.Bits.{is-false}
+use lib.Ieee.Exact.{HasValue, units-val, round-exact}
+use lib.Ieee.Fits.{down-pos, round-is}
+use lib.Ieee.Order.{kept, drop, transfer, round-mono}
+use lib.Ieee.Scale.{grid, overflow, finite, round-val, round-under, round-same}
 use Rattle.number.specs.Frac.{Frac, frac, Pos, leF, negF, addF, subF, mulF, divF, invF, valF}
 use Rattle.number.proofs.Frac.{ring, le-transF, add-monoF, neg-antiF, negF-pos}
 use Rattle.number.proofs.Hull.{inv-above}
 use Rattle.series.specs.Sums.{natF, absF, eqF}
 use Rattle.series.specs.Distance.{near}
-use Rattle.fixed_point.specs.Quotient.{quotient}
-use Rattle.fixed_point.specs.Pack.{packed}
-use Rattle.fixed_point.proofs.Packed.{size, packed-value, packed-up, packed-down}
-use Rattle.fixed_point.proofs.TwoDigits.{quotient-lo, quotient-hi}
 use Rattle.exponential.specs.Raise.{significandOf}
-use Rattle.exponential.specs.Tanh.{eighthOf, minusOf, plusOf}
+use Rattle.exponential.specs.Tanh.{expPart, onePart, tanhRatioOf}
 use Rattle.exponential.proofs.Digits.{significand-lo, significand-hi}
+use Rattle.exponential.proofs.Decode.{or-le}
 use Rattle.exponential.proofs.Bounds.{Bound, bound-eq, sub-pos, scaled}
 use Rattle.exponential.proofs.Value.{abs-le}
 use Rattle.exponential.proofs.RaiseNear.{Bracket, value-of}
-use Rattle.exponential.proofs.LargePart.{holds, fails, below-part}
-use Rattle.exponential.proofs.TanhPart.{eighth-room, minus-range, near-range, far-range, one-le}
+use Rattle.exponential.proofs.LargePart.{holds, fails}
+use Rattle.exponential.proofs.TanhPart.{small-part}
 
 -- ---- the distance, from a bound of the difference
 pub near-of : (r x s t : Frac) → Pos s → Pos t → eqF r s → eqF x t → Bound (subF s t) (frac 1 0 (2 ^ 48)) → near (2 ^ 48) r x
@@ -43,178 +48,235 @@ near-turned r x s t S T₁ p q b = near-of r x (negF s) (negF t) (negF-pos s S) 
     flip : (s t : Frac) → Bound (subF s t) (frac 1 0 (2 ^ 48)) → Bound (subF (negF s) (negF t)) (frac 1 0 (2 ^ 48))
     flip (frac p n d) (frac q m c) h = (h .1, h .0)
 
--- ---- the quotient in units of 2 ^ -61: y is within 512 D-th parts of N / D, and hardly above 1
-abbrev Close : ℕ → ℕ → ℕ → Type 0
-Close N D y = (y * D ≤ (N + 512) * 2 ^ 61) × (N * 2 ^ 61 ≤ y * D + 512 * 2 ^ 61) × (y ≤ 2 ^ 61 + 128)
+-- ---- the difference, the sum and the quotient of whole numbers in f64
+abbrev whole : ℕ → Float
+whole n = ofInt binary64 (pos n)
 
--- g n is N / 8 and g d is D, rounded down
-module _ (N D n d g : ℕ) (range : (2 ^ 62 ≤ d) × (5 * d ≤ 14 * 2 ^ 62) × (10 * n ≤ 3 * d)) (n-lo : 8 * (g * n) ≤ N) (n-hi : N ≤ 8 * (g * n) + 32) (d-lo : g * d ≤ D) (d-hi : D ≤ g * d + 4) (least : 2 ^ 63 ≤ D) (most : D ≤ 2 ^ 65) (ratio : N ≤ D) where
-  abbrev q : ℕ
-  q = quotient n d
+whole-is : (n : ℕ) → n ≤ 2 ^ 53 → HasValue (whole n) false n 1
+unfolding ofInt
+whole-is n h = round-whole binary64 false n h
 
-  q-lo : q * (g * d) ≤ g * n * 2 ^ 64
-  q-lo = le-trans (le-of-eq (mul-left-comm q g d)) (le-trans (mul-le-mul-left g (quotient-lo n d (range .0) (range .1) (range .2))) (le-of-eq (sym (mul-assoc g n (2 ^ 64)))))
+-- the size of one in units of both: a is m up e, D both denominators
+in-units : (m e a d : ℕ) → m * 1 ≡ a * e → m * d ≡ a * (e * d)
+in-units m e a d h = ap (λ (x : ℕ). x * d) (sym (mul-one m) ∙ h) ∙ mul-assoc a e d
 
-  q-hi : g * n * 2 ^ 64 ≤ (q + 17) * (g * d)
-  q-hi = le-trans (le-of-eq (mul-assoc g n (2 ^ 64))) (le-trans (mul-le-mul-left g (quotient-hi n d (range .0) (range .1) (range .2))) (le-of-eq (mul-left-comm g (q + 17) d)))
+in-units-too : (n d b e : ℕ) → n * 1 ≡ b * d → n * e ≡ b * (e * d)
+in-units-too n d b e h = ap (λ (x : ℕ). x * e) (sym (mul-one n) ∙ h) ∙ mul-assoc b d e ∙ ap (λ (x : ℕ). b * x) (mul-comm d e)
 
-  fits : q + 1 < 2 ^ 64
-  fits = eighth-room n d q (range .0) (range .1) (range .2) refl
+sum-is : (x y : Float) (a b : ℕ) → HasValue x false a 1 → HasValue y false b 1 → add binary64 x y ≡ round binary64 false (a + b) 1
+unfolding add sum
+sum-is nan y a b h k = absurd h
+sum-is (inf s) y a b h k = absurd h
+sum-is (fin true m e) y a b h k = absurd (true≢false (h .0))
+sum-is (fin false m e) nan a b h k = absurd k
+sum-is (fin false m e) (inf s) a b h k = absurd k
+sum-is (fin false m e) (fin true n d) a b h k = absurd (true≢false (k .0))
+sum-is (fin false m e) (fin false n d) a b h k = rw (in-units (m * up e) (down e) a (down d) (h .1), in-units-too (n * up d) (down d) b (down e) (k .1)) (round-same binary64 false (a * (down e * down d) + b * (down e * down d)) (down e * down d) (a + b) 1 (mul-pos (down-pos e) (down-pos d)) (lit< tt) (go (down e * down d)))
+  where
+    go : (c : ℕ) → (a * c + b * c) * 1 ≡ (a + b) * c
+    go c = mul-one (a * c + b * c) ∙ sym (add-mul a b c)
 
-  up : (q + 1) * D ≤ (N + 512) * 2 ^ 61
-  up = go q D (g * n) (g * d) N q-lo n-lo most fits (mul-le-mul-left q d-hi)
+-- a - b, not below 0
+plus-is : (x y : Float) (t b : ℕ) → HasValue x false (b + t) 1 → HasValue y false b 1 → sub binary64 x y ≡ round binary64 false t 1
+unfolding sub add neg sum
+plus-is nan y t b h k = absurd h
+plus-is (inf s) y t b h k = absurd h
+plus-is (fin true m e) y t b h k = absurd (true≢false (h .0))
+plus-is (fin false m e) nan t b h k = absurd k
+plus-is (fin false m e) (inf s) t b h k = absurd k
+plus-is (fin false m e) (fin true n d) t b h k = absurd (true≢false (k .0))
+plus-is (fin false m e) (fin false n d) t b h k = rw (in-units (m * up e) (down e) (b + t) (down d) (h .1), in-units-too (n * up d) (down d) b (down e) (k .1), fails ((b + t) * (down e * down d)) (b * (down e * down d)) (mul-le-mul-right (down e * down d) (more b t))) (round-same binary64 false ((b + t) * (down e * down d) - b * (down e * down d)) (down e * down d) t 1 (mul-pos (down-pos e) (down-pos d)) (lit< tt) (go (down e * down d)))
+  where
+    more : (b t : ℕ) → b ≤ b + t
+    more b t = omega arith
+
+    go : (c : ℕ) → ((b + t) * c - b * c) * 1 ≡ t * c
+    go c = lin ((b + t) * c) (b * c) (t * c) (add-mul b t c)
+      where
+        lin : (x y z : ℕ) → x ≡ y + z → (x - y) * 1 ≡ z
+        lin x y z e = omega arith
+
+-- and below 0
+minus-is : (x y : Float) (t a : ℕ) → 0 < t → HasValue x false a 1 → HasValue y false (a + t) 1 → sub binary64 x y ≡ round binary64 true t 1
+unfolding sub add neg sum
+minus-is nan y t a T₁ h k = absurd h
+minus-is (inf s) y t a T₁ h k = absurd h
+minus-is (fin true m e) y t a T₁ h k = absurd (true≢false (h .0))
+minus-is (fin false m e) nan t a T₁ h k = absurd k
+minus-is (fin false m e) (inf s) t a T₁ h k = absurd k
+minus-is (fin false m e) (fin true n d) t a T₁ h k = absurd (true≢false (k .0))
+minus-is (fin false m e) (fin false n d) t a T₁ h k = rw (in-units (m * up e) (down e) a (down d) (h .1), in-units-too (n * up d) (down d) (a + t) (down e) (k .1), holds (a * (down e * down d)) ((a + t) * (down e * down d)) (mul-lt-mul-of-pos-right {k = down e * down d} (more a t T₁) (mul-pos (down-pos e) (down-pos d)))) (round-same binary64 true ((a + t) * (down e * down d) - a * (down e * down d)) (down e * down d) t 1 (mul-pos (down-pos e) (down-pos d)) (lit< tt) (go (down e * down d)))
+  where
+    more : (a t : ℕ) → 0 < t → a < a + t
+    more a t h = omega arith
+
+    go : (c : ℕ) → ((a + t) * c - a * c) * 1 ≡ t * c
+    go c = lin ((a + t) * c) (a * c) (t * c) (add-mul a t c)
+      where
+        lin : (x y z : ℕ) → x ≡ y + z → (x - y) * 1 ≡ z
+        lin x y z e = omega arith
+
+quotient-is : (s : Bool) (x y : Float) (a b : ℕ) → 0 < b → HasValue x s a 1 → HasValue y false b 1 → div binary64 x y ≡ round binary64 s a b
+unfolding div
+quotient-is s nan y a b P h k = absurd h
+quotient-is s (inf t) y a b P h k = absurd h
+quotient-is s (fin t m e) nan a b P h k = absurd k
+quotient-is s (fin t m e) (inf u) a b P h k = absurd k
+quotient-is s (fin t m e) (fin true n d) a b P h k = absurd (true≢false (k .0))
+quotient-is s (fin t m e) (fin false n d) a b P h k = rw (is-false (eqb n 0) (not-T (eqb n 0) (λ (u : T (eqb n 0)). some (eqb→eq n 0 u)))) (subst (λ (v : Bool). round binary64 v (m * up e * down d) (n * up d * down e) ≡ round binary64 s a b) (sym (same t s (h .0))) (round-same binary64 s (m * up e * down d) (n * up d * down e) a b (mul-pos (subst (λ (x : ℕ). 0 < x) (sym (k .1) ∙ mul-one (n * up d)) (mul-pos P (down-pos d))) (down-pos e)) P (cross (m * up e) (n * up d) (down e) (down d) (h .1) (k .1))))
+  where
+    same : (t s : Bool) → t ≡ s → unlike t false ≡ s
+    same false s p = p
+    same true s p = p
+
+    some : n ≡ 0 → ⊥
+    some p = none (b * down d) (mul-pos P (down-pos d)) (sym (k .1) ∙ ap (λ (n : ℕ). n * up d * 1) p ∙ ap (λ (x : ℕ). x * 1) (zero-mul (up d)))
+      where
+        none : (x : ℕ) → 0 < x → x ≡ 0 → ⊥
+        none x h e = omega arith
+
+    cross : (x y e d : ℕ) → x * 1 ≡ a * e → y * 1 ≡ b * d → x * d * b ≡ a * (y * e)
+    cross x y e d p q = ap (λ (z : ℕ). z * d * b) (sym (mul-one x) ∙ p) ∙ turn a b d e ∙ ap (λ (z : ℕ). a * (z * e)) (sym q ∙ mul-one y)
+      where
+        turn : (a b d e : ℕ) → a * e * d * b ≡ a * (b * d * e)
+        turn a b d e = simp (mul-assoc, mul-comm, mul-left-comm)
+
+-- the order of two f64s, as numbers
+le-values : (x y : Float) (a c b d : ℕ) → HasValue x false a c → HasValue y false b d → T (le x y) → a * d ≤ b * c
+unfolding le lt eq
+le-values nan y a c b d h k l = absurd h
+le-values (inf s) y a c b d h k l = absurd h
+le-values (fin true m e) y a c b d h k l = absurd (true≢false (h .0))
+le-values (fin false m e) nan a c b d h k l = absurd k
+le-values (fin false m e) (inf s) a c b d h k l = absurd k
+le-values (fin false m e) (fin true n f) a c b d h k l = absurd (true≢false (k .0))
+le-values (fin false m e) (fin false n f) a c b d h k l = transfer a b c d (m * up e) (n * up f) (down e) (down f) (down-pos e) (down-pos f) (sym (h .1)) (sym (k .1)) (or-le (m * up e * down f) (n * up f * down e) _ l)
+
+between-finite : (x r y : Float) (a c b d : ℕ) → HasValue x false a c → HasValue y false b d → T (le x r) → T (le r y) → T (finite r)
+unfolding le lt eq
+between-finite nan r y a c b d h k l u = absurd h
+between-finite (inf s) r y a c b d h k l u = absurd h
+between-finite (fin s m e) r nan a c b d h k l u = absurd k
+between-finite (fin s m e) r (inf t) a c b d h k l u = absurd k
+between-finite (fin s m e) nan (fin t n f) a c b d h k l u = absurd l
+between-finite (fin s m e) (inf true) (fin t n f) a c b d h k l u = absurd l
+between-finite (fin s m e) (inf false) (fin t n f) a c b d h k l u = absurd u
+between-finite (fin s m e) (fin v o g) (fin t n f) a c b d h k l u = tt
+
+-- a multiple of 2 ^ -52 is an f64
+grid-exact : (k : ℕ) → k < 2 ^ 53 → HasValue (round binary64 false k (2 ^ 52)) false k (2 ^ 52)
+grid-exact k h = round-exact binary64 false k (2 ^ 52) k 1022 (lit< tt) h (lt-of-lt-of-le (mul-lt-mul-of-pos-right {k = 2 ^ 1022} h (pow-pos 1022)) (lit≤ tt)) (sym (mul-assoc k (2 ^ 1022) (2 ^ 52)))
+
+module _ (a b : ℕ) (P : 0 < b) (ratio : a ≤ b) where
+  abbrev k : ℕ
+  k = a * 2 ^ 52 / b
+
+  k-le : k ≤ 2 ^ 52
+  k-le = div-le-of-le-mul b (mul-le-mul-right (2 ^ 52) ratio)
+
+  abbrev r : Float
+  r = round binary64 false a b
+
+  k-lo : k * b ≤ a * 2 ^ 52
+  k-lo = div-mul-le-self (a * 2 ^ 52) b
+
+  k-hi : a * 2 ^ 52 ≤ (k + 1) * b
+  k-hi = le-trans (le-of-lt (lt-div-mul-add {a = a * 2 ^ 52} {b = b} P)) (le-of-eq (more k b))
     where
-      go : (q D a f N : ℕ) → q * f ≤ a * 2 ^ 64 → 8 * a ≤ N → D ≤ 2 ^ 65 → q + 1 < 2 ^ 64 → q * D ≤ q * (f + 4) → (q + 1) * D ≤ (N + 512) * 2 ^ 61
-      go q D a f N h i j k l = lin (q * D) (q * f) q D a N ((q + 1) * D) h i j k (le-trans l (le-of-eq (mul-add q f 4))) (add-mul q 1 D)
-        where
-          lin : (x z q D a N y : ℕ) → z ≤ a * 2 ^ 64 → 8 * a ≤ N → D ≤ 2 ^ 65 → q + 1 < 2 ^ 64 → x ≤ z + q * 4 → y ≡ x + 1 * D → y ≤ (N + 512) * 2 ^ 61
-          lin x z q D a N y h i j k l e = omega arith
+      more : (x g : ℕ) → x * g + g ≡ (x + 1) * g
+      more x g = simp (add-mul, one-mul)
 
-  down : N * 2 ^ 61 ≤ (q + 1) * D + 512 * 2 ^ 61
-  down = go q D (g * n) (g * d) N q-hi n-hi most d-lo (mul-le-mul-left q d-lo)
+  low : HasValue (round binary64 false k (2 ^ 52)) false k (2 ^ 52)
+  low = grid-exact k (less k k-le)
     where
-      go : (q D a f N : ℕ) → a * 2 ^ 64 ≤ (q + 17) * f → N ≤ 8 * a + 32 → D ≤ 2 ^ 65 → f ≤ D → q * f ≤ q * D → N * 2 ^ 61 ≤ (q + 1) * D + 512 * 2 ^ 61
-      go q D a f N h i j k l = lin (q * D) (q * f) D f a N ((q + 1) * D) (le-trans h (le-of-eq (add-mul q 17 f))) i j k l (add-mul q 1 D)
-        where
-          lin : (x z D f a N y : ℕ) → a * 2 ^ 64 ≤ z + 17 * f → N ≤ 8 * a + 32 → D ≤ 2 ^ 65 → f ≤ D → z ≤ x → y ≡ x + 1 * D → N * 2 ^ 61 ≤ y + 512 * 2 ^ 61
-          lin x z D f a N y h i j k l e = omega arith
+      less : (k : ℕ) → k ≤ 2 ^ 52 → k < 2 ^ 53
+      less k h = omega arith
 
-  not-above : q + 1 ≤ 2 ^ 61 + 128
-  not-above = le-of-mul-le-mul-right {k = D} (le-trans up (lin N D ratio least)) (le-trans (lit≤ tt) least)
+  high : HasValue (round binary64 false (k + 1) (2 ^ 52)) false (k + 1) (2 ^ 52)
+  high = grid-exact (k + 1) (less k k-le)
     where
-      lin : (N D : ℕ) → N ≤ D → 2 ^ 63 ≤ D → (N + 512) * 2 ^ 61 ≤ (2 ^ 61 + 128) * D
-      lin N D h k = omega arith
+      less : (k : ℕ) → k ≤ 2 ^ 52 → k + 1 < 2 ^ 53
+      less k h = omega arith
 
-  close : Close N D (eighthOf n d)
-  unfolding eighthOf
-  close = (up, down, not-above)
+  from : T (le (round binary64 false k (2 ^ 52)) r)
+  from = round-mono binary64 k (2 ^ 52) a b (lit< tt) P k-lo
 
-  eighth-fits : (0 < eighthOf n d) × (eighthOf n d < 2 ^ 64)
-  unfolding eighthOf
-  eighth-fits = (some q, fits)
-    where
-      some : (q : ℕ) → 0 < q + 1
-      some q = omega arith
+  to : T (le r (round binary64 false (k + 1) (2 ^ 52)))
+  to = round-mono binary64 a b (k + 1) (2 ^ 52) P (lit< tt) k-hi
 
--- ---- the true quotient (α - β) / (α + β): both within 6509 ω of N ω and D ω
+  abbrev z : ℕ
+  z = grid binary64 a b
+
+  in-range : z < overflow binary64
+  in-range = round-under binary64 a b (between-finite (round binary64 false k (2 ^ 52)) r (round binary64 false (k + 1) (2 ^ 52)) k (2 ^ 52) (k + 1) (2 ^ 52) low high from to)
+
+  r-value : HasValue r false z (2 ^ 1074)
+  r-value = round-val binary64 a b in-range
+
+  -- with either sign
+  signed-value : (s : Bool) → HasValue (round binary64 s a b) s z (2 ^ 1074)
+  signed-value s = subst (λ (x : Float). HasValue x s z (2 ^ 1074)) (sym (round-is binary64 s a b)) (units-val binary64 s (kept 53 (a * 2 ^ 1074) b) (drop 53 (a * 2 ^ 1074) b) in-range)
+
+  r-lo : k * 2 ^ 1074 ≤ z * 2 ^ 52
+  r-lo = le-values (round binary64 false k (2 ^ 52)) r k (2 ^ 52) z (2 ^ 1074) low r-value from
+
+  r-hi : z * 2 ^ 52 ≤ (k + 1) * 2 ^ 1074
+  r-hi = le-values r (round binary64 false (k + 1) (2 ^ 52)) z (2 ^ 1074) (k + 1) (2 ^ 52) r-value high to
+
+-- ---- z / C against (α - β) / S, on plain numbers
+bound-up-nums : (α β S z C k : ℕ) → z * 2 ^ 52 * S ≤ (k + 1) * C * S → (k * S + 2 ^ 52 * β) * C ≤ (2 ^ 52 * α + 13 * S) * C → leF (subF (frac z 0 C) (frac α β S)) (frac 1 0 (2 ^ 48))
+bound-up-nums α β S z C k u t =
+    let u' = simp (ring, one-mul) at u in
+    let t' = simp ring at t in
+    simp (ring, one-mul, zero-mul, add-zero, zero-add) (omega arith)
+
+bound-down-nums : (α β S z C k : ℕ) → k * C * S ≤ z * 2 ^ 52 * S → 2 ^ 52 * α * C ≤ ((k + 1) * S + 2 ^ 52 * β + 13 * S) * C → leF (negF (subF (frac z 0 C) (frac α β S))) (frac 1 0 (2 ^ 48))
+bound-down-nums α β S z C k l t =
+    let l' = simp ring at l in
+    let t' = simp (ring, one-mul) at t in
+    simp (ring, one-mul, zero-mul, add-zero, zero-add) (omega arith)
+
+-- ---- the true quotient (α - β) / (α + β) against a / b: both parts near, in units of 4096 ω
 abbrev Ratio : ℕ → ℕ → ℕ → ℕ → ℕ → Type 0
-Ratio α β ω N D = (N * ω + β ≤ α + 6509 * ω) × (α ≤ β + (N + 6509) * ω) × (D * ω ≤ α + β + 6509 * ω) × (α + β ≤ (D + 6509) * ω)
+Ratio α β ω a b = (4096 * a * ω + β ≤ α + 10604 * ω) × (α ≤ β + 4096 * a * ω + 10604 * ω) × (4096 * b * ω ≤ α + β + 14700 * ω) × (α + β ≤ 4096 * b * ω + 14700 * ω)
 
-module _ (α β ω N D y : ℕ) (least : 2 ^ 63 ≤ D) (r : Ratio α β ω N D) (c : Close N D y) where
-  -- y times the sum against the difference, in units of 2 ^ -61
-  times-up : y * (α + β) + 2 ^ 61 * β ≤ 2 ^ 61 * α + 13600 * (2 ^ 61 * ω)
-  times-up = go α β ω N D y (r .0) (mul-le-mul-left y (r .3)) (mul-le-mul-right ω (c .0)) (mul-le-mul-right ω (c .2))
+module _ (α β ω a b k : ℕ) (least : 2 ^ 51 ≤ b) (r : Ratio α β ω a b) (l : k * b ≤ a * 2 ^ 52) (u : a * 2 ^ 52 ≤ (k + 1) * b) (h : k ≤ 2 ^ 52) where
+  -- k times the sum against the difference, in units of 2 ^ -52
+  times-up : k * (α + β) + 2 ^ 52 * β ≤ 2 ^ 52 * α + 25310 * (2 ^ 52 * ω)
+  times-up = go α β ω a b k (r .0) (mul-le-mul-left k (r .3)) (mul-le-mul-right ω l) (mul-le-mul-right ω h)
     where
-      go : (α β ω N D y : ℕ) → N * ω + β ≤ α + 6509 * ω → y * (α + β) ≤ y * ((D + 6509) * ω) → y * D * ω ≤ (N + 512) * 2 ^ 61 * ω → y * ω ≤ (2 ^ 61 + 128) * ω → y * (α + β) + 2 ^ 61 * β ≤ 2 ^ 61 * α + 13600 * (2 ^ 61 * ω)
-      go α β ω N D y h i j k =
-          let i' = simp ring at i in
-          let j' = simp ring at j in
-          simp ring (omega arith)
-
-  times-down : 2 ^ 61 * α ≤ y * (α + β) + 2 ^ 61 * β + 13600 * (2 ^ 61 * ω)
-  times-down = go α β ω N D y (r .1) (mul-le-mul-left y (r .2)) (mul-le-mul-right ω (c .1)) (mul-le-mul-right ω (c .2))
-    where
-      go : (α β ω N D y : ℕ) → α ≤ β + (N + 6509) * ω → y * (D * ω) ≤ y * (α + β + 6509 * ω) → N * 2 ^ 61 * ω ≤ (y * D + 512 * 2 ^ 61) * ω → y * ω ≤ (2 ^ 61 + 128) * ω → 2 ^ 61 * α ≤ y * (α + β) + 2 ^ 61 * β + 13600 * (2 ^ 61 * ω)
-      go α β ω N D y h i j k =
+      go : (α β ω a b y : ℕ) → 4096 * a * ω + β ≤ α + 10604 * ω → y * (α + β) ≤ y * (4096 * b * ω + 14700 * ω) → y * b * ω ≤ a * 2 ^ 52 * ω → y * ω ≤ 2 ^ 52 * ω → y * (α + β) + 2 ^ 52 * β ≤ 2 ^ 52 * α + 25310 * (2 ^ 52 * ω)
+      go α β ω a b y h i j k =
           let h' = simp ring at h in
           let i' = simp ring at i in
           let j' = simp ring at j in
           simp ring (omega arith)
 
-  large : 2 ^ 62 * ω ≤ α + β
-  large = go α β ω D (r .2) (mul-le-mul-right ω least)
+  times-down : 2 ^ 52 * α ≤ (k + 1) * (α + β) + 2 ^ 52 * β + 25310 * (2 ^ 52 * ω)
+  times-down = go α β ω a b (k + 1) (r .1) (mul-le-mul-left (k + 1) (r .2)) (mul-le-mul-right ω u) (mul-le-mul-right ω (more k h))
     where
-      go : (α β ω D : ℕ) → D * ω ≤ α + β + 6509 * ω → 2 ^ 63 * ω ≤ D * ω → 2 ^ 62 * ω ≤ α + β
-      go α β ω D h k = lin α β ω (D * ω) h k
-        where
-          lin : (α β ω x : ℕ) → x ≤ α + β + 6509 * ω → 2 ^ 63 * ω ≤ x → 2 ^ 62 * ω ≤ α + β
-          lin α β ω x h k = omega arith
+      more : (k : ℕ) → k ≤ 2 ^ 52 → k + 1 ≤ 2 ^ 52 + 1
+      more k h = omega arith
 
--- ---- with the f64's own error, on plain numbers: Z is 2 ^ 1074 times it, S, A, B and O are 2 ^ 1024 times y (α + β), α, β and ω
-rounded-up : (S Z A B O : ℕ) → S + 2 ^ 61 * B ≤ 2 ^ 61 * A + 13600 * (2 ^ 61 * O) → 2 ^ 62 * O ≤ A + B → S ≤ (2 ^ 61 + 128) * (A + B) → Z * 2 ^ 64 ≤ S * (2 ^ 53 + 1) → 2 ^ 11 * Z + 2 ^ 61 * B ≤ 2 ^ 61 * A + 2 ^ 13 * (A + B)
-rounded-up S Z A B O h i j k = last S Z A B O (A + B) h i (first S Z (A + B) k (less S (A + B) j)) refl
-  where
-    less : (S C : ℕ) → S ≤ (2 ^ 61 + 128) * C → S ≤ 2 ^ 62 * C
-    less S C h = omega arith
+      go : (α β ω a b y : ℕ) → α ≤ β + 4096 * a * ω + 10604 * ω → y * (4096 * b * ω) ≤ y * (α + β + 14700 * ω) → a * 2 ^ 52 * ω ≤ y * b * ω → y * ω ≤ (2 ^ 52 + 1) * ω → 2 ^ 52 * α ≤ y * (α + β) + 2 ^ 52 * β + 25310 * (2 ^ 52 * ω)
+      go α β ω a b y h i j k =
+          let h' = simp ring at h in
+          let i' = simp ring at i in
+          let j' = simp ring at j in
+          simp ring (omega arith)
 
-    first : (S Z C : ℕ) → Z * 2 ^ 64 ≤ S * (2 ^ 53 + 1) → S ≤ 2 ^ 62 * C → 2 ^ 11 * Z ≤ S + 2 ^ 9 * C
-    first S Z C h k = omega arith
-
-    last : (S Z A B O C : ℕ) → S + 2 ^ 61 * B ≤ 2 ^ 61 * A + 13600 * (2 ^ 61 * O) → 2 ^ 62 * O ≤ C → 2 ^ 11 * Z ≤ S + 2 ^ 9 * C → C ≡ A + B → 2 ^ 11 * Z + 2 ^ 61 * B ≤ 2 ^ 61 * A + 2 ^ 13 * (A + B)
-    last S Z A B O C h i j e = subst (λ (C : ℕ). 2 ^ 11 * Z + 2 ^ 61 * B ≤ 2 ^ 61 * A + 2 ^ 13 * C) e (lin (2 ^ 61 * O) (2 ^ 61 * A) (2 ^ 61 * B) S Z C h (half O C i) j)
-      where
-        half : (O C : ℕ) → 2 ^ 62 * O ≤ C → 2 * (2 ^ 61 * O) ≤ C
-        half O C h = omega arith
-
-        lin : (O A B S Z C : ℕ) → S + B ≤ A + 13600 * O → 2 * O ≤ C → 2 ^ 11 * Z ≤ S + 2 ^ 9 * C → 2 ^ 11 * Z + B ≤ A + 2 ^ 13 * C
-        lin O A B S Z C h i j = omega arith
-
-rounded-down : (S Z A B O : ℕ) → 2 ^ 61 * A ≤ S + 2 ^ 61 * B + 13600 * (2 ^ 61 * O) → 2 ^ 62 * O ≤ A + B → S ≤ (2 ^ 61 + 128) * (A + B) → S * (2 ^ 53 - 1) ≤ Z * 2 ^ 64 → 2 ^ 61 * A ≤ 2 ^ 11 * Z + 2 ^ 61 * B + 2 ^ 13 * (A + B)
-rounded-down S Z A B O h i j k = last S Z A B O (A + B) h i (first S Z (A + B) k (less S (A + B) j)) refl
-  where
-    less : (S C : ℕ) → S ≤ (2 ^ 61 + 128) * C → S ≤ 2 ^ 62 * C
-    less S C h = omega arith
-
-    first : (S Z C : ℕ) → S * (2 ^ 53 - 1) ≤ Z * 2 ^ 64 → S ≤ 2 ^ 62 * C → S ≤ 2 ^ 11 * Z + 2 ^ 9 * C
-    first S Z C h k = omega arith
-
-    last : (S Z A B O C : ℕ) → 2 ^ 61 * A ≤ S + 2 ^ 61 * B + 13600 * (2 ^ 61 * O) → 2 ^ 62 * O ≤ C → S ≤ 2 ^ 11 * Z + 2 ^ 9 * C → C ≡ A + B → 2 ^ 61 * A ≤ 2 ^ 11 * Z + 2 ^ 61 * B + 2 ^ 13 * (A + B)
-    last S Z A B O C h i j e = subst (λ (C : ℕ). 2 ^ 61 * A ≤ 2 ^ 11 * Z + 2 ^ 61 * B + 2 ^ 13 * C) e (lin (2 ^ 61 * O) (2 ^ 61 * A) (2 ^ 61 * B) S Z C h (half O C i) j)
-      where
-        half : (O C : ℕ) → 2 ^ 62 * O ≤ C → 2 * (2 ^ 61 * O) ≤ C
-        half O C h = omega arith
-
-        lin : (O A B S Z C : ℕ) → A ≤ S + B + 13600 * O → 2 * O ≤ C → S ≤ 2 ^ 11 * Z + 2 ^ 9 * C → A ≤ 2 ^ 11 * Z + B + 2 ^ 13 * C
-        lin O A B S Z C h i j = omega arith
-
--- as fractions: v is 2 ^ 1024
-module _ (α β ω N D y z v : ℕ) (least : 2 ^ 63 ≤ D) (r : Ratio α β ω N D) (c : Close N D y) (up : z * 2048 * 2 ^ 53 ≤ y * v * (2 ^ 53 + 1)) (down : y * v * (2 ^ 53 - 1) ≤ z * 2048 * 2 ^ 53) where
-  some-units : 2 ^ 62 * (ω * v) ≤ α * v + β * v
-  some-units = le-trans (le-of-eq (sym (mul-assoc (2 ^ 62) ω v))) (le-trans (mul-le-mul-right v (large α β ω N D y least r c)) (le-of-eq (add-mul α β v)))
-
-  few-units : y * (α + β) * v ≤ (2 ^ 61 + 128) * (α * v + β * v)
-  few-units = le-trans (mul-le-mul-right v (mul-le-mul-right (α + β) (c .2))) (le-of-eq (mul-assoc (2 ^ 61 + 128) (α + β) v ∙ ap (λ (x : ℕ). (2 ^ 61 + 128) * x) (add-mul α β v)))
-
-  units-up : 2 ^ 11 * (z * (α + β)) + 2 ^ 61 * (β * v) ≤ 2 ^ 61 * (α * v) + 2 ^ 13 * (α * v + β * v)
-  units-up = rounded-up (y * (α + β) * v) (z * (α + β)) (α * v) (β * v) (ω * v) (go α β ω y v (mul-le-mul-right v (times-up α β ω N D y least r c))) some-units few-units (turn z y v (α + β) (mul-le-mul-right (α + β) up))
+  -- the errors are at most 13 / 2 ^ 52
+  errors : 25310 * (2 ^ 52 * ω) ≤ 13 * (α + β)
+  errors = lin (α + β) ω (4096 * b * ω) (r .2) (mul-le-mul-right ω (mul-le-mul-left 4096 least))
     where
-      go : (α β ω y v : ℕ) → (y * (α + β) + 2 ^ 61 * β) * v ≤ (2 ^ 61 * α + 13600 * (2 ^ 61 * ω)) * v → y * (α + β) * v + 2 ^ 61 * (β * v) ≤ 2 ^ 61 * (α * v) + 13600 * (2 ^ 61 * (ω * v))
-      go α β ω y v h = let k = simp ring at h in simp ring (omega arith)
+      lin : (s ω x : ℕ) → x ≤ s + 14700 * ω → 4096 * 2 ^ 51 * ω ≤ x → 25310 * (2 ^ 52 * ω) ≤ 13 * s
+      lin s ω x h k = omega arith
 
-      turn : (z y v s : ℕ) → z * 2048 * 2 ^ 53 * s ≤ y * v * (2 ^ 53 + 1) * s → z * s * 2 ^ 64 ≤ y * s * v * (2 ^ 53 + 1)
-      turn z y v s h = let k = simp ring at h in simp ring (omega arith)
-
-  units-down : 2 ^ 61 * (α * v) ≤ 2 ^ 11 * (z * (α + β)) + 2 ^ 61 * (β * v) + 2 ^ 13 * (α * v + β * v)
-  units-down = rounded-down (y * (α + β) * v) (z * (α + β)) (α * v) (β * v) (ω * v) (go α β ω y v (mul-le-mul-right v (times-down α β ω N D y least r c))) some-units few-units (turn z y v (α + β) (mul-le-mul-right (α + β) down))
-    where
-      go : (α β ω y v : ℕ) → 2 ^ 61 * α * v ≤ (y * (α + β) + 2 ^ 61 * β + 13600 * (2 ^ 61 * ω)) * v → 2 ^ 61 * (α * v) ≤ y * (α + β) * v + 2 ^ 61 * (β * v) + 13600 * (2 ^ 61 * (ω * v))
-      go α β ω y v h = let k = simp ring at h in simp ring (omega arith)
-
-      turn : (z y v s : ℕ) → y * v * (2 ^ 53 - 1) * s ≤ z * 2048 * 2 ^ 53 * s → y * s * v * (2 ^ 53 - 1) ≤ z * s * 2 ^ 64
-      turn z y v s h = let k = simp ring at h in simp ring (omega arith)
-
-  ratio-bound : Bound (subF (frac z 0 (v * 2 ^ 50)) (frac α β (α + β))) (frac 1 0 (2 ^ 48))
-  ratio-bound = (one α β z v (mul-le-mul-left (2 ^ 37) units-up), two α β z v (mul-le-mul-left (2 ^ 37) units-down))
-    where
-      one : (α β z v : ℕ) → 2 ^ 37 * (2 ^ 11 * (z * (α + β)) + 2 ^ 61 * (β * v)) ≤ 2 ^ 37 * (2 ^ 61 * (α * v) + 2 ^ 13 * (α * v + β * v)) → leF (subF (frac z 0 (v * 2 ^ 50)) (frac α β (α + β))) (frac 1 0 (2 ^ 48))
-      one α β z v h = let k = simp ring at h in simp (ring, one-mul, zero-mul, add-zero, zero-add) (omega arith)
-
-      two : (α β z v : ℕ) → 2 ^ 37 * (2 ^ 61 * (α * v)) ≤ 2 ^ 37 * (2 ^ 11 * (z * (α + β)) + 2 ^ 61 * (β * v) + 2 ^ 13 * (α * v + β * v)) → leF (negF (subF (frac z 0 (v * 2 ^ 50)) (frac α β (α + β)))) (frac 1 0 (2 ^ 48))
-      two α β z v h = let k = simp ring at h in simp (ring, one-mul, zero-mul, add-zero, zero-add) (omega arith)
-
--- ---- the packed quotient, with its sign
-module _ (α β ω N D y : ℕ) (x : Frac) (least : 2 ^ 63 ≤ D) (r : Ratio α β ω N D) (c : Close N D y) (some : 0 < y) (fits : y < 2 ^ 64) (sum : 0 < α + β) where
-  bounded : Bound (subF (frac (size y 1024) 0 (2 ^ 1074)) (frac α β (α + β))) (frac 1 0 (2 ^ 48))
-  bounded = ratio-bound α β ω N D y (size y 1024) (2 ^ 1024) least r c (packed-up y 1024 some fits (lit≤ tt)) (packed-down y 1024 some fits (lit≤ tt))
-
-  quotient-plus : eqF x (frac α β (α + β)) → near (2 ^ 48) (valF (packed 0 y 1024)) x
-  quotient-plus e = near-of (valF (packed 0 y 1024)) x (frac (size y 1024) 0 (2 ^ 1074)) (frac α β (α + β)) (pow-pos 1074) sum (value-of (packed 0 y 1024) false (size y 1024) (2 ^ 1074) (pow-pos 1074) (packed-value false y 1024 some fits (lit≤ tt))) e bounded
-
-  quotient-minus : eqF (negF x) (frac α β (α + β)) → near (2 ^ 48) (valF (packed 1 y 1024)) x
-  quotient-minus e = near-turned (valF (packed 1 y 1024)) x (frac (size y 1024) 0 (2 ^ 1074)) (frac α β (α + β)) (pow-pos 1074) sum (flip (valF (packed 1 y 1024)) (size y 1024) (value-of (packed 1 y 1024) true (size y 1024) (2 ^ 1074) (pow-pos 1074) (packed-value true y 1024 some fits (lit≤ tt)))) e bounded
-    where
-      flip : (x : Frac) (z : ℕ) → eqF x (frac 0 z (2 ^ 1074)) → eqF (negF x) (frac z 0 (2 ^ 1074))
-      flip x z h = (neg-antiF (frac 0 z (2 ^ 1074)) x (h .1), neg-antiF x (frac 0 z (2 ^ 1074)) (h .0))
+  ratio-bound : (z C : ℕ) → k * C ≤ z * 2 ^ 52 → z * 2 ^ 52 ≤ (k + 1) * C → Bound (subF (frac z 0 C) (frac α β (α + β))) (frac 1 0 (2 ^ 48))
+  ratio-bound z C l u = (
+    bound-up-nums α β (α + β) z C k (mul-le-mul-right (α + β) u) (mul-le-mul-right C (le-trans times-up (add-le-add (le-refl (2 ^ 52 * α)) errors))),
+    bound-down-nums α β (α + β) z C k (mul-le-mul-right (α + β) l) (mul-le-mul-right C (le-trans times-down (add-le-add (le-refl ((k + 1) * (α + β) + 2 ^ 52 * β)) errors))),
+  )
 
 -- ---- document 01's value: e = P / d gives (P - d) / (P + d)
 inverse-is : (n P d : ℕ) → 0 < d → invF (addF (frac (n + P) n d) (natF 1)) ≡ frac (d * 1) 0 (P + d)
@@ -276,42 +338,6 @@ module _ (X Y C n P d : ℕ) (l : leF (frac (X * Y) (5856 * Y) C) (frac (n + P) 
       go : (X Y C n P d : ℕ) → (n + P) * C + 0 * d ≤ (X + 652 + 5856) * Y * d + n * C → P * C ≤ X * (Y * d) + 6508 * (Y * d)
       go X Y C n P d h = let k = simp (ring, zero-mul, add-zero) at h in simp ring (omega arith)
 
--- above 0: o is C / Y rounded down
-plus-ratio : (X o ω α β : ℕ) → o ≤ X → X * ω ≤ α + 5856 * ω → α ≤ X * ω + 6508 * ω → o * ω ≤ β → β ≤ (o + 1) * ω → Ratio α β ω (X - o) (X + o)
-plus-ratio X o ω α β h a b c d = subst (λ (X : ℕ). Ratio α β ω (X - o) (X + o)) (back X o h) (subst (λ (N : ℕ). Ratio α β ω N (X - o + o + o)) (again (X - o) o) (go (X - o) o ω α β (subst (λ (X : ℕ). X * ω ≤ α + 5856 * ω) (sym (back X o h)) a) (subst (λ (X : ℕ). α ≤ X * ω + 6508 * ω) (sym (back X o h)) b) c d))
-  where
-    back : (X o : ℕ) → o ≤ X → X - o + o ≡ X
-    back X o h = omega arith
-
-    again : (N o : ℕ) → N ≡ N + o - o
-    again N o = omega arith
-
-    go : (N o ω α β : ℕ) → (N + o) * ω ≤ α + 5856 * ω → α ≤ (N + o) * ω + 6508 * ω → o * ω ≤ β → β ≤ (o + 1) * ω → Ratio α β ω N (N + o + o)
-    go N o ω α β a b c d =
-        let a' = simp ring at a in
-        let b' = simp ring at b in
-        let d' = simp (ring, one-mul) at d in
-        (omega arith, simp ring (omega arith), simp ring (omega arith), simp ring (omega arith))
-
--- below 0: β / α is z / T, near
-minus-ratio : (X z T₁ Y G d α β : ℕ) → z ≤ T₁ → z * G ≤ X * Y → X * Y ≤ (z + 1) * G → Y ≤ G → α ≡ T₁ * (G * d) → X * (Y * d) ≤ β + 5856 * (Y * d) → β ≤ X * (Y * d) + 6508 * (Y * d) → Ratio α β (G * d) (T₁ - z) (T₁ + z)
-minus-ratio X z T₁ Y G d α β h a b c e l u =
-    go (G * d) α β z T₁ (T₁ - z) (Y * d) (X * (Y * d)) (back T₁ z h) (le-trans (le-of-eq (sym (mul-assoc z G d))) (le-trans (mul-le-mul-right d a) (le-of-eq (mul-assoc X Y d)))) (le-trans (le-of-eq (sym (mul-assoc X Y d))) (le-trans (mul-le-mul-right d b) (le-of-eq (mul-assoc (z + 1) G d)))) (mul-le-mul-right d c) e l u
-  where
-    back : (T₁ z : ℕ) → z ≤ T₁ → T₁ - z + z ≡ T₁
-    back T₁ z h = omega arith
-
-    go : (ω α β z T₁ N v s : ℕ) → N + z ≡ T₁ → z * ω ≤ s → s ≤ (z + 1) * ω → v ≤ ω → α ≡ T₁ * ω → s ≤ β + 5856 * v → β ≤ s + 6508 * v → Ratio α β ω N (T₁ + z)
-    go ω α β z T₁ N v s k a b c e l u = subst (λ (T₁ : ℕ). Ratio α β ω N (T₁ + z)) k (at (subst (λ (T₁ : ℕ). α ≡ T₁ * ω) (sym k) e))
-      where
-        at : α ≡ (N + z) * ω → Ratio α β ω N (N + z + z)
-        at e =
-            let b' = simp (ring, one-mul) at b in
-            let a' = simp ring at a in
-            let e' = simp ring at e in
-            (omega arith, simp ring (omega arith), simp ring (omega arith), simp ring (omega arith))
-
--- ---- the laws
 -- what is not below a positive number
 pub positive : (X h C p n d : ℕ) → h ≤ X → 0 < C → leF (frac X h C) (frac p n d) → n ≤ p
 positive X h C p n d i k l = le-of-mul-le-mul-right {k = C} (lin (X * d) (h * d) (n * C) (p * C) l (mul-le-mul-right d i)) k
@@ -319,196 +345,208 @@ positive X h C p n d i k l = le-of-mul-le-mul-right {k = C} (lin (X * d) (h * d)
     lin : (x h n p : ℕ) → x + n ≤ p + h → h ≤ x → n ≤ p
     lin x h n p k l = omega arith
 
-module _ (w : ℕ) (least : 1023 * 2 ^ 53 ≤ w) where
+-- ---- the f64 quotient of two whole numbers e and o against (α - β) / (α + β), α and β being e and o in units of 4096 ω
+abbrev Parts : ℕ → ℕ → ℕ → ℕ → ℕ → Type 0
+Parts α β ω e o = (4096 * e * ω ≤ α + 5856 * ω) × (α ≤ 4096 * e * ω + 10604 * ω) × (4096 * o * ω ≤ β) × (β ≤ 4096 * o * ω + 4096 * ω)
+
+plus-ratio : (α β ω t o : ℕ) → Parts α β ω (o + t) o → Ratio α β ω t (o + t + o)
+plus-ratio α β ω t o (a, b, c, d) =
+    let a' = simp ring at a in
+    let b' = simp ring at b in
+    let c' = simp ring at c in
+    let d' = simp ring at d in
+    (simp ring (omega arith), simp ring (omega arith), simp ring (omega arith), simp ring (omega arith))
+
+minus-ratio : (α β ω t e : ℕ) → Parts α β ω e (e + t) → Ratio β α ω t (e + (e + t))
+minus-ratio α β ω t e (a, b, c, d) =
+    let a' = simp ring at a in
+    let b' = simp ring at b in
+    let c' = simp ring at c in
+    let d' = simp ring at d in
+    (simp ring (omega arith), simp ring (omega arith), simp ring (omega arith), simp ring (omega arith))
+
+module _ (α β ω t b : ℕ) (x : Frac) (some : 0 < α + β) (least : 2 ^ 51 ≤ b) (ratio : t ≤ b) (r : Ratio α β ω t b) where
+  positive-b : 0 < b
+  positive-b = le-trans (lit≤ tt) least
+
+  abbrev Z : ℕ
+  Z = z t b positive-b ratio
+
+  bounded : Bound (subF (frac Z 0 (2 ^ 1074)) (frac α β (α + β))) (frac 1 0 (2 ^ 48))
+  bounded = ratio-bound α β ω t b (k t b positive-b ratio) least r (k-lo t b positive-b ratio) (k-hi t b positive-b ratio) (k-le t b positive-b ratio) Z (2 ^ 1074) (r-lo t b positive-b ratio) (r-hi t b positive-b ratio)
+
+  near-plus : eqF x (frac α β (α + β)) → near (2 ^ 48) (valF (round binary64 false t b)) x
+  near-plus e = near-of (valF (round binary64 false t b)) x (frac Z 0 (2 ^ 1074)) (frac α β (α + β)) (pow-pos 1074) some (value-of (round binary64 false t b) false Z (2 ^ 1074) (pow-pos 1074) (signed-value t b positive-b ratio false)) e bounded
+
+  near-minus : eqF (negF x) (frac α β (α + β)) → near (2 ^ 48) (valF (round binary64 true t b)) x
+  near-minus e = near-turned (valF (round binary64 true t b)) x (frac Z 0 (2 ^ 1074)) (frac α β (α + β)) (pow-pos 1074) some (flip (valF (round binary64 true t b)) Z (value-of (round binary64 true t b) true Z (2 ^ 1074) (pow-pos 1074) (signed-value t b positive-b ratio true))) e bounded
+    where
+      flip : (x : Frac) (z : ℕ) → eqF x (frac 0 z (2 ^ 1074)) → eqF (negF x) (frac z 0 (2 ^ 1074))
+      flip x z h = (neg-antiF (frac 0 z (2 ^ 1074)) x (h .1), neg-antiF x (frac 0 z (2 ^ 1074)) (h .0))
+
+abbrev ratioOf : ℕ → ℕ → Float
+ratioOf e o = div binary64 (sub binary64 (whole e) (whole o)) (add binary64 (whole e) (whole o))
+
+-- what the f64 operations give, by the sign
+ratio-signed : (s : Bool) (e o t : ℕ) → e ≤ 2 ^ 52 → o ≤ 2 ^ 52 → t ≤ 2 ^ 53 → 0 < e + o → sub binary64 (whole e) (whole o) ≡ round binary64 s t 1 → ratioOf e o ≡ round binary64 s t (e + o)
+ratio-signed s e o t h k l P d =
+    let X = whole-is e (le-trans h (lit≤ tt)) in
+    let Y = whole-is o (le-trans k (lit≤ tt)) in
+    quotient-is s (sub binary64 (whole e) (whole o)) (add binary64 (whole e) (whole o)) t (e + o) P
+    (subst (λ (y : Float). HasValue y s t 1) (sym d) (round-whole binary64 s t l))
+    (subst (λ (y : Float). HasValue y false (e + o) 1) (sym (sum-is (whole e) (whole o) e o X Y)) (round-whole binary64 false (e + o) (double e o h k)))
+  where
+    double : (x y : ℕ) → x ≤ 2 ^ 52 → y ≤ 2 ^ 52 → x + y ≤ 2 ^ 53
+    double x y h k = omega arith
+
+module _ (α β ω e o : ℕ) (x : Frac) (some : 0 < α + β) (value : eqF x (frac α β (α + β))) (e-le : e ≤ 2 ^ 52) (o-le : o ≤ 2 ^ 52) (least : 2 ^ 51 ≤ e + o) (p : Parts α β ω e o) where
+  ratio-near : near (2 ^ 48) (valF (ratioOf e o)) x
+  ratio-near = go (decLe o e)
+    where
+      back : (e o : ℕ) → o ≤ e → o + (e - o) ≡ e
+      back e o h = omega arith
+
+      wide : (e o : ℕ) → e ≤ 2 ^ 52 → e - o ≤ 2 ^ 53
+      wide e o h = omega arith
+
+      less : (e o : ℕ) → e - o ≤ e + o
+      less e o = omega arith
+
+      positive-sum : 0 < e + o
+      positive-sum = le-trans (lit≤ tt) least
+
+      go : Dec (o ≤ e) → near (2 ^ 48) (valF (ratioOf e o)) x
+      go (yes h) =
+          let X = whole-is e (le-trans e-le (lit≤ tt)) in
+          let Y = whole-is o (le-trans o-le (lit≤ tt)) in
+          subst (λ (y : Float). near (2 ^ 48) (valF y) x) (sym (ratio-signed false e o (e - o) e-le o-le (wide e o e-le) positive-sum (plus-is (whole e) (whole o) (e - o) o (subst (λ (n : ℕ). HasValue (whole e) false n 1) (sym (back e o h)) X) Y)))
+          (near-plus α β ω (e - o) (e + o) x some least (less e o) (subst (λ (n : ℕ). Ratio α β ω (e - o) (n + o)) (back e o h) (plus-ratio α β ω (e - o) o (subst (λ (n : ℕ). Parts α β ω n o) (sym (back e o h)) p))) value)
+      go (no h) =
+          let l = lt-of-not-le h in
+          let X = whole-is e (le-trans e-le (lit≤ tt)) in
+          let Y = whole-is o (le-trans o-le (lit≤ tt)) in
+          subst (λ (y : Float). near (2 ^ 48) (valF y) x) (sym (ratio-signed true e o (o - e) e-le o-le (wide o e o-le) positive-sum (minus-is (whole e) (whole o) (o - e) e (apart e o l) X (subst (λ (n : ℕ). HasValue (whole o) false n 1) (sym (back o e (le-of-lt l))) Y))))
+          (near-minus β α ω (o - e) (e + o) x (subst (λ (n : ℕ). 0 < n) (add-comm α β) some) least (under e o) (subst (λ (n : ℕ). Ratio β α ω (o - e) (e + n)) (back o e (le-of-lt l)) (minus-ratio α β ω (o - e) e (subst (λ (n : ℕ). Parts α β ω e n) (sym (back o e (le-of-lt l))) p)))
+          (subst (λ (n : ℕ). eqF (negF x) (frac β α n)) (add-comm α β) (neg-antiF (frac α β (α + β)) x (value .1), neg-antiF x (frac α β (α + β)) (value .0))))
+        where
+          apart : (e o : ℕ) → e < o → 0 < o - e
+          apart e o h = omega arith
+
+          under : (e o : ℕ) → o - e ≤ e + o
+          under e o = omega arith
+
+-- ---- the law, for an exponent w: either part is moved to the unit 2 ^ 1023, or 2 to the whole part of w above 1023
+module _ (w : ℕ) where
   abbrev X : ℕ
   X = significandOf w
 
-  abbrev one : ℕ
-  one = 2 ^ 63 / 2 ^ (w / 2 ^ 53 - 1023)
+  abbrev q : ℕ
+  q = w / 2 ^ 53
 
-  whole : 2 ^ (w / 2 ^ 53) ≡ 2 ^ (w / 2 ^ 53 - 1023) * 2 ^ 1023
-  whole = ap (λ (x : ℕ). 2 ^ x) (lin w least) ∙ pow-add 2 (w / 2 ^ 53 - 1023) 1023
+  abbrev G : ℕ
+  G = 2 ^ (q + (1023 - q))
+
+  e-unit : 2 ^ (1023 - q) * 2 ^ q ≡ G
+  e-unit = mul-comm (2 ^ (1023 - q)) (2 ^ q) ∙ sym (pow-add 2 q (1023 - q))
+
+  o-unit : 2 ^ (q - 1023) * 2 ^ 1023 ≡ G
+  o-unit = sym (pow-add 2 (q - 1023) 1023) ∙ ap (λ (n : ℕ). 2 ^ n) (lin q)
     where
-      lin : (w : ℕ) → 1023 * 2 ^ 53 ≤ w → w / 2 ^ 53 ≡ w / 2 ^ 53 - 1023 + 1023
-      lin w h = omega arith
+      lin : (q : ℕ) → q - 1023 + 1023 ≡ q + (1023 - q)
+      lin q = omega arith
 
-  one-lo : one * 2 ^ (w / 2 ^ 53) ≤ 2 ^ 1086
-  one-lo = le-trans (le-of-eq (ap (λ (x : ℕ). one * x) whole ∙ sym (mul-assoc one (2 ^ (w / 2 ^ 53 - 1023)) (2 ^ 1023)))) (mul-le-mul-right (2 ^ 1023) (div-mul-le-self (2 ^ 63) (2 ^ (w / 2 ^ 53 - 1023))))
+  -- n / 2 ^ i, in the unit G = 2 ^ i 2 ^ j
+  floor-lo : (n i j g : ℕ) → 2 ^ i * j ≡ g → n / 2 ^ i * g ≤ n * j
+  floor-lo n i j g e = le-trans (le-of-eq (ap (λ (x : ℕ). n / 2 ^ i * x) (sym e) ∙ sym (mul-assoc (n / 2 ^ i) (2 ^ i) j))) (mul-le-mul-right j (div-mul-le-self n (2 ^ i)))
 
-  one-hi : 2 ^ 1086 ≤ (one + 1) * 2 ^ (w / 2 ^ 53)
-  one-hi = le-trans (mul-le-mul-right (2 ^ 1023) (le-trans (le-of-lt (lt-div-mul-add {a = 2 ^ 63} {b = 2 ^ (w / 2 ^ 53 - 1023)} (pow-pos (w / 2 ^ 53 - 1023)))) (le-of-eq (more one (2 ^ (w / 2 ^ 53 - 1023)))))) (le-of-eq (mul-assoc (one + 1) (2 ^ (w / 2 ^ 53 - 1023)) (2 ^ 1023) ∙ ap (λ (x : ℕ). (one + 1) * x) (sym whole)))
-    where
-      more : (x g : ℕ) → x * g + g ≡ (x + 1) * g
-      more x g = simp (add-mul, one-mul)
-
-  one-fits : one ≤ X
-  one-fits = le-trans (one-le (w / 2 ^ 53 - 1023)) (significand-lo w)
-
-  sum-least : 2 ^ 63 ≤ X + one
-  sum-least = go X one (significand-lo w)
-    where
-      go : (X o : ℕ) → 2 ^ 63 ≤ X → 2 ^ 63 ≤ X + o
-      go X o h = omega arith
-
-  sum-most : X + one ≤ 2 ^ 65
-  sum-most = go X one (significand-hi w) one-fits
-    where
-      go : (X o : ℕ) → X < 2 ^ 64 → o ≤ X → X + o ≤ 2 ^ 65
-      go X o h k = omega arith
-
-  less : X - one ≤ X + one
-  less = go X one
-    where
-      go : (X o : ℕ) → X - o ≤ X + o
-      go X o = omega arith
-
-  -- any packed quotient that is close
-  by-quotient : (y : ℕ) → Close (X - one) (X + one) y → 0 < y → y < 2 ^ 64 → (e x : Frac) → Pos e → Bracket w 242 e → eqF x (divF (subF e (natF 1)) (addF e (natF 1))) → near (2 ^ 48) (valF (packed 0 y 1024)) x
-  by-quotient y c some fits (frac p n d) x E b s = go (le-dest (positive (X * 2 ^ (w / 2 ^ 53)) (5856 * 2 ^ (w / 2 ^ 53)) (2 ^ 1086) p n d (mul-le-mul-right (2 ^ (w / 2 ^ 53)) (le-trans (lit≤ tt) (significand-lo w))) (pow-pos 1086) (b .0)))
-    where
-      at : (P : ℕ) → Bracket w 242 (frac (n + P) n d) → eqF x (divF (subF (frac (n + P) n d) (natF 1)) (addF (frac (n + P) n d) (natF 1))) → near (2 ^ 48) (valF (packed 0 y 1024)) x
-      at P b s =
-          let Y = 2 ^ (w / 2 ^ 53) in
-          let C = 2 ^ 1086 in
-          quotient-plus (P * C) (d * C) (Y * d) (X - one) (X + one) y x sum-least
-          (plus-ratio X one (Y * d) (P * C) (d * C) one-fits (part-low X Y C n P d (b .0) (b .1)) (part-high X Y C n P d (b .0) (b .1)) (turn one Y C d (mul-le-mul-right d one-lo)) (back (one + 1) Y C d (mul-le-mul-right d one-hi))) c some fits
-          (some-of (P * C) (d * C) (mul-pos E (pow-pos 1086))) (value-scaled n P d C x E s)
-        where
-          turn : (o Y C d : ℕ) → o * Y * d ≤ C * d → o * (Y * d) ≤ d * C
-          turn o Y C d h = le-trans (le-of-eq (sym (mul-assoc o Y d))) (le-trans h (le-of-eq (mul-comm C d)))
-
-          back : (o Y C d : ℕ) → C * d ≤ o * Y * d → d * C ≤ o * (Y * d)
-          back o Y C d h = le-trans (le-of-eq (mul-comm d C)) (le-trans h (le-of-eq (mul-assoc o Y d)))
-
-      go : (P : ℕ) × (n + P ≡ p) → near (2 ^ 48) (valF (packed 0 y 1024)) x
-      go (P, i) = at P (subst (λ (p : ℕ). Bracket w 242 (frac p n d)) (sym i) b) (subst (λ (p : ℕ). eqF x (divF (subF (frac p n d) (natF 1)) (addF (frac p n d) (natF 1)))) (sym i) s)
-
-  pub plus-near : (e x : Frac) → Pos e → Bracket w 242 e → eqF x (divF (subF e (natF 1)) (addF e (natF 1))) → near (2 ^ 48) (valF (plusOf w)) x
-  unfolding plusOf
-  plus-near e x E b s = go (decLe (1024 * 2 ^ 53) w)
-    where
-      go : Dec (1024 * 2 ^ 53 ≤ w) → near (2 ^ 48) (valF (plusOf w)) x
-      go (yes h) =
-          let r = far-range w X one refl refl h in
-          let n = (X - one) / 16 in
-          let d = X / 2 + one / 2 in
-          let f = eighth-fits (X - one) (X + one) n d 2 r (lo (X - one)) (hi (X - one)) (dlo X one) (dhi X one) sum-least sum-most less in
-          rw (fails w (1024 * 2 ^ 53) h) (by-quotient (eighthOf n d) (close (X - one) (X + one) n d 2 r (lo (X - one)) (hi (X - one)) (dlo X one) (dhi X one) sum-least sum-most less) (f .0) (f .1) e x E b s)
-        where
-          lo : (N : ℕ) → 8 * (2 * (N / 16)) ≤ N
-          lo N = omega arith
-
-          hi : (N : ℕ) → N ≤ 8 * (2 * (N / 16)) + 32
-          hi N = omega arith
-
-          dlo : (X o : ℕ) → 2 * (X / 2 + o / 2) ≤ X + o
-          dlo X o = omega arith
-
-          dhi : (X o : ℕ) → X + o ≤ 2 * (X / 2 + o / 2) + 4
-          dhi X o = omega arith
-      go (no h) =
-          let r = near-range w X one refl refl (lt-of-not-le h) in
-          let n = (X - one) / 32 in
-          let d = (X / 2 + one / 2) / 2 in
-          let f = eighth-fits (X - one) (X + one) n d 4 r (lo (X - one)) (hi (X - one)) (dlo X one) (dhi X one) sum-least sum-most less in
-          rw (holds w (1024 * 2 ^ 53) (lt-of-not-le h)) (by-quotient (eighthOf n d) (close (X - one) (X + one) n d 4 r (lo (X - one)) (hi (X - one)) (dlo X one) (dhi X one) sum-least sum-most less) (f .0) (f .1) e x E b s)
-        where
-          lo : (N : ℕ) → 8 * (4 * (N / 32)) ≤ N
-          lo N = omega arith
-
-          hi : (N : ℕ) → N ≤ 8 * (4 * (N / 32)) + 32
-          hi N = omega arith
-
-          dlo : (X o : ℕ) → 4 * ((X / 2 + o / 2) / 2) ≤ X + o
-          dlo X o = omega arith
-
-          dhi : (X o : ℕ) → X + o ≤ 4 * ((X / 2 + o / 2) / 2) + 4
-          dhi X o = omega arith
-
-module _ (w : ℕ) (least : 2 ^ 53 ≤ w) (most : w < 1023 * 2 ^ 53) where
-  abbrev part : ℕ
-  part = significandOf w / 2 ^ (1023 - w / 2 ^ 53)
-
-  units : 2 ^ (1023 - w / 2 ^ 53) * 2 ^ (w / 2 ^ 53) ≡ 2 ^ 1023
-  units = sym (pow-add 2 (1023 - w / 2 ^ 53) (w / 2 ^ 53)) ∙ ap (λ (x : ℕ). 2 ^ x) (lin w most)
-    where
-      lin : (w : ℕ) → w < 1023 * 2 ^ 53 → 1023 - w / 2 ^ 53 + w / 2 ^ 53 ≡ 1023
-      lin w k = omega arith
-
-  part-lo : part * 2 ^ 1023 ≤ significandOf w * 2 ^ (w / 2 ^ 53)
-  part-lo = le-trans (le-of-eq (ap (λ (x : ℕ). part * x) (sym units) ∙ sym (mul-assoc part (2 ^ (1023 - w / 2 ^ 53)) (2 ^ (w / 2 ^ 53))))) (mul-le-mul-right (2 ^ (w / 2 ^ 53)) (div-mul-le-self (significandOf w) (2 ^ (1023 - w / 2 ^ 53))))
-
-  part-hi : significandOf w * 2 ^ (w / 2 ^ 53) ≤ (part + 1) * 2 ^ 1023
-  part-hi = le-trans (mul-le-mul-right (2 ^ (w / 2 ^ 53)) (le-trans (le-of-lt (lt-div-mul-add {a = significandOf w} {b = 2 ^ (1023 - w / 2 ^ 53)} (pow-pos (1023 - w / 2 ^ 53)))) (le-of-eq (more part (2 ^ (1023 - w / 2 ^ 53)))))) (le-of-eq (mul-assoc (part + 1) (2 ^ (1023 - w / 2 ^ 53)) (2 ^ (w / 2 ^ 53)) ∙ ap (λ (x : ℕ). (part + 1) * x) units))
+  floor-hi : (n i j g : ℕ) → 2 ^ i * j ≡ g → n * j ≤ (n / 2 ^ i + 1) * g
+  floor-hi n i j g e = le-trans (mul-le-mul-right j (le-trans (le-of-lt (lt-div-mul-add {a = n} {b = 2 ^ i} (pow-pos i))) (le-of-eq (more (n / 2 ^ i) (2 ^ i))))) (le-of-eq (mul-assoc (n / 2 ^ i + 1) (2 ^ i) j ∙ ap (λ (x : ℕ). (n / 2 ^ i + 1) * x) e))
     where
       more : (x g : ℕ) → x * g + g ≡ (x + 1) * g
       more x g = simp (add-mul, one-mul)
 
-  unit-le : 2 ^ (w / 2 ^ 53) ≤ 2 ^ 1023
-  unit-le = pow-mono (last w most)
+  unit-le : 2 ^ q ≤ G
+  unit-le = pow-mono (lin q)
     where
-      last : (w : ℕ) → w < 1023 * 2 ^ 53 → w / 2 ^ 53 ≤ 1023
-      last w h = omega arith
+      lin : (q : ℕ) → q ≤ q + (1023 - q)
+      lin q = omega arith
 
-  below-one : part < 2 ^ 63
-  below-one = below-part w (significandOf w) part most refl refl
-
-  abbrev y : ℕ
-  y = eighthOf ((2 ^ 63 - part) / 16) ((2 ^ 63 + part) / 2)
-
-  abbrev Known : Type 0
-  Known = Close (2 ^ 63 - part) (2 ^ 63 + part) y × ((0 < y) × (y < 2 ^ 64))
-
-  known : Known
-  known = go part (minus-range part below-one) below-one
+  sum-least : 2 ^ 51 ≤ expPart w + onePart w
+  sum-least = go (decLe 1023 q)
     where
-      go : (p : ℕ) → (2 ^ 62 ≤ (2 ^ 63 + p) / 2) × (5 * ((2 ^ 63 + p) / 2) ≤ 14 * 2 ^ 62) × (10 * ((2 ^ 63 - p) / 16) ≤ 3 * ((2 ^ 63 + p) / 2)) → p < 2 ^ 63
-          → Close (2 ^ 63 - p) (2 ^ 63 + p) (eighthOf ((2 ^ 63 - p) / 16) ((2 ^ 63 + p) / 2)) × ((0 < eighthOf ((2 ^ 63 - p) / 16) ((2 ^ 63 + p) / 2)) × (eighthOf ((2 ^ 63 - p) / 16) ((2 ^ 63 + p) / 2) < 2 ^ 64))
-      go p r h = (
-        close (2 ^ 63 - p) (2 ^ 63 + p) ((2 ^ 63 - p) / 16) ((2 ^ 63 + p) / 2) 2 r (lo (2 ^ 63 - p)) (hi (2 ^ 63 - p)) (dlo (2 ^ 63 + p)) (dhi (2 ^ 63 + p)) (least₁ p) (most₁ p h) (less p),
-        eighth-fits (2 ^ 63 - p) (2 ^ 63 + p) ((2 ^ 63 - p) / 16) ((2 ^ 63 + p) / 2) 2 r (lo (2 ^ 63 - p)) (hi (2 ^ 63 - p)) (dlo (2 ^ 63 + p)) (dhi (2 ^ 63 + p)) (least₁ p) (most₁ p h) (less p),
-      )
+      none : (q : ℕ) → 1023 ≤ q → 1023 - q ≡ 0
+      none q h = omega arith
+
+      under : (q : ℕ) → (1023 ≤ q → ⊥) → q - 1023 ≡ 0
+      under q h = omega arith
+
+      first : (X o : ℕ) → 2 ^ 63 ≤ X → 2 ^ 51 ≤ X / 1 / 4096 + o
+      first X o h = omega arith
+
+      second : (e : ℕ) → 2 ^ 51 ≤ e + 2 ^ 63 / 1 / 4096
+      second e = omega arith
+
+      go : Dec (1023 ≤ q) → 2 ^ 51 ≤ expPart w + onePart w
+      go (yes h) = subst (λ (n : ℕ). 2 ^ 51 ≤ X / 2 ^ n / 4096 + onePart w) (sym (none q h)) (first X (onePart w) (significand-lo w))
+      go (no h) = subst (λ (n : ℕ). 2 ^ 51 ≤ expPart w + 2 ^ 63 / 2 ^ n / 4096) (sym (under q h)) (second (expPart w))
+
+  parts : (P d : ℕ) → X * (2 ^ q * d) ≤ P * 2 ^ 1086 + 5856 * (2 ^ q * d) → P * 2 ^ 1086 ≤ X * (2 ^ q * d) + 6508 * (2 ^ q * d) → Parts (P * 2 ^ 1086) (d * 2 ^ 1086) (G * d) (expPart w) (onePart w)
+  parts P d l u = (
+    e-low (X / 2 ^ (1023 - q)) (X * (2 ^ q * d)) (P * 2 ^ 1086) (2 ^ q * d) (G * d) (times (X / 2 ^ (1023 - q)) G X (2 ^ q) (floor-lo X (1023 - q) (2 ^ q) G e-unit)) l v,
+    e-high (X / 2 ^ (1023 - q)) (X * (2 ^ q * d)) (P * 2 ^ 1086) (2 ^ q * d) (G * d) (times X (2 ^ q) (X / 2 ^ (1023 - q) + 1) G (floor-hi X (1023 - q) (2 ^ q) G e-unit)) u v,
+    o-low (2 ^ 63 / 2 ^ (q - 1023)) (d * 2 ^ 1086) (G * d) (le-trans (times (2 ^ 63 / 2 ^ (q - 1023)) G (2 ^ 63) (2 ^ 1023) (floor-lo (2 ^ 63) (q - 1023) (2 ^ 1023) G o-unit)) (le-of-eq (one d))),
+    o-high (2 ^ 63 / 2 ^ (q - 1023)) (d * 2 ^ 1086) (G * d) (le-trans (le-of-eq (sym (one d))) (times (2 ^ 63) (2 ^ 1023) (2 ^ 63 / 2 ^ (q - 1023) + 1) G (floor-hi (2 ^ 63) (q - 1023) (2 ^ 1023) G o-unit))),
+  )
+    where
+      v : 2 ^ q * d ≤ G * d
+      v = mul-le-mul-right d unit-le
+
+      times : (a b c e : ℕ) → a * b ≤ c * e → a * (b * d) ≤ c * (e * d)
+      times a b c e h = le-trans (le-of-eq (sym (mul-assoc a b d))) (le-trans (mul-le-mul-right d h) (le-of-eq (mul-assoc c e d)))
+
+      one : (d : ℕ) → 2 ^ 63 * (2 ^ 1023 * d) ≡ d * 2 ^ 1086
+      one d = sym (mul-assoc (2 ^ 63) (2 ^ 1023) d) ∙ mul-comm (2 ^ 1086) d
+
+      cut-lo : (E ω : ℕ) → 4096 * (E / 4096) * ω ≤ E * ω
+      cut-lo E ω = mul-le-mul-right ω (lin E)
         where
-          lo : (N : ℕ) → 8 * (2 * (N / 16)) ≤ N
-          lo N = omega arith
+          lin : (E : ℕ) → 4096 * (E / 4096) ≤ E
+          lin E = omega arith
 
-          hi : (N : ℕ) → N ≤ 8 * (2 * (N / 16)) + 32
-          hi N = omega arith
+      cut-hi : (E ω : ℕ) → (E + 1) * ω ≤ 4096 * (E / 4096) * ω + 4096 * ω
+      cut-hi E ω = le-trans (mul-le-mul-right ω (lin E)) (le-of-eq (add-mul (4096 * (E / 4096)) 4096 ω))
+        where
+          lin : (E : ℕ) → E + 1 ≤ 4096 * (E / 4096) + 4096
+          lin E = omega arith
 
-          dlo : (D : ℕ) → 2 * (D / 2) ≤ D
-          dlo D = omega arith
+      e-low : (E x α v ω : ℕ) → E * ω ≤ x → x ≤ α + 5856 * v → v ≤ ω → 4096 * (E / 4096) * ω ≤ α + 5856 * ω
+      e-low E x α v ω h k l = lin (4096 * (E / 4096) * ω) (E * ω) x α v ω (cut-lo E ω) h k l
+        where
+          lin : (c e x α v ω : ℕ) → c ≤ e → e ≤ x → x ≤ α + 5856 * v → v ≤ ω → c ≤ α + 5856 * ω
+          lin c e x α v ω a b d e' = omega arith
 
-          dhi : (D : ℕ) → D ≤ 2 * (D / 2) + 4
-          dhi D = omega arith
+      e-high : (E x α v ω : ℕ) → x ≤ (E + 1) * ω → α ≤ x + 6508 * v → v ≤ ω → α ≤ 4096 * (E / 4096) * ω + 10604 * ω
+      e-high E x α v ω h k l = lin (4096 * (E / 4096) * ω) ((E + 1) * ω) x α v ω (cut-hi E ω) h k l
+        where
+          lin : (c e x α v ω : ℕ) → e ≤ c + 4096 * ω → x ≤ e → α ≤ x + 6508 * v → v ≤ ω → α ≤ c + 10604 * ω
+          lin c e x α v ω a b d e' = omega arith
 
-          least₁ : (p : ℕ) → 2 ^ 63 ≤ 2 ^ 63 + p
-          least₁ p = omega arith
+      o-low : (O β ω : ℕ) → O * ω ≤ β → 4096 * (O / 4096) * ω ≤ β
+      o-low O β ω h = le-trans (cut-lo O ω) h
 
-          most₁ : (p : ℕ) → p < 2 ^ 63 → 2 ^ 63 + p ≤ 2 ^ 65
-          most₁ p h = omega arith
+      o-high : (O β ω : ℕ) → β ≤ (O + 1) * ω → β ≤ 4096 * (O / 4096) * ω + 4096 * ω
+      o-high O β ω h = le-trans h (cut-hi O ω)
 
-          less : (p : ℕ) → 2 ^ 63 - p ≤ 2 ^ 63 + p
-          less p = omega arith
-
-  pub minus-near : (e x : Frac) → Pos e → Bracket w 242 e → eqF x (divF (subF e (natF 1)) (addF e (natF 1))) → near (2 ^ 48) (valF (minusOf w)) x
-  unfolding minusOf
-  minus-near (frac p n d) x E b s = go (le-dest (positive (significandOf w * 2 ^ (w / 2 ^ 53)) (5856 * 2 ^ (w / 2 ^ 53)) (2 ^ 1086) p n d (mul-le-mul-right (2 ^ (w / 2 ^ 53)) (le-trans (lit≤ tt) (significand-lo w))) (pow-pos 1086) (b .0)))
+  pub tanh-near : (e x : Frac) → Pos e → Bracket w 242 e → eqF x (divF (subF e (natF 1)) (addF e (natF 1))) → near (2 ^ 48) (valF (tanhRatioOf w)) x
+  unfolding tanhRatioOf
+  tanh-near (frac p n d) x E b s = go (le-dest (positive (X * 2 ^ q) (5856 * 2 ^ q) (2 ^ 1086) p n d (mul-le-mul-right (2 ^ q) (le-trans (lit≤ tt) (significand-lo w))) (pow-pos 1086) (b .0)))
     where
-      at : (P : ℕ) → Bracket w 242 (frac (n + P) n d) → eqF x (divF (subF (frac (n + P) n d) (natF 1)) (addF (frac (n + P) n d) (natF 1))) → near (2 ^ 48) (valF (packed 1 y 1024)) x
+      at : (P : ℕ) → Bracket w 242 (frac (n + P) n d) → eqF x (divF (subF (frac (n + P) n d) (natF 1)) (addF (frac (n + P) n d) (natF 1))) → near (2 ^ 48) (valF (ratioOf (expPart w) (onePart w))) x
       at P b s =
-          let X = significandOf w in
-          let Y = 2 ^ (w / 2 ^ 53) in
+          let Y = 2 ^ q in
           let C = 2 ^ 1086 in
-          quotient-minus (d * C) (P * C) (2 ^ 1023 * d) (2 ^ 63 - part) (2 ^ 63 + part) y x (least₁ part)
-          (minus-ratio X part (2 ^ 63) Y (2 ^ 1023) d (d * C) (P * C) (le-of-lt below-one) part-lo part-hi unit-le (mul-comm d C ∙ mul-assoc (2 ^ 63) (2 ^ 1023) d) (part-low X Y C n P d (b .0) (b .1)) (part-high X Y C n P d (b .0) (b .1)))
-          (known .0) (known .1 .0) (known .1 .1) (subst (λ (t : ℕ). 0 < t) (add-comm (P * C) (d * C)) (some-of (P * C) (d * C) (mul-pos E (pow-pos 1086))))
-          (subst (λ (t : ℕ). eqF (negF x) (frac (d * C) (P * C) t)) (add-comm (P * C) (d * C)) (turn x (P * C) (d * C) (P * C + d * C) (value-scaled n P d C x E s)))
-        where
-          least₁ : (p : ℕ) → 2 ^ 63 ≤ 2 ^ 63 + p
-          least₁ p = omega arith
+          ratio-near (P * C) (d * C) (G * d) (expPart w) (onePart w) x (some-of (P * C) (d * C) (mul-pos E (pow-pos 1086))) (value-scaled n P d C x E s) (small-part X (1023 - q) (significand-hi w)) (small-part (2 ^ 63) (q - 1023) (lit< tt)) sum-least
+          (parts P d (part-low X Y C n P d (b .0) (b .1)) (part-high X Y C n P d (b .0) (b .1)))
 
-          turn : (x : Frac) (a b c : ℕ) → eqF x (frac a b c) → eqF (negF x) (frac b a c)
-          turn x a b c h = (neg-antiF (frac a b c) x (h .1), neg-antiF x (frac a b c) (h .0))
-
-      go : (P : ℕ) × (n + P ≡ p) → near (2 ^ 48) (valF (packed 1 y 1024)) x
+      go : (P : ℕ) × (n + P ≡ p) → near (2 ^ 48) (valF (ratioOf (expPart w) (onePart w))) x
       go (P, i) = at P (subst (λ (p : ℕ). Bracket w 242 (frac p n d)) (sym i) b) (subst (λ (p : ℕ). eqF x (divF (subF (frac p n d) (natF 1)) (addF (frac p n d) (natF 1)))) (sym i) s)

@@ -1,8 +1,9 @@
 // exp, exp_m1 and tanh in u64 fixed point, on one exponential in base 2: the exponent's whole part is the answer's field, 7 bits of its fraction choose a power from a table, five terms do the rest.
 // Budget of exp, in units of 2^-60 and as a part of the value: the argument over ln 2 is cut three times (242, twice that in the answer at most), five terms 81, floors 1, the f64 128; below 2^-50, 2^-48 is asked.
-// exp_m1 takes 1 away from it, from 1/4 on; nearer to 0 six and six terms of a series times the argument, so that the answer keeps all its digits. tanh is a quotient of the same numbers.
+// exp_m1 takes 1 away from it, from 1/4 on; nearer to 0 six and six terms of a series times the argument, so that the answer keeps all its digits.
+// tanh is a quotient of f64s from the same numbers, exact but for the division; in units of 2^-52: core and cuts 12.4, the division 1; 16 is asked. Below 2^-17 it is x, off by a third of its cube.
 ghost use mathlib.Core.Path.{_≡_};
-ghost use Prim.Native.Nat.{_+_, _*_, _/_, _%_, _^_, _≤_, _<_};
+ghost use Prim.Native.Nat.{_+_, _-_, _*_, _/_, _%_, _^_, _≤_, _<_};
 ghost use lib.Dec.{T};
 ghost use lib.Ieee.{binary64, toBits};
 ghost use lib.ListN.{getD};
@@ -12,10 +13,9 @@ ghost use Rattle.exponential.specs.Powers.{powers, terms};
 ghost use Rattle.exponential.specs.Raise.{significandOf, raiseOf};
 ghost use Rattle.exponential.specs.Exp.{expInside, binaryOf, exponentAt, exponentOf, expOf};
 ghost use Rattle.exponential.specs.ExpM1.{oddTerms, evenTerms, fieldOf, ratioOf, smallOf, belowOf, aboveOf, awayOf, expM1Of};
-ghost use Rattle.exponential.specs.Tanh.{tanhInside, eighthOf, minusOf, plusOf, tanhValueOf, tanhOf};
+ghost use Rattle.exponential.specs.Tanh.{tanhInside, tanhRatioOf, tanhOf};
 use fixed_point::high_product;
 use fixed_point::pack;
-use fixed_point::quot;
 use fixed_point::shift_right;
 use fixed_point::step;
 use fixed_point::term_step;
@@ -198,6 +198,13 @@ fn exp_inside(x: f64) -> bool
     x <= 700.0
 }
 
+// a - b, and 0 for a larger b. A shift by it is faster than one by a plain difference: that one is made in a register's low byte, which waits for what the register last held.
+fn above_by(a: u64, b: u64) -> u64
+    ensures { λ r. ⌜ r ≡ a - b ⌝ }
+{
+    if b < a { a - b } else { 0 }
+}
+
 // x / ln 2 and 1023, in units of 2^-53, of the bits of an x from -700 to 700.
 fn exponent_bits(b: u64) -> u64
     requires { ⌜ (fieldOf b ≤ 1032) × (binaryOf b ≤ 1010 * 2 ^ 53) ⌝ }
@@ -205,7 +212,7 @@ fn exponent_bits(b: u64) -> u64
     ensures range { λ r. ⌜ (2 ^ 53 ≤ r) × (r < 2046 * 2 ^ 53) ⌝ }
 {
     let digits = (b % 0x10_0000_0000_0000 + 0x10_0000_0000_0000) * 2048;
-    let size = shift_right(digits, 1032 - b / 0x10_0000_0000_0000 % 2048);
+    let size = shift_right(digits, above_by(1032, b / 0x10_0000_0000_0000 % 2048));
     let v = high_product(size, 13306513097844322491);
     if 0x8000_0000_0000_0000 <= b {
         0x7fe0_0000_0000_0000 - v
@@ -279,7 +286,7 @@ fn small(b: u64) -> f64
     let digits = (b % 0x10_0000_0000_0000 + 0x10_0000_0000_0000) * 2048;
     let r = ratio(
         0x8000_0000_0000_0000 <= b,
-        shift_right(digits, 1022 - field),
+        shift_right(digits, above_by(1022, field)),
     );
     pack(b / 0x8000_0000_0000_0000, high_product(digits, r), field)
 }
@@ -342,57 +349,16 @@ fn tanh_inside(x: f64) -> bool
     x <= 350.0
 }
 
-// An eighth of a quotient that is at most 1, never 0.
-fn eighth(top: u64, bottom: u64) -> u64
-    requires { ⌜ (2 ^ 62 ≤ bottom) × (5 * bottom ≤ 14 * 2 ^ 62) × (10 * top ≤ 3 * bottom) ⌝ }
-    ensures value { λ r. ⌜ r ≡ eighthOf top bottom ⌝ }
-    ensures least { λ r. ⌜ 0 < r ⌝ }
+// tanh of x from the exponent of 2x. The sign is no branch: either number is moved by how far the exponent's whole part is on its side of 1023.
+fn tanh_ratio(w: u64) -> f64
+    ensures { λ r. ⌜ r ≡ tanhRatioOf w ⌝ }
 {
-    quot(top, bottom) + 1
-}
-
-// tanh of a negative x from the exponent of 2x.
-fn minus(w: u64) -> f64
-    requires { ⌜ (2 ^ 53 ≤ w) × (w < 1023 * 2 ^ 53) ⌝ }
-    ensures { λ r. ⌜ r ≡ minusOf w ⌝ }
-{
-    let z = shift_right(significand(w), 1023 - w / 0x20_0000_0000_0000);
-    pack(
-        1,
-        eighth(
-            (0x8000_0000_0000_0000 - z) / 16,
-            (0x8000_0000_0000_0000 + z) / 2,
-        ),
-        1024,
-    )
-}
-
-// tanh of a positive x from the exponent of 2x.
-fn plus(w: u64) -> f64
-    requires { ⌜ (1023 * 2 ^ 53 ≤ w) × (w < 2046 * 2 ^ 53) ⌝ }
-    ensures { λ r. ⌜ r ≡ plusOf w ⌝ }
-{
-    let one = shift_right(0x8000_0000_0000_0000, w / 0x20_0000_0000_0000 - 1023);
-    let y = significand(w);
-    let bottom = y / 2 + one / 2;
-    if w < 0x8000_0000_0000_0000 {
-        pack(0, eighth((y - one) / 32, bottom / 2), 1024)
-    } else {
-        pack(0, eighth((y - one) / 16, bottom), 1024)
-    }
-}
-
-// tanh of the bits of an x from 2^-17 to 350 in size.
-fn tanh_value(b: u64) -> f64
-    requires { ⌜ (1006 ≤ fieldOf b) × (fieldOf (b + 2 ^ 52) ≤ 1032) × (binaryOf (b + 2 ^ 52) ≤ 1010 * 2 ^ 53) × (fieldOf b ≤ 1031) ⌝ }
-    ensures { λ r. ⌜ r ≡ tanhValueOf b ⌝ }
-{
-    let w = exponent_bits(b + 0x10_0000_0000_0000);
-    if 0x8000_0000_0000_0000 <= b {
-        minus(w)
-    } else {
-        plus(w)
-    }
+    let whole = w / 0x20_0000_0000_0000;
+    let part = shift_right(significand(w), above_by(1023, whole)) / 4096;
+    let one = shift_right(0x8000_0000_0000_0000, above_by(whole, 1023)) / 4096;
+    let x = part as f64;
+    let y = one as f64;
+    (x - y) / (x + y)
 }
 
 // tanh x; outside -350 to 350 no value.
@@ -406,6 +372,6 @@ pub fn tanh(x: f64) -> FloatAnswer
     if b / 0x10_0000_0000_0000 % 2048 < 1006 {
         FloatAnswer::Value(x)
     } else {
-        FloatAnswer::Value(tanh_value(b))
+        FloatAnswer::Value(tanh_ratio(exponent_bits(b + 0x10_0000_0000_0000)))
     }
 }

@@ -4,7 +4,9 @@ use borrow.Author.Tests.{not-true, not-false}
 use mathlib.Core.Path.{subst, sym}
 use lib.Dec.{T}
 use lib.Ieee.{binary64, toBits}
-use Rattle.exponential.proofs.TanhPart.{tanh-accepted, tanh-no-nan, tanh-bits-le, twice-low, twice-field-le, twice-binary-le, tanh-outside, tanh-tiny, tanh-away}
+use lib.Ieee.Bits.{toBits-lt}
+use mir.Facts.{fits-bits}
+use Rattle.exponential.proofs.TanhPart.{tanh-accepted, tanh-no-nan, tanh-bits-le, twice-fits, twice-field-le, twice-binary-le, tanh-outside, tanh-tiny, tanh-away}
 use Rattle.exponential.proofs.tanh.Statement.{statement}
 use Rattle.exponential.proofs.tanh.Tie as tie
 
@@ -17,21 +19,39 @@ returns c = tanh-outside _ _ (c .before .tanh-inside .ensures) (not-true _ (c .i
 float-to-bits-b : tie.Need-float-to-bits-b
 float-to-bits-b c = tanh-no-nan (c .before .before .args .x) (tanh-accepted (c .before .before .args .x) (c .before .tanh-inside .result) (c .before .tanh-inside .ensures) (not-false _ (c .if1 .left)))
 
-tanh-value-requires : tie.Need-tanh-value-requires
-tanh-value-requires c κs =
+add-exponent-bits : tie.Need-add-exponent-bits
+add-exponent-bits c =
+    let a = c .before .before .before in
+    let x = a .args .x in
+    let f = subst T (sym (a .good .0 .1)) tt in
+    fits-bits 64 tt (twice-fits (toBits binary64 x) (tanh-bits-le x f (tanh-accepted x (c .before .before .tanh-inside .result) (c .before .before .tanh-inside .ensures) (not-false _ (c .before .if1 .left)))) (toBits-lt binary64 x f))
+
+exponent-bits-requires : tie.Need-exponent-bits-requires
+exponent-bits-requires c κs =
     let a = c .before .before .before in
     let x = a .args .x in
     let b = toBits binary64 x in
     let u = tanh-bits-le x (subst T (sym (a .good .0 .1)) tt) (tanh-accepted x (c .before .before .tanh-inside .result) (c .before .before .tanh-inside .ensures) (not-false _ (c .before .if1 .left))) in
-    (c .if2 .left, twice-field-le b u (c .if2 .left), twice-binary-le b u (c .if2 .left), twice-low b u)
+    (twice-field-le b u (c .if2 .left), twice-binary-le b u (c .if2 .left))
+
+tanh-ratio-requires : tie.Need-tanh-ratio-requires
+tanh-ratio-requires c κs = search needs
 
 returns-2 : tie.Need-returns-2
 returns-2 c = tanh-tiny _ _ (c .before .before .tanh-inside .ensures) (not-false _ (c .before .if1 .left)) (c .if2 .taken)
 
 returns-3 : tie.Need-returns-3
-returns-3 c = tanh-away _ _ (c .before .before .before .tanh-inside .ensures) (c .tanh-value .result) (not-false _ (c .before .before .if1 .left)) (c .before .if2 .left) (c .tanh-value .ensures)
+returns-3 c = tanh-away _ _ (c .before .before .before .before .tanh-inside .ensures) (c .before .exponent-bits .result) (c .tanh-ratio .result) (not-false _ (c .before .before .before .if1 .left)) (c .before .before .if2 .left) (c .before .exponent-bits .ensures .0) (c .tanh-ratio .ensures)
 
 pub tanh-spec : {M : Type 1} → statement M
 tanh-spec =
     tie.close
-    (tie.spec tanh-inside-requires returns float-to-bits-b tanh-value-requires returns-2 returns-3)
+    (tie.spec
+    tanh-inside-requires
+    returns
+    float-to-bits-b
+    add-exponent-bits
+    exponent-bits-requires
+    tanh-ratio-requires
+    returns-2
+    returns-3)
