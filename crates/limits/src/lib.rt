@@ -33,7 +33,7 @@ pub fn temperature_within(t: f64) -> bool
     within(1.0, 2000.0, t)
 }
 
-// Component i of lists that reach that far.
+// Component i of lists that reach that far: for loops over the count, which the lists' lengths were tested against.
 pub fn component_at(sigma: &[f64], epsilon_k: &[f64], lr: &[f64], la: &[f64], i: usize) -> Component
     requires { ⌜ (i < length (now sigma)) × (i < length (now «epsilon_k»)) × (i < length (now lr)) × (i < length (now la)) ⌝ }
     ensures { λ r. ⌜ r ≡ components (now (sigma .entry)) (now («epsilon_k» .entry)) (now (lr .entry)) (now (la .entry)) i ⌝ }
@@ -78,6 +78,7 @@ fn all_within(low: f64, high: f64, n: usize, l: &[f64]) -> bool
     ok
 }
 
+// The three list tests below take lists as long as the count: an operation has refused others with 1 before it asks them.
 pub fn masses_within(n: usize, mass: &[f64]) -> bool
     requires { ⌜ length (now mass) ≡ n ⌝ }
     ensures { λ r. ⌜ r ≡ massesWithin n (at (now (mass .entry))) ⌝ }
