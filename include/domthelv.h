@@ -1,9 +1,13 @@
 /* The C boundary of domthelv: link target/staticlib/libdomthelv.a (rt staticlib domthelv).
  * A function that can refuse gives 0 where the call is accepted and the refusal's number where it is not;
- * a refused call leaves what it was lent with its bits. */
+ * a refused call leaves what it was lent with its bits. A list is a pointer and a length; a wrong length is 1.
+ * A quantum set is its count, m (8), sheets (384: sigma_ij, epsilon_k_ij, c_ij, lambda_r_ij, lambda_a_ij, mass_ij,
+ * entry (i, j) of each at 8 i + j) and orders (64 bytes, 0 to 2). A set of SAFT-VR Mie is its count, lists (40: m, sigma,
+ * epsilon_k, lr, la, 8 each) and sheets (384: sigma_ij, epsilon_k_ij, lr_ij, la_ij, c_ij, alpha_ij). */
 #ifndef DOMTHELV_H
 #define DOMTHELV_H
 
+#include <stddef.h>
 #include <stdint.h>
 
 #ifdef __cplusplus
@@ -21,6 +25,48 @@ uint8_t domthelv_powf(double base, double exponent, double *out); /* base 1/32 t
 
 /* The whole power, total: for each binary digit of |n| from the lowest; 1 divided by that for a negative n. */
 double domthelv_powi(double x, int32_t n);
+
+/* Quantum model (SAFT-VRQ Mie). */
+
+/* Parameters. 1: a list of the set that is lent; 1: the count is not 1 to 8, or another list's length is not the count
+ * (k_ij, l_ij: its square); 2: a number outside its limit, m excepted; 3: an m that is not 1.0; then pair by pair
+ * 4: an order above 2, 5: the orders 1 and 2; 6: an elementary argument outside. */
+uint8_t domthelv_vrq_parameters(size_t count, const double *m, size_t m_len, const double *sigma, size_t sigma_len,
+    const double *epsilon_k, size_t epsilon_k_len, const double *lr, size_t lr_len, const double *la, size_t la_len,
+    const double *mass, size_t mass_len, const uint8_t *order, size_t order_len, const double *k_ij, size_t k_ij_len,
+    const double *l_ij, size_t l_ij_len, double *set_m, size_t set_m_len, double *set_sheets, size_t set_sheets_len,
+    uint8_t *set_orders, size_t set_orders_len);
+
+/* Temperature table (256: sigma_eff, hs_diameter, epsilon_k_eff, quantum_d) and counts (192: searches for sigma, zero,
+ * depth; 1 to 19, or 20 if spent). 1, 4: the set's lists; 1: the count or a lent list; 2: temperature not 1 to 2000 K;
+ * 6; 7: a value to be written is not finite. */
+uint8_t domthelv_vrq_table(size_t count, const double *m, size_t m_len, const double *sheets, size_t sheets_len,
+    const uint8_t *orders, size_t orders_len, double temperature, double *table, size_t table_len, uint8_t *counts,
+    size_t counts_len);
+
+/* One pair's three searches. out (6): radius and last potential of sigma, zero, depth; counts (3).
+ * 1: out or counts; 1, 4: the set's lists; 1: the count or an index; 2: temperature; 6. */
+uint8_t domthelv_vrq_radii(size_t count, const double *m, size_t m_len, const double *sheets, size_t sheets_len,
+    const uint8_t *orders, size_t orders_len, size_t i, size_t j, double temperature, double *out, size_t out_len,
+    uint8_t *counts, size_t counts_len);
+
+/* SAFT-VR Mie. */
+
+/* Parameters. 1: a list of the set that is lent; 1: the count or a list's length; 2: a number outside its limit; 6. */
+uint8_t domthelv_vr_parameters(size_t count, const double *m, size_t m_len, const double *sigma, size_t sigma_len,
+    const double *epsilon_k, size_t epsilon_k_len, const double *lr, size_t lr_len, const double *la, size_t la_len,
+    const double *k_ij, size_t k_ij_len, const double *gamma_ij, size_t gamma_ij_len, double *set_lists,
+    size_t set_lists_len, double *set_sheets, size_t set_sheets_len);
+
+/* The components' diameters, a list as long as the count. 1: the set's lists; 1: the count or diameters;
+ * 2: temperature; 6; 7: a diameter is not finite. */
+uint8_t domthelv_vr_diameters(size_t count, const double *lists, size_t lists_len, const double *sheets,
+    size_t sheets_len, double temperature, double *diameters, size_t diameters_len);
+
+/* One pair's reduced r0, the lower limit of its diameter's integral. 1: the set's lists; 1: the count or an index;
+ * 2: temperature; 6. */
+uint8_t domthelv_vr_radius(size_t count, const double *lists, size_t lists_len, const double *sheets,
+    size_t sheets_len, size_t i, size_t j, double temperature, double *out);
 
 #ifdef __cplusplus
 }

@@ -1,6 +1,6 @@
 -- Document 01's limits of what is taken. Lists are read through functions: component i, pair (i, j).
 use Prim.Native.Nat.{ℕ, _+_, _*_}
-use lib.Dec.{eqb, leb}
+use lib.Dec.{eqb, leb, ltb}
 use lib.Ieee.{Float, neg, le, lt, eq, toBits, binary64, isNan}
 use mathlib.Core.List.{List}
 use mathlib.Core.Bool.{Bool, false, not, _&&_, cond}
@@ -24,6 +24,10 @@ within low high x = le low x && le x high
 -- components 1 to 8
 unfoldable pub countWithin : ℕ → Bool
 countWithin n = leb 1 n && leb n side
+
+-- 'a pair index outside the count is 1'
+unfoldable pub indexWithin : ℕ → ℕ → ℕ → Bool
+indexWithin n i j = countWithin n && ltb i n && ltb j n
 
 -- sigma 0.5 to 16 ångström; epsilon_k 0.1 to 5000 K; 3 < la < lr ≤ 64
 unfoldable pub componentWithin : Component → Bool

@@ -5,7 +5,7 @@ ghost use lib.ListN.{length};
 ghost use Rattle.number.specs.Lists.{at};
 ghost use Rattle.number.specs.Side.{side};
 ghost use Rattle.number.specs.Walk.{every};
-ghost use Rattle.limits.specs.Limits.{square, components, within, countWithin, componentWithin, componentsWithin, allWithin, massesWithin, segmentsWithin, sharesWithin, temperatureWithin, sameBits, pairWithin, pairsWithin, allOne};
+ghost use Rattle.limits.specs.Limits.{square, components, within, countWithin, indexWithin, componentWithin, componentsWithin, allWithin, massesWithin, segmentsWithin, sharesWithin, temperatureWithin, sameBits, pairWithin, pairsWithin, allOne};
 
 // The numbers of one component that both models take.
 pub struct Component {
@@ -25,6 +25,13 @@ pub fn count_within(n: usize) -> bool
     ensures { λ r. ⌜ r ≡ countWithin n ⌝ }
 {
     (1 <= n) & (n <= number::SIDE)
+}
+
+// Whether the count is within its limits and both indices of a pair are below it.
+pub fn index_within(n: usize, i: usize, j: usize) -> bool
+    ensures { λ r. ⌜ r ≡ indexWithin n i j ⌝ }
+{
+    count_within(n) & (i < n) & (j < n)
 }
 
 pub fn temperature_within(t: f64) -> bool

@@ -3,13 +3,13 @@ use Prim.Native.Nat.{ℕ, _+_, _*_, _≤_, _<_}
 use native.Mathlib.Nat.{mul-le-mul}
 use mathlib.Core.Path.{_≡_, refl, ap, _∙_}
 use mathlib.Core.Bool.{Bool, true, false, _&&_}
-use lib.Dec.{leb}
-use borrow.Author.Tests.{leb-true}
+use lib.Dec.{leb, ltb}
+use borrow.Author.Tests.{leb-true, ltb-true}
 use Rattle.number.specs.Ans.{Ans, held, refused}
 use Rattle.number.specs.Side.{side, sheet}
 use Rattle.number.specs.Walk.{walk}
 use Rattle.number.proofs.Walk.{via, walk-next, walk-stop}
-use Rattle.limits.specs.Limits.{countWithin}
+use Rattle.limits.specs.Limits.{countWithin, indexWithin}
 use Rattle.mie_parameters.specs.declared.ParameterAnswer.{ParameterAnswer}
 use Rattle.mie_parameters.specs.declared.ParameterAnswer.the-variants.{Held, Refused}
 use Rattle.mie_parameters.specs.Answer.{outcome}
@@ -48,3 +48,19 @@ held-at a s w p e = via (λ b. outcome b s) p e
 
 pub refused-at : {S : Type 0} (a : ParameterAnswer) (s : S) (w : Ans S) (k : ℕ) → outcome a s ≡ w → a ≡ Refused k → w ≡ refused k
 refused-at a s w k p e = via (λ b. outcome b s) p e
+
+-- an index that the first test let pass lies on a sheet
+pub record Inside (n i j : ℕ) : Type 0 where
+  pub high : n ≤ side
+  pub row : i < n
+  pub column : j < n
+
+pub inside : (n i j : ℕ) → indexWithin n i j ≡ true → Inside n i j
+unfolding indexWithin
+inside n i j p =
+    let q = and-left (countWithin n && ltb i n) (ltb j n) p in
+    record {
+      high = count-high n (and-left (countWithin n) (ltb i n) q);
+      row = ltb-true i n (and-right (countWithin n) (ltb i n) q);
+      column = ltb-true j n (and-right (countWithin n && ltb i n) (ltb j n) p);
+    }

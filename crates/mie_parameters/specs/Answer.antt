@@ -1,8 +1,11 @@
--- Document 01's number of each case of the parameter answer, and the state that stands beside it.
+-- Document 01's number or values of each case of the answers, and the state that stands beside them.
 use Prim.Native.Nat.{ℕ}
+use lib.Ieee.{Float}
 use Rattle.number.specs.Ans.{Ans, held, refused}
 use Rattle.mie_parameters.specs.declared.ParameterAnswer.{ParameterAnswer}
 use Rattle.mie_parameters.specs.declared.ParameterAnswer.the-variants.{Held, Refused}
+use Rattle.mie_parameters.specs.declared.NumberAnswer.{NumberAnswer}
+use Rattle.mie_parameters.specs.declared.NumberAnswer.the-variants as One
 
 abbrev pub outcome : {S : Type 0} → ParameterAnswer → S → Ans S
 outcome Held s = held s
@@ -11,3 +14,16 @@ outcome (Refused n) s = refused n
 abbrev pub numberOf : ParameterAnswer → ℕ
 numberOf Held = 0
 numberOf (Refused n) = n
+
+-- the answer of an operation, and what it was lent: a refused call has changed nothing
+unfoldable pub verdict : {S : Type 0} → Ans S → ParameterAnswer
+verdict (held x) = Held
+verdict (refused n) = Refused n
+
+unfoldable pub kept : {S : Type 0} → S → Ans S → S
+kept before (held x) = x
+kept before (refused n) = before
+
+abbrev pub numberAnswer : NumberAnswer → Ans Float
+numberAnswer (One.Value x) = held x
+numberAnswer (One.Refused n) = refused n

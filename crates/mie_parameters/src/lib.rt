@@ -18,6 +18,12 @@ pub enum ParameterAnswer {
     Refused(u8),
 }
 
+// What an operation answers that gives one number: it, or the refusal's.
+pub enum NumberAnswer {
+    Value(f64),
+    Refused(u8),
+}
+
 pub fn number(a: ParameterAnswer) -> u8
     ensures { λ r. ⌜ r ≡ numberOf a ⌝ }
 {

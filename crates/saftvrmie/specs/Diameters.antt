@@ -6,7 +6,7 @@ use lib.Ieee.Scale.{finite}
 use lib.ListN.{length, set, replicate}
 use mathlib.Core.List.{List}
 use mathlib.Core.Bool.{Bool, _&&_}
-use Rattle.number.specs.Ans.{Ans, held, refused, _>>=_, demand}
+use Rattle.number.specs.Ans.{Ans, held, _>>=_, demand}
 use Rattle.number.specs.Arith.{floats, zero64}
 use Rattle.number.specs.Functions.{calls}
 use Rattle.number.specs.Lists.{at}
@@ -14,8 +14,6 @@ use Rattle.number.specs.Side.{side, sheet, cell}
 use Rattle.number.specs.Walk.{turns, every, walk}
 use Rattle.elementary.specs.Port.{port}
 use Rattle.limits.specs.Limits.{countWithin, temperatureWithin}
-use Rattle.mie_parameters.specs.declared.ParameterAnswer.{ParameterAnswer}
-use Rattle.mie_parameters.specs.declared.ParameterAnswer.the-variants.{Held, Refused}
 use Rattle.saftvrmie_diameter.specs.Diameter.{hsDiameter}
 
 -- entry (i, i) of sheet k: sigma_ij, epsilon_k_ij, lr_ij, la_ij, c_ij, alpha_ij
@@ -52,12 +50,3 @@ diameters n sheets t l =
     worked n sheets t >>= λ d.
     demand 7 (allFinite n d) >>= λ _.
     held (written n d l)
-
--- the answer, and the lent list: a refused call has changed nothing
-unfoldable pub verdict : {S : Type 0} → Ans S → ParameterAnswer
-verdict (held x) = Held
-verdict (refused n) = Refused n
-
-unfoldable pub kept : {S : Type 0} → S → Ans S → S
-kept before (held x) = x
-kept before (refused n) = before

@@ -1,1 +1,2 @@
 pub mod Diameters
+pub mod Pairs

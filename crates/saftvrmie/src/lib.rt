@@ -1,12 +1,15 @@
-// Operations of SAFT-VR Mie on a set: the components' diameters.
+// Operations of SAFT-VR Mie on a set: the components' diameters, and a pair's lower limit and diameter.
 ghost use mathlib.Core.Path.{_≡_};
 ghost use Prim.Native.Nat.{_<_, _≤_};
 ghost use lib.ListN.{length};
 ghost use Rattle.number.specs.Answer.{answer};
-ghost use Rattle.number.specs.Side.{side};
+ghost use Rattle.number.specs.Side.{side, sheet};
 ghost use Rattle.number.specs.Walk.{walk};
-ghost use Rattle.mie_parameters.specs.Answer.{outcome};
-ghost use Rattle.saftvrmie.specs.Diameters.{diagonal, diameterAt, diameterTurn, allFinite, written, rightList, diameters, verdict, kept};
+ghost use Rattle.mie_parameters.specs.Answer.{outcome, verdict, kept, numberAnswer};
+ghost use Rattle.saftvrmie.specs.Diameters.{diagonal, diameterAt, diameterTurn, allFinite, written, rightList, diameters};
+ghost use Rattle.number.specs.Arith.{floats};
+ghost use Rattle.saftvrmie.specs.Pairs.{entryOf, cEpsAt, radiusIj, diameterIj};
+use mie_parameters::NumberAnswer;
 use mie_parameters::ParameterAnswer;
 use number::FloatAnswer;
 use number::SHEET;
@@ -93,4 +96,72 @@ pub fn hs_diameter(set: SaftVRMiePars, temperature: f64, out: &mut [f64]) -> Par
     }
     write(n, &d, out);
     ParameterAnswer::Held
+}
+
+fn entry(sheets: &[f64; 384], k: usize, e: usize) -> f64
+    requires { ⌜ (k < 6) × (e < sheet) ⌝ }
+    ensures { λ r. ⌜ r ≡ entryOf (now (sheets .entry)) k e ⌝ }
+{
+    sheets[SHEET * k + e]
+}
+
+fn c_eps_at(sheets: &[f64; 384], temperature: f64, e: usize) -> f64
+    requires { ⌜ e < sheet ⌝ }
+    ensures { λ r. ⌜ r ≡ cEpsAt (now (sheets .entry)) temperature e ⌝ }
+{
+    let c = entry(sheets, 4, e);
+    let epsilon_k = entry(sheets, 1, e);
+    saftvrmie_diameter::c_eps_t(temperature, c, epsilon_k)
+}
+
+// The reduced lower limit of the pair (i, j). 1, 2, 6.
+pub fn radius_ij(set: SaftVRMiePars, i: usize, j: usize, temperature: f64) -> NumberAnswer
+    ensures { λ r. ⌜ numberAnswer r ≡ radiusIj set i j temperature ⌝ }
+{
+    if !limits::index_within(set.count, i, j) {
+        return NumberAnswer::Refused(1);
+    }
+    if !limits::temperature_within(temperature) {
+        return NumberAnswer::Refused(2);
+    }
+    let sheets = set.sheets;
+    let e = SIDE * i + j;
+    let la = entry(&sheets, 3, e);
+    let lr = entry(&sheets, 2, e);
+    let c_eps_t = c_eps_at(&sheets, temperature, e);
+    let FloatAnswer::Value(r) = saftvrmie_diameter::lower_integratal_limit(la, lr, c_eps_t) else {
+        return NumberAnswer::Refused(6);
+    };
+    NumberAnswer::Value(r)
+}
+
+// The diameter of the pair (i, j) from its reduced lower limit. 1, 2, 6, 7.
+pub fn diameter_ij(
+    set: SaftVRMiePars,
+    i: usize,
+    j: usize,
+    temperature: f64,
+    r0: f64,
+) -> NumberAnswer
+    ensures { λ r. ⌜ numberAnswer r ≡ diameterIj set i j temperature r0 ⌝ }
+{
+    if !limits::index_within(set.count, i, j) {
+        return NumberAnswer::Refused(1);
+    }
+    if !limits::temperature_within(temperature) {
+        return NumberAnswer::Refused(2);
+    }
+    let sheets = set.sheets;
+    let e = SIDE * i + j;
+    let la = entry(&sheets, 3, e);
+    let lr = entry(&sheets, 2, e);
+    let c_eps_t = c_eps_at(&sheets, temperature, e);
+    let sigma = entry(&sheets, 0, e);
+    let FloatAnswer::Value(d) = saftvrmie_diameter::diameter_from(la, lr, c_eps_t, sigma, r0) else {
+        return NumberAnswer::Refused(6);
+    };
+    if !number::is_finite(d) {
+        return NumberAnswer::Refused(7);
+    }
+    NumberAnswer::Value(d)
 }

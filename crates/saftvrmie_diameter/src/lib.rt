@@ -43,7 +43,8 @@ fn weight(k: usize) -> f64
     GLQ10[k][1]
 }
 
-fn c_eps_t(temperature: f64, c: f64, epsilon_k: f64) -> f64
+// inverse_temperature * c_ij * epsilon_k_ij
+pub fn c_eps_t(temperature: f64, c: f64, epsilon_k: f64) -> f64
     ensures { λ r. ⌜ r ≡ cEpsT floats temperature c «epsilon_k» ⌝ }
 {
     1.0 / temperature * c * epsilon_k

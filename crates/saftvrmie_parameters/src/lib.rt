@@ -51,7 +51,8 @@ pub enum PairAnswer {
     Outside,
 }
 
-fn refused_with(number: u8) -> ParameterSet
+// The set beside a refusal: count 0, all +0.
+pub fn refused_with(number: u8) -> ParameterSet
     ensures { λ r. ⌜ r ≡ given (refused number) ⌝ }
 {
     let blank = [0.0; 8];

@@ -10,6 +10,7 @@ use lib.Dec.{eqb}
 use borrow.Author.Tests.{eqb-true}
 use lib.ListN.{length, getD, set, take, drop, length-drop, length-set, drop-of-length-le}
 use lib.Seq.{paste-suc, getD-drop, take-at, drop-at, take-add, drop-drop, length-take-le, take-all}
+use Rattle.mie_parameters.specs.Answer.{verdict, kept}
 use Rattle.number.specs.Ans.{Ans, held, refused, _>>=_, demand}
 use Rattle.number.specs.Arith.{floats}
 use Rattle.number.specs.Functions.{calls}
@@ -28,7 +29,7 @@ use Rattle.saftvrqmie_properties.specs.Properties.{PropertiesIn, propertiesIn, 
 use Rattle.saftvrqmie_properties.specs.declared.PairProperties.{PairProperties}
 use Rattle.saftvrqmie_properties.specs.declared.PropertiesAnswer.{PropertiesAnswer}
 use Rattle.saftvrqmie_properties.specs.declared.PropertiesAnswer.the-variants.{At, Outside}
-use Rattle.saftvrqmie.specs.Table.{Lent, pairAt, store, workTurn, workRow, workPairs, blank, allFinite, rightLists, temperatureTable, verdict, kept}
+use Rattle.saftvrqmie.specs.Table.{Lent, pairAt, store, workTurn, workRow, workPairs, blank, allFinite, rightLists, temperatureTable}
 
 -- a loop that copies v from `from` on over d
 module _ {A : Type 0} (v d : List A) (from : ℕ) where

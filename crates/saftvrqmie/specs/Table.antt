@@ -6,7 +6,7 @@ use lib.Ieee.Scale.{finite}
 use lib.ListN.{getD, length, set, replicate}
 use mathlib.Core.List.{List}
 use mathlib.Core.Bool.{Bool, _&&_}
-use Rattle.number.specs.Ans.{Ans, held, refused, _>>=_, demand}
+use Rattle.number.specs.Ans.{Ans, held, _>>=_, demand}
 use Rattle.number.specs.Arith.{floats, zero64}
 use Rattle.number.specs.Functions.{calls}
 use Rattle.number.specs.Lists.{at}
@@ -14,8 +14,6 @@ use Rattle.number.specs.Side.{sheet, cell}
 use Rattle.number.specs.Walk.{every, walk}
 use Rattle.elementary.specs.Port.{port}
 use Rattle.limits.specs.Limits.{countWithin, temperatureWithin}
-use Rattle.mie_parameters.specs.declared.ParameterAnswer.{ParameterAnswer}
-use Rattle.mie_parameters.specs.declared.ParameterAnswer.the-variants.{Held, Refused}
 use Rattle.saftvrqmie_parameters.specs.Parameters.{unused}
 use Rattle.saftvrqmie_parameters.specs.declared.OrderRecord.{OrderRecord}
 use Rattle.saftvrqmie_parameters.specs.declared.SaftVRQMiePars.{SaftVRQMiePars}
@@ -78,12 +76,3 @@ temperatureTable s t l =
     workPairs (s .count) (s .sheets) (s .orders) t blank >>= λ w.
     demand 7 (allFinite (w .values)) >>= λ _.
     held w
-
--- the answer, and the lent lists: a refused call has changed nothing
-unfoldable pub verdict : Ans Lent → ParameterAnswer
-verdict (held w) = Held
-verdict (refused n) = Refused n
-
-unfoldable pub kept : Lent → Ans Lent → Lent
-kept l (held w) = w
-kept l (refused n) = l

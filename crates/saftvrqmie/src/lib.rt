@@ -1,4 +1,4 @@
-// Operations of SAFT-VRQ Mie on a set: the temperature table (saftvrqmie/eos/mod.rs).
+// Operations of SAFT-VRQ Mie on a set: the temperature table (saftvrqmie/eos/mod.rs), and a pair's searches and diameter.
 ghost use mathlib.Core.Path.{_≡_};
 ghost use Prim.Native.Nat.{_+_, _*_, _<_, _≤_};
 ghost use lib.ListN.{length, take, drop};
@@ -6,10 +6,14 @@ ghost use Rattle.number.specs.Arith.{floats};
 ghost use Rattle.number.specs.Functions.{calls};
 ghost use Rattle.number.specs.Side.{side, sheet};
 ghost use Rattle.elementary.specs.Port.{port};
-ghost use Rattle.mie_parameters.specs.Answer.{outcome};
+ghost use Rattle.mie_parameters.specs.Answer.{outcome, verdict, kept, numberAnswer};
+ghost use Rattle.saftvrqmie_potential.specs.Potential.{pairIn};
 ghost use Rattle.saftvrqmie_properties.specs.Properties.{propertiesIn};
-ghost use Rattle.saftvrqmie.specs.Table.{Lent, pairAt, store, workRow, workPairs, allFinite, rightLists, temperatureTable, verdict, kept};
+ghost use Rattle.saftvrqmie.specs.Table.{Lent, pairAt, store, workRow, workPairs, allFinite, rightLists, temperatureTable};
+ghost use Rattle.saftvrqmie.specs.Pairs.{searchesAnswer, pairSearches, searches, diameterIj};
+use mie_parameters::NumberAnswer;
 use mie_parameters::ParameterAnswer;
+use number::FloatAnswer;
 use number::SHEET;
 use number::SIDE;
 use saftvrqmie_parameters::OrderRecord;
@@ -17,6 +21,34 @@ use saftvrqmie_parameters::SaftVRQMiePars;
 use saftvrqmie_potential::Pair;
 use saftvrqmie_properties::PairProperties;
 use saftvrqmie_properties::PropertiesAnswer;
+use saftvrqmie_searches::Search;
+use saftvrqmie_searches::SearchAnswer;
+
+// The sheets of a set after the first: epsilon_k_ij, c_ij, lambda_r_ij, lambda_a_ij, mass_ij; of a table and its counts likewise.
+const SECOND: usize = SHEET;
+
+const THIRD: usize = 2 * SHEET;
+
+const FOURTH: usize = 3 * SHEET;
+
+const FIFTH: usize = 4 * SHEET;
+
+const SIXTH: usize = 5 * SHEET;
+
+// What the three searches of a pair give, each with its count.
+pub struct PairSearches {
+    pub sigma: Search,
+    pub zero: Search,
+    pub depth: Search,
+    pub sigma_count: u8,
+    pub zero_count: u8,
+    pub depth_count: u8,
+}
+
+pub enum SearchesAnswer {
+    Searched(PairSearches),
+    Refused(u8),
+}
 
 fn pair_at(s: &[f64; 384], orders: [OrderRecord; 64], t: f64, e: usize) -> Pair
     requires { ⌜ e < sheet ⌝ }
@@ -26,11 +58,11 @@ fn pair_at(s: &[f64; 384], orders: [OrderRecord; 64], t: f64, e: usize) -> Pair
     let order = record.order;
     Pair {
         sigma: s[e],
-        epsilon_k: s[64 + e],
-        c: s[128 + e],
-        lr: s[192 + e],
-        la: s[256 + e],
-        mass: s[320 + e],
+        epsilon_k: s[SECOND + e],
+        c: s[THIRD + e],
+        lr: s[FOURTH + e],
+        la: s[FIFTH + e],
+        mass: s[SIXTH + e],
         order,
         temperature: t,
     }
@@ -41,12 +73,12 @@ fn store(values: &mut [f64; 256], numbers: &mut [u8; 192], e: usize, p: PairProp
     ensures { λ _. ⌜ record { values = now (values .exit); numbers = now (numbers .exit) } ≡ store (record { values = now (values .entry); numbers = now (numbers .entry) }) e (propertiesIn p) ⌝ }
 {
     values[e] = p.sigma_eff;
-    values[64 + e] = p.hs_diameter;
-    values[128 + e] = p.epsilon_k_eff;
-    values[192 + e] = p.quantum_d;
+    values[SECOND + e] = p.hs_diameter;
+    values[THIRD + e] = p.epsilon_k_eff;
+    values[FOURTH + e] = p.quantum_d;
     numbers[e] = p.sigma_count;
-    numbers[64 + e] = p.zero_count;
-    numbers[128 + e] = p.depth_count;
+    numbers[SECOND + e] = p.zero_count;
+    numbers[THIRD + e] = p.depth_count;
 }
 
 fn work_row(
@@ -125,25 +157,25 @@ fn write_table(table: &mut [f64], values: &[f64; 256])
     requires { ⌜ (length (now table) ≡ 4 * sheet) × (length (now values) ≡ 4 * sheet) ⌝ }
     ensures { λ _. ⌜ now (table .exit) ≡ now (values .entry) ⌝ }
 {
-    write_sheet(&mut table[0..64], values, 0);
-    write_sheet(&mut table[64..128], values, 64);
-    write_sheet(&mut table[128..192], values, 128);
-    write_sheet(&mut table[192..256], values, 192);
+    write_sheet(&mut table[0..SECOND], values, 0);
+    write_sheet(&mut table[SECOND..THIRD], values, SECOND);
+    write_sheet(&mut table[THIRD..FOURTH], values, THIRD);
+    write_sheet(&mut table[FOURTH..FIFTH], values, FOURTH);
 }
 
 fn write_numbers(counts: &mut [u8], numbers: &[u8; 192])
     requires { ⌜ (length (now counts) ≡ 3 * sheet) × (length (now numbers) ≡ 3 * sheet) ⌝ }
     ensures { λ _. ⌜ now (counts .exit) ≡ now (numbers .entry) ⌝ }
 {
-    write_counts(&mut counts[0..64], numbers, 0);
-    write_counts(&mut counts[64..128], numbers, 64);
-    write_counts(&mut counts[128..192], numbers, 128);
+    write_counts(&mut counts[0..SECOND], numbers, 0);
+    write_counts(&mut counts[SECOND..THIRD], numbers, SECOND);
+    write_counts(&mut counts[THIRD..FOURTH], numbers, THIRD);
 }
 
 fn right_lists(n: usize, a: usize, b: usize) -> bool
     ensures { λ r. ⌜ r ≡ rightLists n a b ⌝ }
 {
-    limits::count_within(n) & (a == 256) & (b == 192)
+    limits::count_within(n) & (a == FIFTH) & (b == FOURTH)
 }
 
 // The temperature table of a set and the counts of its searches. 1, 2, 6, 7.
@@ -176,4 +208,74 @@ pub fn temperature_dependent_properties(
     write_table(table, &values);
     write_numbers(counts, &numbers);
     ParameterAnswer::Held
+}
+
+fn pair_searches(pair: Pair) -> SearchesAnswer
+    ensures { λ r. ⌜ searchesAnswer r ≡ pairSearches floats (calls floats port) (pairIn pair) ⌝ }
+{
+    let SearchAnswer::Ended(sigma, sigma_count) = saftvrqmie_searches::calc_sigma_eff(pair) else {
+        return SearchesAnswer::Refused(6);
+    };
+    let sigma_eff = saftvrqmie_properties::radius(sigma);
+    let SearchAnswer::Ended(zero, zero_count) = saftvrqmie_searches::zero_integrand(pair, sigma_eff)
+    else {
+        return SearchesAnswer::Refused(6);
+    };
+    let SearchAnswer::Ended(depth, depth_count) = saftvrqmie_searches::calc_epsilon_k_eff(pair)
+    else {
+        return SearchesAnswer::Refused(6);
+    };
+    SearchesAnswer::Searched(PairSearches {
+        sigma,
+        zero,
+        depth,
+        sigma_count,
+        zero_count,
+        depth_count,
+    })
+}
+
+// The three radius searches of the pair (i, j). 1, 2, 6.
+pub fn searches_ij(set: SaftVRQMiePars, i: usize, j: usize, temperature: f64) -> SearchesAnswer
+    ensures { λ r. ⌜ searchesAnswer r ≡ searches set i j temperature ⌝ }
+{
+    if !limits::index_within(set.count, i, j) {
+        return SearchesAnswer::Refused(1);
+    }
+    if !limits::temperature_within(temperature) {
+        return SearchesAnswer::Refused(2);
+    }
+    let sheets = set.sheets;
+    let orders = set.orders;
+    let pair = pair_at(&sheets, orders, temperature, SIDE * i + j);
+    pair_searches(pair)
+}
+
+// `hs_diameter_ij`: the diameter of the pair (i, j) from its searched radii. 1, 2, 6, 7.
+pub fn hs_diameter_ij(
+    set: SaftVRQMiePars,
+    i: usize,
+    j: usize,
+    temperature: f64,
+    sigma_eff: f64,
+    r0: f64,
+) -> NumberAnswer
+    ensures { λ r. ⌜ numberAnswer r ≡ diameterIj set i j temperature «sigma_eff» r0 ⌝ }
+{
+    if !limits::index_within(set.count, i, j) {
+        return NumberAnswer::Refused(1);
+    }
+    if !limits::temperature_within(temperature) {
+        return NumberAnswer::Refused(2);
+    }
+    let sheets = set.sheets;
+    let orders = set.orders;
+    let pair = pair_at(&sheets, orders, temperature, SIDE * i + j);
+    let FloatAnswer::Value(d) = saftvrqmie_searches::hs_diameter(pair, sigma_eff, r0) else {
+        return NumberAnswer::Refused(6);
+    };
+    if !number::is_finite(d) {
+        return NumberAnswer::Refused(7);
+    }
+    NumberAnswer::Value(d)
 }

@@ -55,7 +55,8 @@ pub enum PairAnswer {
     Outside,
 }
 
-fn refused_with(number: u8) -> ParameterSet
+// The set beside a refusal: count 0, all +0, FH0.
+pub fn refused_with(number: u8) -> ParameterSet
     ensures { λ r. ⌜ r ≡ given (refused number) ⌝ }
 {
     let m = [0.0; 8];
@@ -237,7 +238,8 @@ fn larger(a: u8, b: u8) -> u8
     if a < b { b } else { a }
 }
 
-fn order_of(n: u8) -> FeynmanHibbsOrder
+// The order of a byte that is at most 2.
+pub fn order_of(n: u8) -> FeynmanHibbsOrder
     ensures { λ r. ⌜ r ≡ orderOf n ⌝ }
 {
     if n == 0 {

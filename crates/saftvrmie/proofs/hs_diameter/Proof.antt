@@ -1,5 +1,6 @@
 -- `saftvrmie::hs_diameter` meets its contract. Assumes nothing.
-use Rattle.saftvrmie.specs.Diameters.{verdict, kept, worked}
+use Rattle.mie_parameters.specs.Answer.{verdict, kept}
+use Rattle.saftvrmie.specs.Diameters.{worked}
 use Rattle.saftvrmie.proofs.Laws.{right-high, right-length, refuses-1, refuses-2, refuses-6, refuses-7, holds}
 use Rattle.number.proofs.Walk.{told}
 use borrow.Author.Tests.{not-true, not-false}

@@ -1,0 +1,135 @@
+-- The operations behind the boundary, test by test, over plain values. Assumes nothing.
+use Prim.Native.Nat.{ℕ}
+use lib.Dec.{eqb}
+use lib.Ieee.{Float}
+use lib.ListN.{length}
+use borrow.Author.Tests.{eqb-true}
+use Rattle.mie_parameters.proofs.Laws.{and-left, and-right}
+use mathlib.Core.List.{List}
+use mathlib.Core.Path.{_≡_, refl, ap, _∙_}
+use mathlib.Core.Bool.{true, false}
+use Rattle.number.specs.Ans.{Ans, held, refused, _>>=_, demand}
+use Rattle.mie_parameters.specs.declared.ParameterAnswer.{ParameterAnswer}
+use Rattle.mie_parameters.specs.Answer.{numberOf, verdict, kept}
+use Rattle.saftvrqmie_parameters.specs.Parameters as Quantum
+use Rattle.saftvrqmie_parameters.specs.declared.SaftVRQMiePars.{SaftVRQMiePars}
+use Rattle.saftvrmie_parameters.specs.Parameters as Mie
+use Rattle.saftvrmie_parameters.specs.declared.SaftVRMiePars.{SaftVRMiePars}
+use Rattle.saftvrqmie.specs.Table.{Lent, temperatureTable}
+use Rattle.saftvrqmie.specs.Pairs.{SearchesIn, searches}
+use Rattle.saftvrmie.specs.Diameters.{diameters}
+use Rattle.saftvrmie.specs.Pairs.{radiusIj}
+use Rattle.domthelv.specs.Boundary.{status, stored}
+use Rattle.domthelv.specs.Sets.{quantumLengths, quantumSet, mieLengths, mieSet}
+use Rattle.domthelv.specs.Operations.{QuantumLent, MieLent, setWritten, vrqParameters, vrqTable, radiiLengths, radiiWritten, vrqRadii, mieWritten, vrParameters, vrDiameters, vrRadius}
+
+-- an operation that gives a parameter answer and leaves its lists by `kept`
+verdict-status : {S : Type 0} (p : Ans S) → numberOf (verdict p) ≡ status p
+unfolding status verdict
+verdict-status (held x) = refl
+verdict-status (refused n) = refl
+
+pub through-status : {S : Type 0} (q p : Ans S) (a : ParameterAnswer) (r : ℕ) → q ≡ p → a ≡ verdict p → r ≡ numberOf a → r ≡ status q
+through-status q p a r e f g = rw e (g ∙ ap numberOf f ∙ verdict-status p)
+
+kept-stored : {S : Type 0} (l : S) (p : Ans S) → kept l p ≡ stored l p
+unfolding stored kept
+kept-stored l (held x) = refl
+kept-stored l (refused n) = refl
+
+pub through-stored : {S : Type 0} (l : S) (q p : Ans S) → q ≡ p → kept l p ≡ stored l q
+through-stored l q p e = rw e (kept-stored l p)
+
+pub refused-status : {S : Type 0} (q : Ans S) (n r : ℕ) → r ≡ n → q ≡ refused n → r ≡ status q
+unfolding status
+refused-status q n r e p = rw p e
+
+pub refused-stored : {S : Type 0} (l : S) (q : Ans S) (n : ℕ) → q ≡ refused n → l ≡ stored l q
+unfolding stored
+refused-stored l q n p = rw p
+
+pub held-status : {S : Type 0} (q : Ans S) (x : S) → q ≡ held x → 0 ≡ status q
+unfolding status
+held-status q x p = rw p
+
+pub held-stored : {S : Type 0} (l x : S) (q : Ans S) → q ≡ held x → x ≡ stored l q
+unfolding stored
+held-stored l x q p = rw p
+
+pub radii-lengths : (l : Lent) → radiiLengths l ≡ true → (length (l .values) ≡ 6) × (length (l .numbers) ≡ 3)
+unfolding radiiLengths
+radii-lengths l p =
+    let a = eqb (length (l .values)) 6 in
+    let b = eqb (length (l .numbers)) 3 in
+    (eqb-true (length (l .values)) 6 (and-left a b p), eqb-true (length (l .numbers)) 3 (and-right a b p))
+
+module _ (x : Quantum.Lists) (l : QuantumLent) where
+  pub parameters-1 : quantumLengths (l .m) (l .sheets) (l .orders) ≡ false → vrqParameters x l ≡ refused 1
+  unfolding vrqParameters demand _>>=_
+  parameters-1 p = rw p
+
+  pub parameters-refused : (n : ℕ) → quantumLengths (l .m) (l .sheets) (l .orders) ≡ true → Quantum.saftVRQMiePars x ≡ refused n → vrqParameters x l ≡ refused n
+  unfolding vrqParameters demand _>>=_
+  parameters-refused n p q = rw (p, q)
+
+  pub parameters-held : (s : SaftVRQMiePars) → quantumLengths (l .m) (l .sheets) (l .orders) ≡ true → Quantum.saftVRQMiePars x ≡ held s → vrqParameters x l ≡ held (setWritten s l)
+  unfolding vrqParameters demand _>>=_
+  parameters-held s p q = rw (p, q)
+
+module _ (n : ℕ) (m sheets : List Float) (orders : List ℕ) (t : Float) (l : Lent) where
+  pub table-refused : (k : ℕ) → quantumSet n m sheets orders ≡ refused k → vrqTable n m sheets orders t l ≡ refused k
+  unfolding vrqTable _>>=_
+  table-refused k p = rw p
+
+  pub table-is : (s : SaftVRQMiePars) → quantumSet n m sheets orders ≡ held s → vrqTable n m sheets orders t l ≡ temperatureTable s t l
+  unfolding vrqTable _>>=_
+  table-is s p = rw p
+
+  module _ (i j : ℕ) where
+    pub radii-1 : radiiLengths l ≡ false → vrqRadii n m sheets orders i j t l ≡ refused 1
+    unfolding vrqRadii demand _>>=_
+    radii-1 p = rw p
+
+    module _ (p : radiiLengths l ≡ true) where
+      pub radii-set : (k : ℕ) → quantumSet n m sheets orders ≡ refused k → vrqRadii n m sheets orders i j t l ≡ refused k
+      unfolding vrqRadii demand _>>=_
+      radii-set k q = rw (p, q)
+
+      module _ (s : SaftVRQMiePars) (q : quantumSet n m sheets orders ≡ held s) where
+        pub radii-refused : (k : ℕ) → searches s i j t ≡ refused k → vrqRadii n m sheets orders i j t l ≡ refused k
+        unfolding vrqRadii demand _>>=_
+        radii-refused k r = rw (p, q, r)
+
+        pub radii-held : (r : SearchesIn Float) → searches s i j t ≡ held r → vrqRadii n m sheets orders i j t l ≡ held (radiiWritten r l)
+        unfolding vrqRadii demand _>>=_
+        radii-held r h = rw (p, q, h)
+
+module _ (x : Mie.Lists) (l : MieLent) where
+  pub mie-parameters-1 : mieLengths (l .lists) (l .sheets) ≡ false → vrParameters x l ≡ refused 1
+  unfolding vrParameters demand _>>=_
+  mie-parameters-1 p = rw p
+
+  pub mie-parameters-refused : (n : ℕ) → mieLengths (l .lists) (l .sheets) ≡ true → Mie.saftVRMiePars x ≡ refused n → vrParameters x l ≡ refused n
+  unfolding vrParameters demand _>>=_
+  mie-parameters-refused n p q = rw (p, q)
+
+  pub mie-parameters-held : (s : SaftVRMiePars) → mieLengths (l .lists) (l .sheets) ≡ true → Mie.saftVRMiePars x ≡ held s → vrParameters x l ≡ held (mieWritten s l)
+  unfolding vrParameters demand _>>=_
+  mie-parameters-held s p q = rw (p, q)
+
+module _ (n : ℕ) (lists sheets : List Float) where
+  pub diameters-refused : (t : Float) (l : List Float) (k : ℕ) → mieSet n lists sheets ≡ refused k → vrDiameters n lists sheets t l ≡ refused k
+  unfolding vrDiameters _>>=_
+  diameters-refused t l k p = rw p
+
+  pub diameters-are : (t : Float) (l : List Float) (s : SaftVRMiePars) → mieSet n lists sheets ≡ held s → vrDiameters n lists sheets t l ≡ diameters (s .count) (s .sheets) t l
+  unfolding vrDiameters _>>=_
+  diameters-are t l s p = rw p
+
+  pub radius-refused : (i j : ℕ) (t : Float) (k : ℕ) → mieSet n lists sheets ≡ refused k → vrRadius n lists sheets i j t ≡ refused k
+  unfolding vrRadius _>>=_
+  radius-refused i j t k p = rw p
+
+  pub radius-is : (i j : ℕ) (t : Float) (s : SaftVRMiePars) → mieSet n lists sheets ≡ held s → vrRadius n lists sheets i j t ≡ radiusIj s i j t
+  unfolding vrRadius _>>=_
+  radius-is i j t s p = rw p

@@ -1,0 +1,76 @@
+-- The operations behind the boundary, with the lists that a call lends: lengths of the set's lists and of `out` are 1, before anything else.
+use Prim.Native.Nat.{ℕ, _*_}
+use lib.Dec.{eqb}
+use lib.Ieee.{Float}
+use lib.ListN.{length, set}
+use mathlib.Core.List.{List}
+use mathlib.Core.Bool.{Bool, _&&_}
+use Rattle.number.specs.Ans.{Ans, held, _>>=_, demand}
+use Rattle.number.specs.Side.{side, sheet}
+use Rattle.saftvrqmie_parameters.specs.Parameters as Quantum
+use Rattle.saftvrqmie_parameters.specs.declared.SaftVRQMiePars.{SaftVRQMiePars}
+use Rattle.saftvrmie_parameters.specs.Parameters as Mie
+use Rattle.saftvrmie_parameters.specs.declared.SaftVRMiePars.{SaftVRMiePars}
+use Rattle.saftvrqmie_properties.specs.Properties.{radiusOf, lastOf}
+use Rattle.saftvrqmie.specs.Table.{Lent, temperatureTable}
+use Rattle.saftvrqmie.specs.Pairs.{SearchesIn, searches}
+use Rattle.saftvrmie.specs.Diameters.{diameters}
+use Rattle.saftvrmie.specs.Pairs.{radiusIj}
+use Rattle.domthelv.specs.Sets.{placed, ordersWritten, quantumLengths, quantumSet, mieLengths, mieSet, listsWritten}
+
+-- the lists that a quantum set is written into
+pub record QuantumLent : Type 0 where
+  pub m : List Float
+  pub sheets : List Float
+  pub orders : List ℕ
+
+unfoldable pub setWritten : SaftVRQMiePars → QuantumLent → QuantumLent
+setWritten s l = record { m = placed side (s .m) 0 (l .m); sheets = placed (6 * sheet) (s .sheets) 0 (l .sheets); orders = ordersWritten (s .orders) (l .orders) }
+
+unfoldable pub vrqParameters : Quantum.Lists → QuantumLent → Ans QuantumLent
+vrqParameters x l =
+    demand 1 (quantumLengths (l .m) (l .sheets) (l .orders)) >>= λ _.
+    Quantum.saftVRQMiePars x >>= λ s.
+    held (setWritten s l)
+
+unfoldable pub vrqTable : ℕ → List Float → List Float → List ℕ → Float → Lent → Ans Lent
+vrqTable n m sheets orders t l = quantumSet n m sheets orders >>= λ s. temperatureTable s t l
+
+-- 'radius and last potential of sigma, zero, depth'; 'counts as in the table'
+unfoldable pub radiiWritten : SearchesIn Float → Lent → Lent
+radiiWritten r l =
+    record {
+      values =
+          set (set (set (set (set (set (l .values) 0 (radiusOf (r .sigma .search))) 1 (lastOf (r .sigma .search))) 2 (radiusOf (r .zero .search))) 3 (lastOf (r .zero .search))) 4 (radiusOf (r .depth .search))) 5 (lastOf (r .depth .search));
+      numbers = set (set (set (l .numbers) 0 (r .sigma .count)) 1 (r .zero .count)) 2 (r .depth .count);
+    }
+
+unfoldable pub radiiLengths : Lent → Bool
+radiiLengths l = eqb (length (l .values)) 6 && eqb (length (l .numbers)) 3
+
+unfoldable pub vrqRadii : ℕ → List Float → List Float → List ℕ → ℕ → ℕ → Float → Lent → Ans Lent
+vrqRadii n m sheets orders i j t l =
+    demand 1 (radiiLengths l) >>= λ _.
+    quantumSet n m sheets orders >>= λ s.
+    searches s i j t >>= λ r.
+    held (radiiWritten r l)
+
+-- the lists that a set of SAFT-VR Mie is written into
+pub record MieLent : Type 0 where
+  pub lists : List Float
+  pub sheets : List Float
+
+unfoldable pub mieWritten : SaftVRMiePars → MieLent → MieLent
+mieWritten s l = record { lists = listsWritten s (l .lists); sheets = placed (6 * sheet) (s .sheets) 0 (l .sheets) }
+
+unfoldable pub vrParameters : Mie.Lists → MieLent → Ans MieLent
+vrParameters x l =
+    demand 1 (mieLengths (l .lists) (l .sheets)) >>= λ _.
+    Mie.saftVRMiePars x >>= λ s.
+    held (mieWritten s l)
+
+unfoldable pub vrDiameters : ℕ → List Float → List Float → Float → List Float → Ans (List Float)
+vrDiameters n lists sheets t l = mieSet n lists sheets >>= λ s. diameters (s .count) (s .sheets) t l
+
+unfoldable pub vrRadius : ℕ → List Float → List Float → ℕ → ℕ → Float → Ans Float
+vrRadius n lists sheets i j t = mieSet n lists sheets >>= λ s. radiusIj s i j t

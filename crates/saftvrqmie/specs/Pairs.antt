@@ -1,0 +1,62 @@
+-- Operations on one pair of a quantum set: its three searches, and its diameter from searched radii.
+use Prim.Native.Nat.{ℕ}
+use lib.Ieee.{Float}
+use lib.Ieee.Scale.{finite}
+use Rattle.number.specs.Ans.{Ans, held, refused, _>>=_, demand}
+use Rattle.number.specs.Arith.{Arith, floats}
+use Rattle.number.specs.Functions.{Functions, calls}
+use Rattle.number.specs.Side.{cell}
+use Rattle.elementary.specs.Port.{port}
+use Rattle.limits.specs.Limits.{indexWithin, temperatureWithin}
+use Rattle.saftvrqmie_parameters.specs.declared.SaftVRQMiePars.{SaftVRQMiePars}
+use Rattle.saftvrqmie_potential.specs.Potential.{PairIn, pairIn}
+use Rattle.saftvrqmie_searches.specs.Searches.{Counted, searchIn, sigmaEff, zeroIntegrand, epsilonKEff}
+use Rattle.saftvrqmie_searches.specs.Diameter.{diameter}
+use Rattle.saftvrqmie_properties.specs.Properties.{radiusOf}
+use Rattle.saftvrqmie.specs.Table.{pairAt}
+use Rattle.saftvrqmie.specs.declared.PairSearches.{PairSearches}
+use Rattle.saftvrqmie.specs.declared.SearchesAnswer.{SearchesAnswer}
+use Rattle.saftvrqmie.specs.declared.SearchesAnswer.the-variants.{Searched, Refused}
+
+-- found or spent, each with its radius and last potential, and its count
+pub record SearchesIn (N : Type 0) : Type 0 where
+  pub sigma : Counted N
+  pub zero : Counted N
+  pub depth : Counted N
+
+abbrev pub searchesIn : PairSearches → SearchesIn Float
+searchesIn p =
+    record {
+      sigma = record { search = searchIn (p .sigma); count = p .«sigma_count» };
+      zero = record { search = searchIn (p .zero); count = p .«zero_count» };
+      depth = record { search = searchIn (p .depth); count = p .«depth_count» };
+    }
+
+-- document 01's number or values of each case of `SearchesAnswer`
+abbrev pub searchesAnswer : SearchesAnswer → Ans (SearchesIn Float)
+searchesAnswer (Searched p) = held (searchesIn p)
+searchesAnswer (Refused n) = refused n
+
+-- the zero search starts from the radius of the sigma search
+unfoldable pub pairSearches : (A : Arith) → Functions (A .Num) → PairIn (A .Num) → Ans (SearchesIn (A .Num))
+pairSearches A F p =
+    sigmaEff A F p >>= λ s.
+    zeroIntegrand A F p (radiusOf (s .search)) >>= λ z.
+    epsilonKEff A F p >>= λ d.
+    held (record { sigma = s; zero = z; depth = d })
+
+-- 1; 2 for the temperature; 6
+unfoldable pub searches : SaftVRQMiePars → ℕ → ℕ → Float → Ans (SearchesIn Float)
+searches s i j t =
+    demand 1 (indexWithin (s .count) i j) >>= λ _.
+    demand 2 (temperatureWithin t) >>= λ _.
+    pairSearches floats (calls floats port) (pairIn (pairAt (s .sheets) (s .orders) t (cell i j)))
+
+-- 1; 2 for the temperature; 6; 7 if the diameter is not finite. Both radii are read as they are
+unfoldable pub diameterIj : SaftVRQMiePars → ℕ → ℕ → Float → Float → Float → Ans Float
+diameterIj s i j t sigma-eff r0 =
+    demand 1 (indexWithin (s .count) i j) >>= λ _.
+    demand 2 (temperatureWithin t) >>= λ _.
+    diameter floats (calls floats port) (pairIn (pairAt (s .sheets) (s .orders) t (cell i j))) sigma-eff r0 >>= λ d.
+    demand 7 (finite d) >>= λ _.
+    held d
