@@ -1,27 +1,25 @@
 //! Times the port's pieces beside the plain ones, in one run: ratios, since machines differ. Built and run by tools/bench.
+#[rustfmt::skip] // calls of many arguments
+mod operations;
+#[allow(dead_code)]
+#[path = "../differential/run/src/port.rs"]
+mod port;
+#[allow(dead_code)]
+#[path = "../differential/run/src/random.rs"]
+mod random;
+
 use std::hint::black_box;
 use std::time::Instant;
 
 #[link(name = "interval_bench", kind = "static")]
-extern "C" {
+unsafe extern "C" {
     fn domthelv_bench_float(op: u8, x: f64, y: f64, n: u64) -> f64;
     fn domthelv_bench_interval(op: u8, x: f64, y: f64, n: u64) -> f64;
 }
 
 #[link(name = "power_bench", kind = "static")]
-extern "C" {
+unsafe extern "C" {
     fn domthelv_bench_powers(x: f64, exponents: &[f64; 14]) -> f64;
-}
-
-#[link(name = "domthelv", kind = "static")]
-extern "C" {
-    fn domthelv_sqrt(x: f64, out: &mut f64) -> u8;
-    fn domthelv_ln(x: f64, out: &mut f64) -> u8;
-    fn domthelv_ln_1p(x: f64, out: &mut f64) -> u8;
-    fn domthelv_exp(x: f64, out: &mut f64) -> u8;
-    fn domthelv_exp_m1(x: f64, out: &mut f64) -> u8;
-    fn domthelv_tanh(x: f64, out: &mut f64) -> u8;
-    fn domthelv_powf(base: f64, exponent: f64, out: &mut f64) -> u8;
 }
 
 /// Best nanoseconds a turn of `f(turns)`, of several rounds.
@@ -33,6 +31,23 @@ fn best(turns: u64, f: impl Fn(u64) -> f64) -> f64 {
         least = least.min(start.elapsed().as_nanos() as f64 / turns as f64);
     }
     least
+}
+
+/// Best nanoseconds of one run of each, in rounds of a few milliseconds that take turns, so that both meet the same load.
+fn best_of_two(f: impl Fn(), g: impl Fn()) -> (f64, f64) {
+    let round = |f: &dyn Fn(), turns: u64| {
+        let start = Instant::now();
+        (0..turns).for_each(|_| f());
+        start.elapsed().as_nanos() as f64 / turns as f64
+    };
+    let (mut a, mut b) = (round(&f, 1), round(&g, 1));
+    let turns = |once: f64| ((3e6 / once) as u64).max(1);
+    let (m, n) = (turns(a), turns(b));
+    for _ in 0..20 {
+        a = a.min(round(&f, m));
+        b = b.min(round(&g, n));
+    }
+    (a, b)
 }
 
 fn intervals() {
@@ -66,15 +81,20 @@ fn arguments(low: f64, high: f64) -> Vec<f64> {
 }
 
 /// A row of an elementary function: independent calls on random arguments.
-fn elementary(name: &str, low: f64, high: f64, goal: f64, ours: unsafe extern "C" fn(f64, &mut f64) -> u8, platform: fn(f64) -> f64) {
+fn elementary(
+    name: &str,
+    low: f64,
+    high: f64,
+    goal: f64,
+    ours: Option<unsafe extern "C" fn(f64, *mut f64) -> u8>,
+    platform: fn(f64) -> f64,
+) {
     let list = arguments(low, high);
     let turns = 50 * list.len() as u64;
-    let over = |f: &dyn Fn(f64) -> f64| {
-        best(turns, |n| (0..n as usize).map(|i| f(list[i % 4096])).sum())
-    };
+    let over = |f: &dyn Fn(f64) -> f64| best(turns, |n| (0..n as usize).map(|i| f(list[i % 4096])).sum());
     let a = over(&|x| {
         let mut r = 0.0;
-        unsafe { ours(x, &mut r) };
+        unsafe { ours.unwrap()(x, &mut r) };
         r
     });
     let b = over(&|x| platform(black_box(x)));
@@ -85,12 +105,10 @@ fn elementary(name: &str, low: f64, high: f64, goal: f64, ours: unsafe extern "C
 fn power() {
     let (bases, exponents) = (arguments(0.3, 3.0), arguments(3.0, 20.0));
     let turns = 50 * bases.len() as u64;
-    let over = |f: &dyn Fn(f64, f64) -> f64| {
-        best(turns, |n| (0..n as usize).map(|i| f(bases[i % 4096], exponents[(i * 7) % 4096])).sum())
-    };
+    let over = |f: &dyn Fn(f64, f64) -> f64| best(turns, |n| (0..n as usize).map(|i| f(bases[i % 4096], exponents[(i * 7) % 4096])).sum());
     let a = over(&|x, y| {
         let mut r = 0.0;
-        unsafe { domthelv_powf(x, y, &mut r) };
+        unsafe { port::POWF.unwrap()(x, y, &mut r) };
         r
     });
     let b = over(&|x, y| black_box(x).powf(black_box(y)));
@@ -112,12 +130,13 @@ fn main() {
     intervals();
     println!("elementary functions: independent calls on random arguments");
     println!("{:<14} {:>9} {:>9} {:>7} {:>6}", "function", "platf. ns", "port ns", "ratio", "goal");
-    elementary("sqrt", 0.5, 4.5, 12.0, domthelv_sqrt, f64::sqrt);
-    elementary("ln", 0.001, 1000.0, 6.0, domthelv_ln, f64::ln);
-    elementary("ln_1p", -0.9, 10.0, 6.0, domthelv_ln_1p, f64::ln_1p);
-    elementary("exp", -20.0, 20.0, 1.6, domthelv_exp, f64::exp);
-    elementary("exp_m1", -20.0, 20.0, 1.6, domthelv_exp_m1, f64::exp_m1);
-    elementary("tanh", -5.0, 5.0, 1.8, domthelv_tanh, f64::tanh);
+    elementary("sqrt", 0.5, 4.5, 12.0, port::SQRT, f64::sqrt);
+    elementary("ln", 0.001, 1000.0, 6.0, port::LN, f64::ln);
+    elementary("ln_1p", -0.9, 10.0, 6.0, port::LN_1P, f64::ln_1p);
+    elementary("exp", -20.0, 20.0, 1.6, port::EXP, f64::exp);
+    elementary("exp_m1", -20.0, 20.0, 1.6, port::EXP_M1, f64::exp_m1);
+    elementary("tanh", -5.0, 5.0, 1.8, port::TANH, f64::tanh);
     power();
     powers();
+    operations::run();
 }

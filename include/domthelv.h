@@ -7,6 +7,7 @@
 #ifndef DOMTHELV_H
 #define DOMTHELV_H
 
+#include <stdbool.h>
 #include <stddef.h>
 #include <stdint.h>
 
@@ -50,6 +51,14 @@ uint8_t domthelv_vrq_radii(size_t count, const double *m, size_t m_len, const do
     const uint8_t *orders, size_t orders_len, size_t i, size_t j, double temperature, double *out, size_t out_len,
     uint8_t *counts, size_t counts_len);
 
+/* Energies. out (3): hard sphere, dispersion, non-additive (+0 where not wanted). 1: out; 1, 4: the set's lists;
+ * 1: the count, fractions, densities or table (256); 2: temperature, a fraction or a density not 0 to 1; 6;
+ * 7: a contribution is not finite. */
+uint8_t domthelv_vrq_energies(size_t count, const double *m, size_t m_len, const double *sheets, size_t sheets_len,
+    const uint8_t *orders, size_t orders_len, double temperature, const double *fractions, size_t fractions_len,
+    const double *densities, size_t densities_len, const double *table, size_t table_len, bool non_additive,
+    double *out, size_t out_len);
+
 /* SAFT-VR Mie. */
 
 /* Parameters. 1: a list of the set that is lent; 1: the count or a list's length; 2: a number outside its limit; 6. */
@@ -62,6 +71,12 @@ uint8_t domthelv_vr_parameters(size_t count, const double *m, size_t m_len, cons
  * 2: temperature; 6; 7: a diameter is not finite. */
 uint8_t domthelv_vr_diameters(size_t count, const double *lists, size_t lists_len, const double *sheets,
     size_t sheets_len, double temperature, double *diameters, size_t diameters_len);
+
+/* Dispersion, with the chain where it is wanted, from diameters. 1: the set's lists; 1: the count, fractions, densities
+ * or diameters; 2: temperature, a fraction or a density; 6; 7: the energy is not finite. */
+uint8_t domthelv_vr_dispersion(size_t count, const double *lists, size_t lists_len, const double *sheets,
+    size_t sheets_len, double temperature, const double *fractions, size_t fractions_len, const double *densities,
+    size_t densities_len, const double *diameters, size_t diameters_len, bool chain, double *out);
 
 /* One pair's reduced r0, the lower limit of its diameter's integral. 1: the set's lists; 1: the count or an index;
  * 2: temperature; 6. */

@@ -7,7 +7,7 @@ use borrow.Author.Tests.{eqb-true}
 use Rattle.mie_parameters.proofs.Laws.{and-left, and-right}
 use mathlib.Core.List.{List}
 use mathlib.Core.Path.{_≡_, refl, ap, _∙_}
-use mathlib.Core.Bool.{true, false}
+use mathlib.Core.Bool.{Bool, true, false}
 use Rattle.number.specs.Ans.{Ans, held, refused, _>>=_, demand}
 use Rattle.mie_parameters.specs.declared.ParameterAnswer.{ParameterAnswer}
 use Rattle.mie_parameters.specs.Answer.{numberOf, verdict, kept}
@@ -17,11 +17,13 @@ use Rattle.saftvrmie_parameters.specs.Parameters as Mie
 use Rattle.saftvrmie_parameters.specs.declared.SaftVRMiePars.{SaftVRMiePars}
 use Rattle.saftvrqmie.specs.Table.{Lent, temperatureTable}
 use Rattle.saftvrqmie.specs.Pairs.{SearchesIn, searches}
+use Rattle.saftvrqmie_energies.specs.Energies.{EnergiesIn, energies}
 use Rattle.saftvrmie.specs.Diameters.{diameters}
 use Rattle.saftvrmie.specs.Pairs.{radiusIj}
+use Rattle.saftvrmie_energies.specs.Energies.{energy}
 use Rattle.domthelv.specs.Boundary.{status, stored}
 use Rattle.domthelv.specs.Sets.{quantumLengths, quantumSet, mieLengths, mieSet}
-use Rattle.domthelv.specs.Operations.{QuantumLent, MieLent, setWritten, vrqParameters, vrqTable, radiiLengths, radiiWritten, vrqRadii, mieWritten, vrParameters, vrDiameters, vrRadius}
+use Rattle.domthelv.specs.Operations.{QuantumLent, MieLent, setWritten, vrqParameters, vrqTable, radiiLengths, radiiWritten, vrqRadii, energiesWritten, vrqEnergies, mieWritten, vrParameters, vrDiameters, vrRadius, vrDispersion}
 
 -- an operation that gives a parameter answer and leaves its lists by `kept`
 verdict-status : {S : Type 0} (p : Ans S) → numberOf (verdict p) ≡ status p
@@ -104,6 +106,25 @@ module _ (n : ℕ) (m sheets : List Float) (orders : List ℕ) (t : Float) (l : 
         unfolding vrqRadii demand _>>=_
         radii-held r h = rw (p, q, h)
 
+module _ (n : ℕ) (m sheets : List Float) (orders : List ℕ) (t : Float) (x rho table : List Float) (wanted : Bool) (l : List Float) where
+  pub energies-1 : eqb (length l) 3 ≡ false → vrqEnergies n m sheets orders t x rho table wanted l ≡ refused 1
+  unfolding vrqEnergies demand _>>=_
+  energies-1 p = rw p
+
+  module _ (p : eqb (length l) 3 ≡ true) where
+    pub energies-set : (k : ℕ) → quantumSet n m sheets orders ≡ refused k → vrqEnergies n m sheets orders t x rho table wanted l ≡ refused k
+    unfolding vrqEnergies demand _>>=_
+    energies-set k q = rw (p, q)
+
+    module _ (s : SaftVRQMiePars) (q : quantumSet n m sheets orders ≡ held s) where
+      pub energies-refused : (k : ℕ) → energies s t x rho table wanted ≡ refused k → vrqEnergies n m sheets orders t x rho table wanted l ≡ refused k
+      unfolding vrqEnergies demand _>>=_
+      energies-refused k r = rw (p, q, r)
+
+      pub energies-held : (e : EnergiesIn Float) → energies s t x rho table wanted ≡ held e → vrqEnergies n m sheets orders t x rho table wanted l ≡ held (energiesWritten e l)
+      unfolding vrqEnergies demand _>>=_
+      energies-held e h = rw (p, q, h)
+
 module _ (x : Mie.Lists) (l : MieLent) where
   pub mie-parameters-1 : mieLengths (l .lists) (l .sheets) ≡ false → vrParameters x l ≡ refused 1
   unfolding vrParameters demand _>>=_
@@ -133,3 +154,11 @@ module _ (n : ℕ) (lists sheets : List Float) where
   pub radius-is : (i j : ℕ) (t : Float) (s : SaftVRMiePars) → mieSet n lists sheets ≡ held s → vrRadius n lists sheets i j t ≡ radiusIj s i j t
   unfolding vrRadius _>>=_
   radius-is i j t s p = rw p
+
+  pub dispersion-refused : (t : Float) (x rho d : List Float) (chain : Bool) (k : ℕ) → mieSet n lists sheets ≡ refused k → vrDispersion n lists sheets t x rho d chain ≡ refused k
+  unfolding vrDispersion _>>=_
+  dispersion-refused t x rho d chain k p = rw p
+
+  pub dispersion-is : (t : Float) (x rho d : List Float) (chain : Bool) (s : SaftVRMiePars) → mieSet n lists sheets ≡ held s → vrDispersion n lists sheets t x rho d chain ≡ energy s t x rho d chain
+  unfolding vrDispersion _>>=_
+  dispersion-is t x rho d chain s p = rw p

@@ -14,8 +14,10 @@ use Rattle.saftvrmie_parameters.specs.declared.SaftVRMiePars.{SaftVRMiePars}
 use Rattle.saftvrqmie_properties.specs.Properties.{radiusOf, lastOf}
 use Rattle.saftvrqmie.specs.Table.{Lent, temperatureTable}
 use Rattle.saftvrqmie.specs.Pairs.{SearchesIn, searches}
+use Rattle.saftvrqmie_energies.specs.Energies.{EnergiesIn, energies}
 use Rattle.saftvrmie.specs.Diameters.{diameters}
 use Rattle.saftvrmie.specs.Pairs.{radiusIj}
+use Rattle.saftvrmie_energies.specs.Energies.{energy}
 use Rattle.domthelv.specs.Sets.{placed, ordersWritten, quantumLengths, quantumSet, mieLengths, mieSet, listsWritten}
 
 -- the lists that a quantum set is written into
@@ -55,6 +57,17 @@ vrqRadii n m sheets orders i j t l =
     searches s i j t >>= λ r.
     held (radiiWritten r l)
 
+-- 'hard sphere, dispersion, non-additive'
+unfoldable pub energiesWritten : EnergiesIn Float → List Float → List Float
+energiesWritten e l = set (set (set l 0 (e .hard-sphere)) 1 (e .dispersion)) 2 (e .non-additive)
+
+unfoldable pub vrqEnergies : ℕ → List Float → List Float → List ℕ → Float → List Float → List Float → List Float → Bool → List Float → Ans (List Float)
+vrqEnergies n m sheets orders t x rho table wanted l =
+    demand 1 (eqb (length l) 3) >>= λ _.
+    quantumSet n m sheets orders >>= λ s.
+    energies s t x rho table wanted >>= λ e.
+    held (energiesWritten e l)
+
 -- the lists that a set of SAFT-VR Mie is written into
 pub record MieLent : Type 0 where
   pub lists : List Float
@@ -74,3 +87,6 @@ vrDiameters n lists sheets t l = mieSet n lists sheets >>= λ s. diameters (s .c
 
 unfoldable pub vrRadius : ℕ → List Float → List Float → ℕ → ℕ → Float → Ans Float
 vrRadius n lists sheets i j t = mieSet n lists sheets >>= λ s. radiusIj s i j t
+
+unfoldable pub vrDispersion : ℕ → List Float → List Float → Float → List Float → List Float → List Float → Bool → Ans Float
+vrDispersion n lists sheets t x rho d chain = mieSet n lists sheets >>= λ s. energy s t x rho d chain

@@ -9,19 +9,23 @@ ghost use lib.ListN.{length};
 ghost use Rattle.number.specs.Side.{side, sheet};
 ghost use Rattle.domthelv.specs.Boundary.{status, stored};
 ghost use Rattle.domthelv.specs.Sets.{copied, taken, placed, ordersWithin, ordersRead, ordersWritten, quantumLengths, quantumSet, mieLengths, mieSet, listsWritten};
-ghost use Rattle.domthelv.specs.Operations.{setWritten, vrqParameters, vrqTable, radiiWritten, radiiLengths, vrqRadii, mieWritten, vrParameters, vrDiameters, vrRadius};
+ghost use Rattle.domthelv.specs.Operations.{setWritten, vrqParameters, vrqTable, radiiWritten, radiiLengths, vrqRadii, energiesWritten, vrqEnergies, mieWritten, vrParameters, vrDiameters, vrRadius, vrDispersion};
 ghost use Rattle.saftvrqmie_parameters.specs.Parameters as Quantum;
 ghost use Rattle.saftvrmie_parameters.specs.Parameters as Mie;
 ghost use Rattle.saftvrqmie_potential.specs.Potential.{orderNumber};
 ghost use Rattle.saftvrqmie.specs.Pairs.{searchesIn};
+ghost use Rattle.saftvrqmie_energies.specs.Energies.{energiesIn};
 use mie_parameters::NumberAnswer;
 use mie_parameters::ParameterAnswer;
 use number::FloatAnswer;
 use number::SHEET;
 use number::SIDE;
+use saftvrmie_energies::EnergyAnswer;
 use saftvrmie_parameters::SaftVRMiePars;
 use saftvrqmie::PairSearches;
 use saftvrqmie::SearchesAnswer;
+use saftvrqmie_energies::EnergiesAnswer;
+use saftvrqmie_energies::QuantumEnergies;
 use saftvrqmie_parameters::FeynmanHibbsOrder;
 use saftvrqmie_parameters::OrderRecord;
 use saftvrqmie_parameters::SaftVRQMiePars;
@@ -337,6 +341,56 @@ pub extern "C" fn domthelv_vrq_radii(
     }
 }
 
+fn write_energies(e: QuantumEnergies, out: &mut [f64])
+    requires { ⌜ length (now out) ≡ 3 ⌝ }
+    ensures { λ _. ⌜ now (out .exit) ≡ energiesWritten (energiesIn e) (now (out .entry)) ⌝ }
+{
+    out[0] = e.hard_sphere;
+    out[1] = e.dispersion;
+    out[2] = e.non_additive;
+}
+
+// Quantum energies: hard sphere, dispersion, non-additive (+0 where not wanted). 1 for `out`, 1 and 4 for the set's lists, then 1, 2, 6, 7.
+#[no_mangle]
+pub extern "C" fn domthelv_vrq_energies(
+    count: usize,
+    m: &[f64],
+    sheets: &[f64],
+    orders: &[u8],
+    temperature: f64,
+    fractions: &[f64],
+    densities: &[f64],
+    table: &[f64],
+    non_additive: bool,
+    out: &mut [f64],
+) -> u8
+    ensures { λ r. ⌜ (r ≡ status (vrqEnergies count (now (m .entry)) (now (sheets .entry)) (now (orders .entry)) temperature (now (fractions .entry)) (now (densities .entry)) (now (table .entry)) «non_additive» (now (out .entry)))) × (now (out .exit) ≡ stored (now (out .entry)) (vrqEnergies count (now (m .entry)) (now (sheets .entry)) (now (orders .entry)) temperature (now (fractions .entry)) (now (densities .entry)) (now (table .entry)) «non_additive» (now (out .entry)))) ⌝ }
+{
+    if out.len() != 3 {
+        return 1;
+    }
+    let read = quantum_set(count, m, sheets, orders);
+    let answer = read.answer;
+    let ParameterAnswer::Held = answer else {
+        return mie_parameters::number(answer);
+    };
+    let worked = saftvrqmie_energies::helmholtz_energy_densities(
+        read.set,
+        temperature,
+        fractions,
+        densities,
+        table,
+        non_additive,
+    );
+    match worked {
+        EnergiesAnswer::Refused(n) => n,
+        EnergiesAnswer::Energies(e) => {
+            write_energies(e, out);
+            0
+        }
+    }
+}
+
 fn mie_lengths(lists: &[f64], sheets: &[f64]) -> bool
     ensures { λ r. ⌜ r ≡ mieLengths (now (lists .entry)) (now (sheets .entry)) ⌝ }
 {
@@ -480,6 +534,43 @@ pub extern "C" fn domthelv_vr_radius(
     match worked {
         NumberAnswer::Refused(n) => n,
         NumberAnswer::Value(x) => {
+            *out = x;
+            0
+        }
+    }
+}
+
+// Dispersion, with the chain where it is wanted. 1 for the set's lists, then 1, 2, 6, 7.
+#[no_mangle]
+pub extern "C" fn domthelv_vr_dispersion(
+    count: usize,
+    lists: &[f64],
+    sheets: &[f64],
+    temperature: f64,
+    fractions: &[f64],
+    densities: &[f64],
+    diameters: &[f64],
+    chain: bool,
+    out: &mut f64,
+) -> u8
+    ensures { λ r. ⌜ (r ≡ status (vrDispersion count (now (lists .entry)) (now (sheets .entry)) temperature (now (fractions .entry)) (now (densities .entry)) (now (diameters .entry)) chain)) × (now (out .exit) ≡ stored (now (out .entry)) (vrDispersion count (now (lists .entry)) (now (sheets .entry)) temperature (now (fractions .entry)) (now (densities .entry)) (now (diameters .entry)) chain)) ⌝ }
+{
+    let read = mie_set(count, lists, sheets);
+    let answer = read.answer;
+    let ParameterAnswer::Held = answer else {
+        return mie_parameters::number(answer);
+    };
+    let worked = saftvrmie_energies::dispersion(
+        read.set,
+        temperature,
+        fractions,
+        densities,
+        diameters,
+        chain,
+    );
+    match worked {
+        EnergyAnswer::Refused(n) => n,
+        EnergyAnswer::Value(x) => {
             *out = x;
             0
         }

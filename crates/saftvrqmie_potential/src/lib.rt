@@ -71,7 +71,7 @@ pub enum SharedAnswer {
 }
 
 // Whether the potential has a first-order correction.
-fn first_order(order: FeynmanHibbsOrder) -> bool
+pub fn first_order(order: FeynmanHibbsOrder) -> bool
     ensures { λ r. ⌜ r ≡ firstOrder order ⌝ }
 {
     match order {
@@ -81,7 +81,7 @@ fn first_order(order: FeynmanHibbsOrder) -> bool
     }
 }
 
-fn second_order(order: FeynmanHibbsOrder) -> bool
+pub fn second_order(order: FeynmanHibbsOrder) -> bool
     ensures { λ r. ⌜ r ≡ secondOrder order ⌝ }
 {
     match order {
@@ -98,13 +98,13 @@ pub fn quantum_d(mass: f64, temperature: f64) -> f64
     1.0 / temperature / mass * D_QM_PREFACTOR
 }
 
-fn q1_of(l: f64) -> f64
+pub fn q1_of(l: f64) -> f64
     ensures { λ r. ⌜ r ≡ q1 floats l ⌝ }
 {
     l * (l - 1.0)
 }
 
-fn q2_of(l: f64) -> f64
+pub fn q2_of(l: f64) -> f64
     ensures { λ r. ⌜ r ≡ q2 floats l ⌝ }
 {
     0.5 * (l + 2.0) * (l + 1.0) * l * (l - 1.0)

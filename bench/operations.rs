@@ -1,0 +1,222 @@
+//! The operations of the C boundary beside the unchanged Rust text on the platform's functions, built at the same level.
+use crate::best_of_two;
+use crate::port;
+use crate::random::Random;
+use plain::saftvrmie::eos as vr;
+use plain::saftvrqmie::eos::driver as vrq;
+use std::hint::black_box;
+
+/// Fluids of one count, a few so that searches of several lengths are met.
+struct Fluid {
+    m: Vec<f64>,
+    sigma: Vec<f64>,
+    epsilon_k: Vec<f64>,
+    lr: Vec<f64>,
+    la: Vec<f64>,
+    mass: Vec<f64>,
+    order: Vec<u8>,
+    pairs: Vec<f64>,
+    temperature: f64,
+    x: Vec<f64>,
+    rho: Vec<f64>,
+}
+
+fn fluids(n: usize, order: u8, quantum: bool) -> Vec<Fluid> {
+    let mut g = Random(3);
+    let mut list = |low: f64, high: f64| -> Vec<f64> { (0..n).map(|_| g.within(low, high)).collect() };
+    (0..4)
+        .map(|_| Fluid {
+            m: if quantum { vec![1.0; n] } else { list(1.0, 3.0) },
+            sigma: list(2.5, 4.0),
+            epsilon_k: if quantum { list(5.0, 60.0) } else { list(100.0, 400.0) },
+            lr: list(8.0, 20.0),
+            la: list(5.0, 7.0),
+            mass: list(3e-27, 5e-26),
+            order: vec![order; n],
+            pairs: vec![0.0; n * n],
+            temperature: if quantum { list(20.0, 300.0)[0] } else { list(200.0, 500.0)[0] },
+            x: vec![1.0 / n as f64; n],
+            rho: vec![0.01 / n as f64; n],
+        })
+        .collect()
+}
+
+impl Fluid {
+    fn quantum_lists(&self) -> vrq::Lists<'_> {
+        vrq::Lists {
+            m: &self.m,
+            sigma: &self.sigma,
+            epsilon_k: &self.epsilon_k,
+            lr: &self.lr,
+            la: &self.la,
+            mass: &self.mass,
+            order: &self.order,
+            k_ij: &self.pairs,
+            l_ij: &self.pairs,
+        }
+    }
+    fn mie_lists(&self) -> vr::Lists<'_> {
+        vr::Lists {
+            m: &self.m,
+            sigma: &self.sigma,
+            epsilon_k: &self.epsilon_k,
+            lr: &self.lr,
+            la: &self.la,
+            k_ij: &self.pairs,
+            gamma_ij: &self.pairs,
+        }
+    }
+}
+
+/// Rows by operation, in the order in which operations were first measured.
+#[derive(Default)]
+struct Rows(Vec<(&'static str, Vec<String>)>);
+
+impl Rows {
+    /// One row: both sides over the same `k` fluids, microseconds a call.
+    fn row<A, B>(
+        &mut self,
+        name: &'static str,
+        n: usize,
+        order: Option<u8>,
+        k: usize,
+        rust: impl Fn(usize) -> A,
+        port: impl Fn(usize) -> B,
+    ) {
+        let (rust, port) = best_of_two(
+            || (0..k).for_each(|i| drop(black_box(rust(black_box(i))))),
+            || (0..k).for_each(|i| drop(black_box(port(black_box(i))))),
+        );
+        let (rust, port) = (rust / k as f64 / 1000.0, port / k as f64 / 1000.0);
+        let order = order.map_or("-".into(), |o| o.to_string());
+        let line = format!("{name:<24} {n:>2} {order:>5} {rust:>10.2} {port:>10.2} {:>6.2}x", port / rust);
+        match self.0.iter_mut().find(|r| r.0 == name) {
+            Some(rows) => rows.1.push(line),
+            None => self.0.push((name, vec![line])),
+        }
+    }
+}
+
+fn quantum(rows: &mut Rows, n: usize, order: u8) {
+    let fluids = fluids(n, order, true);
+    let k = fluids.len();
+    if let (Some(f), 0) = (port::VRQ_PARAMETERS, order) {
+        let ours = |i: usize| {
+            let (mut m, mut sheets, mut orders, fluid) = ([0.0; 8], [0.0; 384], [0u8; 64], &fluids[i]);
+            let p = |l: &Vec<f64>| l.as_ptr();
+            let nn = n * n;
+            let number = unsafe {
+                f(
+                    n, p(&fluid.m), n, p(&fluid.sigma), n, p(&fluid.epsilon_k), n, p(&fluid.lr), n, p(&fluid.la), n,
+                    p(&fluid.mass), n, fluid.order.as_ptr(), n, p(&fluid.pairs), nn, p(&fluid.pairs), nn, m.as_mut_ptr(), 8,
+                    sheets.as_mut_ptr(), 384, orders.as_mut_ptr(), 64,
+                )
+            };
+            assert!(number == 0);
+            sheets
+        };
+        rows.row("quantum parameters", n, None, k, |i| vrq::parameters(&fluids[i].quantum_lists()), ours);
+    }
+    let sets: Vec<_> = fluids.iter().map(|f| vrq::parameters(&f.quantum_lists()).ok().unwrap()).collect();
+    let flat: Vec<_> = sets.iter().map(vrq::flat).collect();
+    if let Some(f) = port::VRQ_TABLE {
+        let ours = |i: usize| {
+            let (mut table, mut counts, (sheets, orders)) = ([0.0; 256], [0u8; 192], &flat[i]);
+            let number = unsafe {
+                f(
+                    n, [1.0; 8].as_ptr(), 8, sheets.as_ptr(), 384, orders.as_ptr(), 64, fluids[i].temperature,
+                    table.as_mut_ptr(), 256, counts.as_mut_ptr(), 192,
+                )
+            };
+            assert!(number == 0);
+            table
+        };
+        rows.row("quantum table", n, Some(order), k, |i| vrq::table(&sets[i], fluids[i].temperature), ours);
+    }
+    let tables: Vec<_> = (0..k).map(|i| vrq::table(&sets[i], fluids[i].temperature)).collect();
+    if let Some(f) = port::VRQ_ENERGIES {
+        let ready: Vec<_> =
+            (0..k).map(|i| (vrq::properties(n, &tables[i]), vrq::state(fluids[i].temperature, &fluids[i].x, &fluids[i].rho))).collect();
+        let ours = |i: usize| {
+            let (mut out, (sheets, orders), fluid) = ([0.0; 3], &flat[i], &fluids[i]);
+            let number = unsafe {
+                f(
+                    n, [1.0; 8].as_ptr(), 8, sheets.as_ptr(), 384, orders.as_ptr(), 64, fluid.temperature, fluid.x.as_ptr(), n,
+                    fluid.rho.as_ptr(), n, tables[i].as_ptr(), 256, true, out.as_mut_ptr(), 3,
+                )
+            };
+            assert!(number == 0);
+            out
+        };
+        rows.row("quantum energies", n, Some(order), k, |i| vrq::contributions(&sets[i], &ready[i].0, &ready[i].1, true), ours);
+    }
+}
+
+fn vr_mie(rows: &mut Rows, n: usize) {
+    let fluids = fluids(n, 0, false);
+    let k = fluids.len();
+    if let Some(f) = port::VR_PARAMETERS {
+        let ours = |i: usize| {
+            let (mut lists, mut sheets, nn, fluid) = ([0.0; 40], [0.0; 384], n * n, &fluids[i]);
+            let p = |l: &Vec<f64>| l.as_ptr();
+            let number = unsafe {
+                f(
+                    n, p(&fluid.m), n, p(&fluid.sigma), n, p(&fluid.epsilon_k), n, p(&fluid.lr), n, p(&fluid.la), n,
+                    p(&fluid.pairs), nn, p(&fluid.pairs), nn, lists.as_mut_ptr(), 40, sheets.as_mut_ptr(), 384,
+                )
+            };
+            assert!(number == 0);
+            sheets
+        };
+        rows.row("VR Mie parameters", n, None, k, |i| vr::parameters(&fluids[i].mie_lists()), ours);
+    }
+    let sets: Vec<_> = fluids.iter().map(|f| vr::parameters(&f.mie_lists())).collect();
+    let flat: Vec<_> = sets.iter().map(vr::flat).collect();
+    let lists: Vec<Vec<f64>> = fluids
+        .iter()
+        .map(|f| [&f.m, &f.sigma, &f.epsilon_k, &f.lr, &f.la].iter().flat_map(|l| (0..8).map(|i| *l.get(i).unwrap_or(&0.0))).collect())
+        .collect();
+    if let Some(f) = port::VR_DIAMETERS {
+        let ours = |i: usize| {
+            let mut d = [0.0; 8];
+            let number = unsafe { f(n, lists[i].as_ptr(), 40, flat[i].as_ptr(), 384, fluids[i].temperature, d.as_mut_ptr(), n) };
+            assert!(number == 0);
+            d
+        };
+        rows.row("VR Mie diameters", n, None, k, |i| vr::diameters(&sets[i], fluids[i].temperature), ours);
+    }
+    let diameters: Vec<_> = (0..k).map(|i| vr::diameters(&sets[i], fluids[i].temperature)).collect();
+    if let Some(f) = port::VR_DISPERSION {
+        let states: Vec<_> = fluids.iter().map(|f| vr::state(f.temperature, &f.x, &f.rho)).collect();
+        let vectors: Vec<_> = diameters.iter().map(|d| vr::vector(d)).collect();
+        for (chain, name) in [(false, "VR Mie dispersion"), (true, "VR Mie and chain")] {
+            let ours = |i: usize| {
+                let (mut out, fluid) = (0.0, &fluids[i]);
+                let number = unsafe {
+                    f(
+                        n, lists[i].as_ptr(), 40, flat[i].as_ptr(), 384, fluid.temperature, fluid.x.as_ptr(), n,
+                        fluid.rho.as_ptr(), n, diameters[i].as_ptr(), n, chain, &mut out,
+                    )
+                };
+                assert!(number == 0);
+                out
+            };
+            rows.row(name, n, None, k, |i| vr::contribution(&sets[i], &vectors[i], &states[i], chain), ours);
+        }
+    }
+}
+
+pub fn run() {
+    println!("operations: the Rust as it is on the platform's functions, and the port; order is Feynman-Hibbs'");
+    println!("{:<24} {:>2} {:>5} {:>10} {:>10} {:>7}", "operation", "n", "order", "Rust us", "port us", "ratio");
+    let mut rows = Rows::default();
+    for n in [1, 2, 4, 8] {
+        for order in 0..3 {
+            quantum(&mut rows, n, order);
+        }
+    }
+    for n in [1, 2, 4, 8] {
+        vr_mie(&mut rows, n);
+    }
+    rows.0.iter().flat_map(|r| &r.1).for_each(|line| println!("{line}"));
+}

@@ -1,0 +1,81 @@
+-- Laws of the energies over plain values: unused work leaves a float as it is; the operation, test by test. Assumes nothing.
+use Prim.Native.Nat.{ℕ, zero, suc, _≤_}
+use lib.Dec.{eqb}
+use lib.Ieee.{Float}
+use lib.Ieee.Scale.{finite}
+use lib.ListN.{length}
+use mathlib.Core.List.{List}
+use mathlib.Core.Path.{_≡_, refl}
+use mathlib.Core.Bool.{Bool, true, false, _&&_}
+use borrow.Author.Tests.{eqb-true}
+use Rattle.number.specs.Ans.{held, refused, _>>=_, demand}
+use Rattle.number.specs.Arith.{floats}
+use Rattle.number.specs.Side.{side}
+use Rattle.number.specs.Walk.{turns}
+use Rattle.limits.specs.Limits.{countWithin}
+use Rattle.mie_parameters.proofs.Laws.{and-left, and-right, count-high}
+use Rattle.saftvrmie_parameters.specs.declared.SaftVRMiePars.{SaftVRMiePars}
+use Rattle.dual.specs.Dual.{DualOf}
+use Rattle.dual.specs.Value.{dualOf}
+use Rattle.saftvrmie_dispersion.specs.Sutherland.{FluidIn}
+use Rattle.saftvrmie_dispersion.specs.Answer.{fluidDualIn}
+use Rattle.saftvrmie_dispersion.specs.declared.FluidDual.{FluidDual}
+use Rattle.saftvrmie_energies.specs.Properties.{afterLower}
+use Rattle.saftvrmie_energies.specs.Energies.{rightLists, withinLimits, energyRun, energy}
+
+same : {S : Type 0} (n : ℕ) (f : ℕ → S → S) (s : S) → ((i : ℕ) (x : S) → f i x ≡ x) → turns n f s ≡ s
+unfolding turns
+same zero f s h = refl
+same (suc n) f s h = rw (h n (turns n f s), same n f s h)
+
+pub lower-is : (n : ℕ) (f : ℕ → ℕ → Float) (x : Float) → afterLower floats n f x ≡ x
+unfolding afterLower
+lower-is n f x = same n _ x (λ i y. same i _ y (λ j z. refl))
+
+-- k_hs of the state with slopes
+pub value-is : (v : FluidDual) (f : FluidIn (DualOf Float)) → fluidDualIn v ≡ f → v .«k_hs» .re ≡ f .k-hs .re
+unfolding dualOf
+value-is v f p = rw (← p)
+
+-- ---- 1 at last: the lists are as long as the count
+module _ (n x rho d : ℕ) (p : rightLists n x rho d ≡ true) where
+  pub right-high : n ≤ side
+  unfolding rightLists
+  right-high = count-high n (and-left (countWithin n) (eqb x n) (and-left _ (eqb rho n) (and-left _ (eqb d n) p)))
+
+  pub right-x : x ≡ n
+  unfolding rightLists
+  right-x = eqb-true x n (and-right (countWithin n) (eqb x n) (and-left _ (eqb rho n) (and-left _ (eqb d n) p)))
+
+  pub right-rho : rho ≡ n
+  unfolding rightLists
+  right-rho = eqb-true rho n (and-right (countWithin n && eqb x n) (eqb rho n) (and-left _ (eqb d n) p))
+
+  pub right-d : d ≡ n
+  unfolding rightLists
+  right-d = eqb-true d n (and-right ((countWithin n && eqb x n) && eqb rho n) (eqb d n) p)
+
+-- ---- the operation
+module _ (s : SaftVRMiePars) (t : Float) (x rho d : List Float) (chain : Bool) where
+  pub refuses-1 : rightLists (s .count) (length x) (length rho) (length d) ≡ false → refused 1 ≡ energy s t x rho d chain
+  unfolding energy demand _>>=_
+  refuses-1 p = rw p
+
+  module _ (p : rightLists (s .count) (length x) (length rho) (length d) ≡ true) where
+    pub refuses-2 : withinLimits (s .count) t x rho ≡ false → refused 2 ≡ energy s t x rho d chain
+    unfolding energy demand _>>=_
+    refuses-2 q = rw (p, q)
+
+    module _ (q : withinLimits (s .count) t x rho ≡ true) where
+      pub refuses-6 : energyRun s t x rho d chain ≡ refused 6 → refused 6 ≡ energy s t x rho d chain
+      unfolding energy demand _>>=_
+      refuses-6 r = rw (p, q, r)
+
+      module _ (v : Float) (r : energyRun s t x rho d chain ≡ held v) where
+        pub refuses-7 : finite v ≡ false → refused 7 ≡ energy s t x rho d chain
+        unfolding energy demand _>>=_
+        refuses-7 e = rw (p, q, r, e)
+
+        pub holds : finite v ≡ true → held v ≡ energy s t x rho d chain
+        unfolding energy demand _>>=_
+        holds e = rw (p, q, r, e)

@@ -1,0 +1,100 @@
+-- Dispersion, and dispersion with chain, as an operation on a set: where each number is read, the tests in their order, and the answer.
+use Prim.Native.Nat.{ℕ, _+_, _*_}
+use lib.Dec.{eqb}
+use lib.Ieee.{Float}
+use lib.Ieee.Scale.{finite}
+use lib.ListN.{length}
+use mathlib.Core.List.{List}
+use mathlib.Core.Bool.{Bool, _&&_, cond}
+use Rattle.number.specs.Ans.{Ans, held, refused, _>>=_, demand}
+use Rattle.number.specs.Arith.{floats}
+use Rattle.number.specs.Functions.{calls}
+use Rattle.number.specs.Lists.{at}
+use Rattle.number.specs.Side.{sheet, cell}
+use Rattle.elementary.specs.Port.{port}
+use Rattle.limits.specs.Limits.{countWithin, temperatureWithin, sharesWithin}
+use Rattle.saftvrmie_parameters.specs.declared.PairParameters.{PairParameters}
+use Rattle.saftvrmie_parameters.specs.declared.SaftVRMiePars.{SaftVRMiePars}
+use Rattle.saftvrmie_dispersion.specs.Answer.{pairIn, kIn}
+use Rattle.saftvrmie_energies.specs.Properties.{PropertiesIn}
+use Rattle.saftvrmie_energies.specs.Dispersion.{StateIn, dispersion, dispersionChain}
+use Rattle.saftvrmie_energies.specs.declared.Properties.{Properties}
+use Rattle.saftvrmie_energies.specs.declared.PropertiesAnswer as the-properties
+use Rattle.saftvrmie_energies.specs.declared.EnergyAnswer.{EnergyAnswer}
+use Rattle.saftvrmie_energies.specs.declared.EnergyAnswer.the-variants.{Value, Refused}
+
+-- ---- document 01's number or values of each case of the answers
+
+abbrev pub propertiesIn : Properties → PropertiesIn Float
+propertiesIn q = record { segment-density = q .«segment_density»; zeta-x = q .«zeta_x»; zeta-x-bar = q .«zeta_x_bar»; k = kIn (q .k) }
+
+abbrev pub propertiesAnswer : the-properties.PropertiesAnswer → Ans (PropertiesIn Float)
+propertiesAnswer (the-properties.the-variants.At q) = held (propertiesIn q)
+propertiesAnswer the-properties.the-variants.Outside = refused 6
+
+abbrev pub energyAnswer : EnergyAnswer → Ans Float
+energyAnswer (Value v) = held v
+energyAnswer (Refused n) = refused n
+
+-- ---- what is read where
+
+-- a pair: all of the sheets, at (i, j)
+abbrev pub pairAt : List Float → ℕ → ℕ → PairParameters
+pairAt s i j =
+    record {
+      sigma = at s (cell i j);
+      «epsilon_k» = at s (1 * sheet + cell i j);
+      lr = at s (2 * sheet + cell i j);
+      la = at s (3 * sheet + cell i j);
+      c = at s (4 * sheet + cell i j);
+      alpha = at s (5 * sheet + cell i j);
+    }
+
+-- a component: 'VR Mie's pure terms read sigma, epsilon_k, la and lr of the component lists'; c and alpha stand at (i, i) of their sheets
+abbrev pub pureAt : List Float → List Float → List Float → List Float → List Float → ℕ → PairParameters
+pureAt sigma epsilon-k lr la s i =
+    record {
+      sigma = at sigma i;
+      «epsilon_k» = at epsilon-k i;
+      lr = at lr i;
+      la = at la i;
+      c = at s (4 * sheet + cell i i);
+      alpha = at s (5 * sheet + cell i i);
+    }
+
+-- the state from the set and the lists, each number entered by lit
+abbrev pub stateIn : {N : Type 0} → (Float → N) → SaftVRMiePars → Float → List Float → List Float → List Float → StateIn N
+stateIn lit p t x rho d =
+    record {
+      temperature = lit t;
+      fraction = λ i. lit (at x i);
+      density = λ i. lit (at rho i);
+      diameter = λ i. lit (at d i);
+      m = λ i. lit (at (p .m) i);
+      pure = λ i. pairIn lit (pureAt (p .sigma) (p .«epsilon_k») (p .lr) (p .la) (p .sheets) i);
+      pair = λ i j. pairIn lit (pairAt (p .sheets) i j);
+    }
+
+-- ---- the operation
+
+-- 1: the count, or a list that is not as long as it
+unfoldable pub rightLists : ℕ → ℕ → ℕ → ℕ → Bool
+rightLists n x rho d = countWithin n && eqb x n && eqb rho n && eqb d n
+
+-- 2: the temperature, a mole fraction or a density is outside; diameters are read as they are
+unfoldable pub withinLimits : ℕ → Float → List Float → List Float → Bool
+withinLimits n t x rho = temperatureWithin t && sharesWithin n (at x) && sharesWithin n (at rho)
+
+unfoldable pub energyRun : SaftVRMiePars → Float → List Float → List Float → List Float → Bool → Ans Float
+energyRun p t x rho d chain =
+    let s = stateIn (λ v. v) p t x rho d in
+    cond chain (dispersionChain floats (calls floats port) (p .count) s) (dispersion floats (calls floats port) (p .count) s)
+
+-- 1; 2; 6 anywhere on the way; then 7 if the energy is not finite
+unfoldable pub energy : SaftVRMiePars → Float → List Float → List Float → List Float → Bool → Ans Float
+energy p t x rho d chain =
+    demand 1 (rightLists (p .count) (length x) (length rho) (length d)) >>= λ _.
+    demand 2 (withinLimits (p .count) t x rho) >>= λ _.
+    energyRun p t x rho d chain >>= λ v.
+    demand 7 (finite v) >>= λ _.
+    held v

@@ -1,0 +1,3 @@
+pub mod Properties
+pub mod Dispersion
+pub mod Energies

@@ -1,0 +1,93 @@
+-- `eta_eff` to `combine_sutherland_and_b` of saftvrqmie/eos/dispersion.rs (Lafitte et al. 2013), over any arithmetic, in the Rust's order of operations.
+use Prim.Native.Nat.{ℕ}
+use mathlib.Core.Bool.{true, false}
+use Rattle.number.specs.Ans.{Ans, held, _>>=_}
+use Rattle.number.specs.Arith.{Arith, decimal}
+use Rattle.number.specs.Functions.{Functions}
+use Rattle.saftvrqmie_dispersion_terms.specs.Constants.{lam}
+
+module _ (A : Arith) where
+  open Arith A using (Num, add as _⊕_, sub as _⊖_, mul as _⊗_, div as _⊘_, neg as ⊖_, pow, lit)
+
+  infixl 60 _⊕_
+  infixl 60 _⊖_
+  infixl 70 _⊗_
+  infixl 70 _⊘_
+  infix 80 ⊖_
+  abbrev pub whole : ℕ → Num
+  whole n = lit (decimal false n 0)
+
+  -- c[i] of `eta_eff`, from the inverse powers of lambda
+  unfoldable pub lamSum : ℕ → Num → Num → Num → Num → Num
+  lamSum i l0 l1 l2 l3 = l0 ⊗ lit (lam i 0) ⊕ l1 ⊗ lit (lam i 1) ⊕ l2 ⊗ lit (lam i 2) ⊕ l3 ⊗ lit (lam i 3)
+
+  unfoldable pub etaEff : Num → Num → Num
+  etaEff lambda zeta =
+      let l0 = whole 1 in
+      let l1 = whole 1 ⊘ lambda in
+      let l2 = whole 1 ⊘ pow lambda 2 in
+      let l3 = whole 1 ⊘ pow lambda 3 in
+      let c0 = lamSum 0 l0 l1 l2 l3 in
+      let c1 = lamSum 1 l0 l1 l2 l3 in
+      let c2 = lamSum 2 l0 l1 l2 l3 in
+      let c3 = lamSum 3 l0 l1 l2 l3 in
+      zeta ⊗ (zeta ⊗ (zeta ⊗ (zeta ⊗ c3 ⊕ c2) ⊕ c1) ⊕ c0)
+
+  -- `sutherland` from ef = eta_eff and its power p of x0
+  unfoldable pub sutherlandOf : Num → Num → Num → Num → Num
+  sutherlandOf lambda epsilon-k ef p =
+      (⊖ ef ⊗ lit (decimal false 5 1) ⊕ whole 1) ⊗ lit (decimal true 12 0) ⊗ p ⊗ epsilon-k ⊘ (lambda ⊖ whole 3) ⊘ pow (⊖ ef ⊕ whole 1) 3
+
+  -- `ilambda` from its power 3 - lambda, `jlambda` from its powers 4 - lambda and 3 - lambda
+  unfoldable pub ilambdaOf : Num → Num → Num
+  ilambdaOf lambda p3 = ⊖ (p3 ⊖ whole 1) ⊘ (lambda ⊖ whole 3)
+
+  unfoldable pub jlambdaOf : Num → Num → Num → Num
+  jlambdaOf lambda p4 p3 = ⊖ (p4 ⊗ (lambda ⊖ whole 3) ⊖ p3 ⊗ (lambda ⊖ whole 4) ⊖ whole 1) ⊘ ((lambda ⊖ whole 3) ⊗ (lambda ⊖ whole 4))
+
+  -- the factors of the two integrals in `b`, by the packing fraction alone
+  unfoldable pub factorI : Num → Num
+  factorI zeta = (⊖ zeta ⊕ whole 2) ⊘ pow (⊖ zeta ⊕ whole 1) 3
+
+  unfoldable pub factorJ : Num → Num
+  factorJ zeta = ⊖ zeta ⊗ whole 9 ⊗ (zeta ⊕ whole 1) ⊘ pow (⊖ zeta ⊕ whole 1) 3
+
+  -- `b` from its factors, the two integrals, and its power p of x0
+  unfoldable pub bOf : Num → Num → Num → Num → Num → Num → Num
+  bOf epsilon-k fi fj i j p = p ⊗ (fi ⊗ i ⊕ fj ⊗ j) ⊗ whole 6 ⊗ epsilon-k
+
+  -- From here on `power` and `power-eff` stand for x0.powf and x0_eff.powf.
+  unfoldable pub sutherland : Num → Num → Num → (Num → Ans Num) → Ans Num
+  sutherland lambda epsilon-k zeta power =
+      let ef = etaEff lambda zeta in
+      power lambda >>= λ p.
+      held (sutherlandOf lambda epsilon-k ef p)
+
+  unfoldable pub ilambda : Num → (Num → Ans Num) → Ans Num
+  ilambda lambda power-eff =
+      power-eff (whole 3 ⊖ lambda) >>= λ p3.
+      held (ilambdaOf lambda p3)
+
+  unfoldable pub jlambda : Num → (Num → Ans Num) → Ans Num
+  jlambda lambda power-eff =
+      power-eff (whole 4 ⊖ lambda) >>= λ p4.
+      power-eff (whole 3 ⊖ lambda) >>= λ p3.
+      held (jlambdaOf lambda p4 p3)
+
+  -- divided by the packing fraction, as in the Rust
+  unfoldable pub b : Num → Num → Num → Num → (Num → Ans Num) → (Num → Ans Num) → Ans Num
+  b lambda epsilon-k fi fj power power-eff =
+      ilambda lambda power-eff >>= λ i.
+      jlambda lambda power-eff >>= λ j.
+      power lambda >>= λ p.
+      held (bOf epsilon-k fi fj i j p)
+
+  unfoldable pub combine : Num → Num → Num → Num → Num → (Num → Ans Num) → (Num → Ans Num) → Ans Num
+  combine lambda epsilon-k zeta fi fj power power-eff =
+      sutherland lambda epsilon-k zeta power >>= λ int-as.
+      b lambda epsilon-k fi fj power power-eff >>= λ int-b.
+      held (int-as ⊕ int-b)
+
+  -- `combine_sutherland_and_b`; the exponent comes last
+  unfoldable pub combineSutherlandAndB : Functions Num → Num → Num → Num → Num → Num → Ans Num
+  combineSutherlandAndB F epsilon-k zeta x0 x0-eff lambda = combine lambda epsilon-k zeta (factorI zeta) (factorJ zeta) (F .powf x0) (F .powf x0-eff)

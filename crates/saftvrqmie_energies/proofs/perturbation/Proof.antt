@@ -1,0 +1,24 @@
+-- `saftvrqmie_energies::perturbation` meets its contract. Assumes nothing.
+use lib.Ieee.{ofBits}
+use Rattle.number.specs.Arith.{decimal}
+use Rattle.saftvrqmie_energies.specs.Dispersion.{perturbation}
+use borrow.Author.Needs.{needs}
+use Rattle.saftvrqmie_energies.proofs.perturbation.Statement.{statement}
+use Rattle.saftvrqmie_energies.proofs.perturbation.Tie as tie
+
+pow-up-requires : tie.Need-pow-up-requires
+pow-up-requires c κs = search needs
+
+pow-up-requires-2 : tie.Need-pow-up-requires-2
+pow-up-requires-2 c κs = search needs
+
+returns : tie.Need-returns
+unfolding perturbation decimal ofBits
+returns c =
+    rw (
+      c .pow-up2 .ensures,
+      c .before .pow-up .ensures,
+    )
+
+pub perturbation-spec : {M : Type 1} → statement M
+perturbation-spec = tie.close (tie.spec pow-up-requires pow-up-requires-2 returns)

@@ -1,0 +1,68 @@
+-- The quantum energies as an operation: hard sphere, dispersion and, if wanted, non-additive, from a set, a temperature, fractions, densities and a table.
+use Prim.Native.Nat.{ℕ, _*_}
+use lib.Dec.{eqb}
+use lib.Ieee.{Float}
+use lib.Ieee.Scale.{finite}
+use lib.ListN.{length}
+use mathlib.Core.List.{List}
+use mathlib.Core.Bool.{Bool, _&&_, cond}
+use Rattle.number.specs.Ans.{Ans, held, refused, _>>=_, demand}
+use Rattle.number.specs.Arith.{Arith, floats, zero64}
+use Rattle.number.specs.Functions.{Functions, calls}
+use Rattle.number.specs.Lists.{at}
+use Rattle.number.specs.Side.{sheet}
+use Rattle.elementary.specs.Port.{port}
+use Rattle.limits.specs.Limits.{countWithin, temperatureWithin, sharesWithin}
+use Rattle.saftvrqmie_parameters.specs.declared.SaftVRQMiePars.{SaftVRQMiePars}
+use Rattle.saftvrqmie_energies.specs.State.{SheetsIn, sheetsOf, points, diagonal}
+use Rattle.saftvrqmie_energies.specs.HardSphere.{hardSphere}
+use Rattle.saftvrqmie_energies.specs.NonAdditive.{nonAdditive}
+use Rattle.saftvrqmie_energies.specs.Dispersion.{dispersion}
+use Rattle.saftvrqmie_energies.specs.declared.QuantumEnergies.{QuantumEnergies}
+use Rattle.saftvrqmie_energies.specs.declared.EnergiesAnswer.{EnergiesAnswer}
+use Rattle.saftvrqmie_energies.specs.declared.EnergiesAnswer.the-variants.{Energies, Refused}
+
+pub record EnergiesIn (N : Type 0) : Type 0 where
+  pub hard-sphere : N
+  pub dispersion : N
+  pub non-additive : N
+
+abbrev pub energiesIn : QuantumEnergies → EnergiesIn Float
+energiesIn e = record { hard-sphere = e .«hard_sphere»; dispersion = e .dispersion; non-additive = e .«non_additive» }
+
+-- document 01's number or values of each case of `EnergiesAnswer`
+abbrev pub energiesAnswer : EnergiesAnswer → Ans (EnergiesIn Float)
+energiesAnswer (Energies e) = held (energiesIn e)
+energiesAnswer (Refused n) = refused n
+
+-- The contributions, from the sheets, mole fractions, partial densities, m and the temperature. A non-additive part that is not wanted is +0 and nothing of it is worked
+unfoldable pub contributions : (A : Arith) → Functions (A .Num) → SheetsIn (A .Num) → (ℕ → A .Num) → (ℕ → A .Num) → (ℕ → A .Num) → A .Num → Bool → Ans (EnergiesIn (A .Num))
+contributions A F s x rho m t wanted =
+    hardSphere A F (s .count) x rho (diagonal (s .hs-diameter)) m >>= λ h.
+    dispersion A F s x rho m t >>= λ d.
+    held (record { hard-sphere = h; dispersion = d; non-additive = cond wanted (nonAdditive A F (s .count) rho m (s .hs-diameter)) (A .lit zero64) })
+
+-- of a call's lists
+abbrev pub contributionsOf : (A : Arith) → Functions (A .Num) → SaftVRQMiePars → Float → List Float → List Float → List Float → Bool → Ans (EnergiesIn (A .Num))
+contributionsOf A F s t x rho table wanted =
+    contributions A F (sheetsOf A (s .count) (s .sheets) (s .orders) t table) (points A x) (points A rho) (points A (s .m)) (A .lit t) wanted
+
+unfoldable pub allFinite : EnergiesIn Float → Bool
+allFinite e = finite (e .hard-sphere) && finite (e .dispersion) && finite (e .non-additive)
+
+-- 1: the count, fractions and densities of another length, a table that has not 256 places
+unfoldable pub rightLengths : ℕ → List Float → List Float → List Float → Bool
+rightLengths n x rho table = countWithin n && eqb (length x) n && eqb (length rho) n && eqb (length table) (4 * sheet)
+
+-- 2: temperature, fractions or densities
+unfoldable pub withinLimits : ℕ → Float → List Float → List Float → Bool
+withinLimits n t x rho = temperatureWithin t && sharesWithin n (at x) && sharesWithin n (at rho)
+
+-- '1; 2 for temperature, fractions or densities; 6; 7 if a contribution is not finite'
+unfoldable pub energies : SaftVRQMiePars → Float → List Float → List Float → List Float → Bool → Ans (EnergiesIn Float)
+energies s t x rho table wanted =
+    demand 1 (rightLengths (s .count) x rho table) >>= λ _.
+    demand 2 (withinLimits (s .count) t x rho) >>= λ _.
+    contributionsOf floats (calls floats port) s t x rho table wanted >>= λ e.
+    demand 7 (allFinite e) >>= λ _.
+    held e

@@ -1,0 +1,5 @@
+pub mod State
+pub mod HardSphere
+pub mod NonAdditive
+pub mod Dispersion
+pub mod Energies

@@ -1,0 +1,175 @@
+//! A float of the float run with its two ends, by the outward rules of the scope. Under the name `f64` it takes the place of
+//! the plain float in the Rust text.
+use num_traits::{Inv, One, Zero};
+use std::cell::Cell;
+use std::ops::*;
+
+thread_local! {
+    static EIGHT: Cell<bool> = const { Cell::new(false) };
+    static R0: Cell<f64> = const { Cell::new(0.0) };
+}
+
+/// Whether 8 arose since the last look.
+pub fn take_eight() -> bool {
+    EIGHT.replace(false)
+}
+/// The lower limit of a diameter's integral, which the two-ended calls take instead of searching it.
+pub fn set_r0(x: f64) {
+    R0.set(x)
+}
+pub fn r0() -> F {
+    F::k(R0.get())
+}
+
+#[derive(Clone, Copy, Debug)]
+pub struct F {
+    pub v: f64,
+    pub low: f64,
+    pub high: f64,
+}
+
+/// The neighbour above: a step onto zero gives +0, from either zero it is 2^-1074.
+fn up(x: f64) -> f64 {
+    let y = x.next_up();
+    if y == 0.0 { 0.0 } else { y }
+}
+fn down(x: f64) -> f64 {
+    let y = x.next_down();
+    if y == 0.0 { 0.0 } else { y }
+}
+
+/// The least and greatest corner, each moved outward; 8 if an end of an operand, a corner or a moved end is not finite.
+fn outward(v: f64, corners: [f64; 4], a: F, b: F) -> F {
+    let low = down(corners.into_iter().fold(f64::INFINITY, f64::min));
+    let high = up(corners.into_iter().fold(f64::NEG_INFINITY, f64::max));
+    let ends = [a.low, a.high, b.low, b.high, low, high];
+    if !ends.into_iter().chain(corners).all(f64::is_finite) {
+        EIGHT.set(true);
+    }
+    F { v, low, high }
+}
+
+impl F {
+    pub const EPSILON: F = F::k(f64::EPSILON);
+    pub const NAN: F = F::k(f64::NAN);
+    /// A point: an input, a constant or an elementary answer.
+    pub const fn k(x: f64) -> F {
+        F { v: x, low: x, high: x }
+    }
+    pub fn of(n: usize) -> F {
+        F::k(n as f64)
+    }
+    /// An elementary answer to the float run's argument.
+    pub fn call(self, f: fn(f64) -> f64) -> F {
+        F::k(f(self.v))
+    }
+    pub fn call_two(self, other: F, f: fn(f64, f64) -> f64) -> F {
+        F::k(f(self.v, other.v))
+    }
+    /// Only branches ask it.
+    pub fn abs(self) -> F {
+        F::k(self.v.abs())
+    }
+    pub fn powf(self, n: F) -> F {
+        self.call_two(n, f64::powf)
+    }
+    pub fn powi(self, n: i32) -> F {
+        self.call_two(F::from(n), f64::powf)
+    }
+}
+macro_rules! platform {
+    ($($f:ident),*) => { impl F { $( pub fn $f(self) -> F { self.call(f64::$f) } )* } };
+}
+platform!(sqrt, ln, ln_1p, exp, exp_m1, tanh);
+
+impl Neg for F {
+    type Output = F;
+    fn neg(self) -> F {
+        F { v: -self.v, low: -self.high, high: -self.low }
+    }
+}
+macro_rules! corners {
+    ($($op:ident $f:ident $sign:tt),*) => { $(
+        impl $op for F {
+            type Output = F;
+            fn $f(self, o: F) -> F {
+                let corners = [self.low $sign o.low, self.low $sign o.high, self.high $sign o.low, self.high $sign o.high];
+                outward(self.v $sign o.v, corners, self, o)
+            }
+        }
+    )* };
+}
+corners!(Add add +, Sub sub -, Mul mul *);
+impl Div for F {
+    type Output = F;
+    fn div(self, o: F) -> F {
+        if !(o.low > 0.0 || o.high < 0.0) {
+            EIGHT.set(true);
+        }
+        let corners = [self.low / o.low, self.low / o.high, self.high / o.low, self.high / o.high];
+        outward(self.v / o.v, corners, self, o)
+    }
+}
+macro_rules! assigns {
+    ($($op:ident $f:ident $sign:tt),*) => { $(
+        impl $op for F {
+            fn $f(&mut self, o: F) {
+                *self = *self $sign o
+            }
+        }
+    )* };
+}
+assigns!(AddAssign add_assign +, SubAssign sub_assign -, MulAssign mul_assign *, DivAssign div_assign /);
+
+impl From<i32> for F {
+    fn from(n: i32) -> F {
+        F::k(n as f64)
+    }
+}
+impl Default for F {
+    fn default() -> F {
+        F::k(0.0)
+    }
+}
+// branches are those of the float run
+impl PartialEq for F {
+    fn eq(&self, o: &F) -> bool {
+        self.v == o.v
+    }
+}
+impl PartialOrd for F {
+    fn partial_cmp(&self, o: &F) -> Option<std::cmp::Ordering> {
+        self.v.partial_cmp(&o.v)
+    }
+}
+impl std::fmt::Display for F {
+    fn fmt(&self, f: &mut std::fmt::Formatter<'_>) -> std::fmt::Result {
+        self.v.fmt(f)
+    }
+}
+impl Zero for F {
+    fn zero() -> F {
+        F::k(0.0)
+    }
+    fn is_zero(&self) -> bool {
+        self.v == 0.0
+    }
+}
+impl One for F {
+    fn one() -> F {
+        F::k(1.0)
+    }
+}
+impl Inv for F {
+    type Output = F;
+    fn inv(self) -> F {
+        F::k(1.0) / self
+    }
+}
+
+pub mod consts {
+    use super::F;
+    pub const PI: F = F::k(std::f64::consts::PI);
+    pub const TAU: F = F::k(std::f64::consts::TAU);
+    pub const FRAC_PI_6: F = F::k(std::f64::consts::FRAC_PI_6);
+}

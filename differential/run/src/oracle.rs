@@ -1,0 +1,450 @@
+//! What each operation has to answer: the refusals by the words of the scope, the values by the renamed Rust text
+//! over the port's elementary functions.
+use crate::port;
+use ended::saftvrmie::eos as ended_vr;
+use ended::saftvrqmie::eos::driver as ended_vrq;
+use ends::F;
+use num_dual::Functions;
+use renamed::saftvrmie::eos as vr;
+use renamed::saftvrmie::parameters::r0;
+use renamed::saftvrqmie::eos::driver as vrq;
+use std::cell::{Cell, RefCell};
+
+// ---- elementary functions: domains by the scope, values by the port
+
+thread_local! {
+    /// Whether an elementary argument was outside since the last look.
+    static OUTSIDE: Cell<bool> = const { Cell::new(false) };
+    /// Bases of the powers and the tested values, since a search began.
+    static BASES: RefCell<Vec<f64>> = const { RefCell::new(vec![]) };
+    static TESTED: Cell<f64> = const { Cell::new(f64::NAN) };
+}
+
+pub fn sqrt_inside(x: f64) -> bool {
+    x >= 0.0 && x <= f64::MAX
+}
+pub fn ln_inside(x: f64) -> bool {
+    x >= f64::MIN_POSITIVE && x <= f64::MAX
+}
+pub fn ln_1p_inside(x: f64) -> bool {
+    x > -1.0 && x <= 1048576.0
+}
+pub fn exp_inside(x: f64) -> bool {
+    x >= -700.0 && x <= 700.0
+}
+pub fn tanh_inside(x: f64) -> bool {
+    x >= -350.0 && x <= 350.0
+}
+pub fn powf_inside(base: f64, exponent: f64) -> bool {
+    base >= 0.03125 && base <= 32.0 && exponent >= -192.0 && exponent <= 192.0
+}
+
+fn asked(inside: bool, call: impl FnOnce(*mut f64) -> u8) -> f64 {
+    let mut out = f64::NAN;
+    if !inside {
+        OUTSIDE.set(true);
+    } else {
+        assert!(call(&mut out) == 0, "the port refuses an elementary argument that is inside");
+    }
+    out
+}
+macro_rules! one {
+    ($f:ident, $inside:ident, $port:ident) => {
+        fn $f(x: f64) -> f64 {
+            asked($inside(x), |out| unsafe { port::$port.unwrap()(x, out) })
+        }
+    };
+}
+one!(sqrt, sqrt_inside, SQRT);
+one!(ln, ln_inside, LN);
+one!(ln_1p, ln_1p_inside, LN_1P);
+one!(exp, exp_inside, EXP);
+one!(exp_m1, exp_inside, EXP_M1);
+one!(tanh, tanh_inside, TANH);
+fn powf(base: f64, exponent: f64) -> f64 {
+    BASES.with_borrow_mut(|b| b.push(base));
+    asked(powf_inside(base, exponent), |out| unsafe { port::POWF.unwrap()(base, exponent, out) })
+}
+fn re(x: f64) -> f64 {
+    TESTED.set(x);
+    x
+}
+pub static PORT: Functions = Functions { re, sqrt, ln, ln_1p, exp, exp_m1, tanh, powf };
+
+fn start() {
+    OUTSIDE.set(false);
+    BASES.with_borrow_mut(Vec::clear);
+}
+/// 6 if an elementary argument was outside since `start`.
+fn inside() -> Result<(), u8> {
+    if OUTSIDE.get() { Err(6) } else { Ok(()) }
+}
+/// 7 if a value is not finite.
+fn finite(values: &[f64]) -> Result<(), u8> {
+    if values.iter().all(|x| x.is_finite()) { Ok(()) } else { Err(7) }
+}
+
+// ---- lists, sets, states as they cross the boundary
+
+#[derive(Clone, Debug)]
+pub struct Lists {
+    pub count: usize,
+    pub m: Vec<f64>,
+    pub sigma: Vec<f64>,
+    pub epsilon_k: Vec<f64>,
+    pub lr: Vec<f64>,
+    pub la: Vec<f64>,
+    pub mass: Vec<f64>,
+    pub order: Vec<u8>,
+    pub k_ij: Vec<f64>,
+    /// l_ij of the quantum model, gamma_ij of VR Mie.
+    pub l_ij: Vec<f64>,
+}
+#[derive(Clone, Debug)]
+pub struct QuantumSet {
+    pub count: usize,
+    pub m: Vec<f64>,
+    pub sheets: Vec<f64>,
+    pub orders: Vec<u8>,
+}
+#[derive(Clone, Debug)]
+pub struct MieSet {
+    pub count: usize,
+    pub lists: Vec<f64>,
+    pub sheets: Vec<f64>,
+}
+#[derive(Clone, Debug)]
+pub struct State {
+    pub temperature: f64,
+    pub fractions: Vec<f64>,
+    pub densities: Vec<f64>,
+}
+
+// ---- refusals by limits
+
+fn lengths(right: bool) -> Result<(), u8> {
+    if right { Ok(()) } else { Err(1) }
+}
+fn limits(right: bool) -> Result<(), u8> {
+    if right { Ok(()) } else { Err(2) }
+}
+fn count_right(count: usize) -> bool {
+    (1..=8).contains(&count)
+}
+fn all_within(list: &[f64], low: f64, high: f64) -> bool {
+    list.iter().all(|&x| low <= x && x <= high)
+}
+fn exponents_right(lr: &[f64], la: &[f64]) -> bool {
+    lr.iter().zip(la).all(|(&lr, &la)| 3.0 < la && la < lr && lr <= 64.0)
+}
+/// Within ±0.9, equal bits at (i, j) and (j, i), +0 at (i, i).
+fn pairs_right(count: usize, pairs: &[f64]) -> bool {
+    all_within(pairs, -0.9, 0.9)
+        && (0..count).all(|i| {
+            pairs[count * i + i].to_bits() == 0 && (0..i).all(|j| pairs[count * i + j].to_bits() == pairs[count * j + i].to_bits())
+        })
+}
+fn temperature_right(t: f64) -> bool {
+    1.0 <= t && t <= 2000.0
+}
+fn state_right(s: &State) -> bool {
+    temperature_right(s.temperature) && all_within(&s.fractions, 0.0, 1.0) && all_within(&s.densities, 0.0, 1.0)
+}
+
+/// The lists of a set as the boundary takes them apart: 1 for a length, then 4 if an order is above 2 (an enum has no such
+/// case); the count comes after.
+fn quantum_lists(s: &QuantumSet) -> Result<(), u8> {
+    lengths(s.m.len() == 8 && s.sheets.len() == 384 && s.orders.len() == 64)?;
+    if s.orders.iter().all(|&o| o <= 2) { Ok(()) } else { Err(4) }
+}
+fn mie_set_right(s: &MieSet) -> bool {
+    count_right(s.count) && s.lists.len() == 40 && s.sheets.len() == 384
+}
+
+// ---- quantum operations
+
+fn in_places(list: &[f64]) -> Vec<f64> {
+    let mut places = vec![0.0; 8];
+    places[..list.len()].copy_from_slice(list);
+    places
+}
+
+pub fn vrq_parameters(l: &Lists, out: [usize; 3]) -> Result<QuantumSet, u8> {
+    let n = l.count;
+    let right = |list: &[f64]| list.len() == n;
+    lengths(
+        count_right(n)
+            && right(&l.m)
+            && right(&l.sigma)
+            && right(&l.epsilon_k)
+            && right(&l.lr)
+            && right(&l.la)
+            && right(&l.mass)
+            && l.order.len() == n
+            && l.k_ij.len() == n * n
+            && l.l_ij.len() == n * n
+            && out == [8, 384, 64],
+    )?;
+    limits(
+        all_within(&l.sigma, 0.5, 16.0)
+            && all_within(&l.epsilon_k, 0.1, 5000.0)
+            && exponents_right(&l.lr, &l.la)
+            && all_within(&l.mass, 1e-27, 1e-23)
+            && pairs_right(n, &l.k_ij)
+            && pairs_right(n, &l.l_ij),
+    )?;
+    start();
+    let p = vrq::parameters(&vrq::Lists {
+        m: &l.m,
+        sigma: &l.sigma,
+        epsilon_k: &l.epsilon_k,
+        lr: &l.lr,
+        la: &l.la,
+        mass: &l.mass,
+        order: &l.order,
+        k_ij: &l.k_ij,
+        l_ij: &l.l_ij,
+    })?;
+    inside()?;
+    let (sheets, orders) = vrq::flat(&p);
+    Ok(QuantumSet { count: n, m: in_places(&l.m), sheets: sheets.to_vec(), orders: orders.to_vec() })
+}
+
+/// Evaluations of a search that has just run, its last radius before a step, and whether it was found.
+fn searched(order: u8) -> (u8, f64, bool) {
+    let per_evaluation = 12 * (1 + order as usize);
+    let (calls, last) = BASES.with_borrow(|b| (b.len(), b[b.len() - per_evaluation]));
+    assert!(calls % per_evaluation == 0 && calls / per_evaluation <= 19);
+    let found = TESTED.get().abs() < 1.0e-12;
+    (if found { (calls / per_evaluation) as u8 } else { 20 }, last, found)
+}
+
+/// Radius and last potential of the three searches of a pair, and their counts: 6 alone.
+fn searches(p: &renamed::saftvrqmie::parameters::SaftVRQMiePars, order: u8, i: usize, j: usize, t: f64) -> Result<([f64; 6], [u8; 3]), u8> {
+    start();
+    let sigma_eff = p.calc_sigma_eff_ij(i, j, t);
+    inside()?;
+    let (sigma_count, sigma_last, found) = searched(order);
+    assert!(!found || same(sigma_eff, sigma_last));
+    start();
+    let zero = p.zero_integrand(i, j, t, sigma_eff);
+    inside()?;
+    let (zero_count, zero_last, found) = searched(order);
+    assert!(!found || same(zero, zero_last));
+    start();
+    let depth = p.calc_epsilon_k_eff_ij(i, j, t);
+    inside()?;
+    let (depth_count, depth_last, found) = searched(order);
+    // the Rust keeps neither the depth's radius nor the potentials: worked again at the radii seen
+    let [u, u_r, u_rr] = p.qmie_potential_ij(i, j, depth_last, t);
+    assert!(same(depth, -u));
+    let depth_radius = if found { depth_last } else { depth_last + -u_r / u_rr };
+    let at = |r: f64| p.qmie_potential_ij(i, j, r, t)[0];
+    Ok(([sigma_eff, at(sigma_last), zero, at(zero_last), depth_radius, u], [sigma_count, zero_count, depth_count]))
+}
+
+pub fn vrq_radii(s: &QuantumSet, i: usize, j: usize, t: f64, out: [usize; 2]) -> Result<([f64; 6], [u8; 3]), u8> {
+    lengths(out == [6, 3])?;
+    quantum_lists(s)?;
+    lengths(count_right(s.count) && i < s.count && j < s.count)?;
+    limits(temperature_right(t))?;
+    searches(&vrq::set(s.count, &s.m, &s.sheets, &s.orders), s.orders[8 * i + j], i, j, t)
+}
+
+pub fn vrq_table(s: &QuantumSet, t: f64, out: [usize; 2]) -> Result<([f64; 256], [u8; 192]), u8> {
+    quantum_lists(s)?;
+    lengths(count_right(s.count) && out == [256, 192])?;
+    limits(temperature_right(t))?;
+    let p = vrq::set(s.count, &s.m, &s.sheets, &s.orders);
+    let mut counts = [0; 192];
+    for i in 0..s.count {
+        for j in 0..s.count {
+            let e = 8 * i + j;
+            let (_, c) = searches(&p, s.orders[e], i, j, t)?;
+            (counts[e], counts[64 + e], counts[128 + e]) = (c[0], c[1], c[2]);
+        }
+    }
+    start();
+    let table = vrq::table(&p, t);
+    inside()?;
+    finite(&table)?;
+    Ok((table, counts))
+}
+
+pub fn vrq_energies(s: &QuantumSet, st: &State, table: &[f64], non_additive: bool, out: usize) -> Result<[f64; 3], u8> {
+    let n = s.count;
+    lengths(out == 3)?;
+    quantum_lists(s)?;
+    lengths(count_right(n) && st.fractions.len() == n && st.densities.len() == n && table.len() == 256)?;
+    limits(state_right(st))?;
+    start();
+    let p = vrq::set(n, &s.m, &s.sheets, &s.orders);
+    let energies = vrq::energies(&p, table, st.temperature, &st.fractions, &st.densities, non_additive);
+    inside()?;
+    finite(&energies)?;
+    Ok(energies)
+}
+
+/// Parameters, table and energies; the first refusal on the way is given.
+pub fn vrq_stage(l: &Lists, st: &State, non_additive: bool, out: usize) -> Result<[f64; 3], u8> {
+    lengths(out == 3)?;
+    let set = vrq_parameters(l, [8, 384, 64])?;
+    let (table, _) = vrq_table(&set, st.temperature, [256, 192])?;
+    vrq_energies(&set, st, &table, non_additive, 3)
+}
+
+// ---- VR Mie operations
+
+pub fn vr_parameters(l: &Lists, out: [usize; 2]) -> Result<MieSet, u8> {
+    let n = l.count;
+    let right = |list: &[f64]| list.len() == n;
+    lengths(
+        count_right(n)
+            && right(&l.m)
+            && right(&l.sigma)
+            && right(&l.epsilon_k)
+            && right(&l.lr)
+            && right(&l.la)
+            && l.k_ij.len() == n * n
+            && l.l_ij.len() == n * n
+            && out == [40, 384],
+    )?;
+    limits(
+        all_within(&l.m, 0.5, 64.0)
+            && all_within(&l.sigma, 0.5, 16.0)
+            && all_within(&l.epsilon_k, 0.1, 5000.0)
+            && exponents_right(&l.lr, &l.la)
+            && pairs_right(n, &l.k_ij)
+            && pairs_right(n, &l.l_ij),
+    )?;
+    start();
+    let p = vr::parameters(&vr::Lists {
+        m: &l.m,
+        sigma: &l.sigma,
+        epsilon_k: &l.epsilon_k,
+        lr: &l.lr,
+        la: &l.la,
+        k_ij: &l.k_ij,
+        gamma_ij: &l.l_ij,
+    });
+    inside()?;
+    let lists = [&l.m, &l.sigma, &l.epsilon_k, &l.lr, &l.la].into_iter().flat_map(|x| in_places(x)).collect();
+    Ok(MieSet { count: n, lists, sheets: vr::flat(&p).to_vec() })
+}
+
+pub fn vr_diameters(s: &MieSet, t: f64, out: usize) -> Result<Vec<f64>, u8> {
+    lengths(mie_set_right(s) && out == s.count)?;
+    limits(temperature_right(t))?;
+    start();
+    let d = vr::diameters(&vr::set(s.count, &s.lists, &s.sheets), t);
+    inside()?;
+    finite(&d)?;
+    Ok(d)
+}
+
+pub fn vr_radius(s: &MieSet, i: usize, j: usize, t: f64) -> Result<f64, u8> {
+    lengths(mie_set_right(s) && i < s.count && j < s.count)?;
+    limits(temperature_right(t))?;
+    start();
+    let r = r0(&vr::set(s.count, &s.lists, &s.sheets), i, j, t);
+    inside()?;
+    Ok(r)
+}
+
+pub fn vr_dispersion(s: &MieSet, st: &State, diameters: &[f64], chain: bool) -> Result<f64, u8> {
+    let n = s.count;
+    lengths(mie_set_right(s) && st.fractions.len() == n && st.densities.len() == n && diameters.len() == n)?;
+    limits(state_right(st))?;
+    start();
+    let p = vr::set(n, &s.lists, &s.sheets);
+    let energy = vr::dispersion(&p, diameters, st.temperature, &st.fractions, &st.densities, chain);
+    inside()?;
+    finite(&[energy])?;
+    Ok(energy)
+}
+
+/// Parameters, diameters and energy; the first refusal on the way is given.
+pub fn vr_stage(l: &Lists, st: &State, chain: bool) -> Result<f64, u8> {
+    let set = vr_parameters(l, [40, 384])?;
+    let diameters = vr_diameters(&set, st.temperature, set.count)?;
+    vr_dispersion(&set, st, &diameters, chain)
+}
+
+// ---- two ends: the float run's refusals, then 8
+
+/// The same functions for floats with two ends.
+pub static ENDED: num_dual_ended::Functions = num_dual_ended::Functions {
+    re: |x| x,
+    sqrt: |x| x.call(sqrt),
+    ln: |x| x.call(ln),
+    ln_1p: |x| x.call(ln_1p),
+    exp: |x| x.call(exp),
+    exp_m1: |x| x.call(exp_m1),
+    tanh: |x| x.call(tanh),
+    powf: |x, y| x.call_two(y, powf),
+};
+
+fn points(list: &[f64]) -> Vec<F> {
+    list.iter().map(|x| F::k(*x)).collect()
+}
+/// The ends one after another: 6, 7 if a float result is not finite, 8.
+fn ends_of(results: &[F]) -> Result<Vec<f64>, u8> {
+    inside()?;
+    finite(&results.iter().map(|r| r.v).collect::<Vec<_>>())?;
+    if ends::take_eight() {
+        return Err(8);
+    }
+    assert!(results.iter().all(|r| r.low <= r.v && r.v <= r.high), "a float result outside its ends");
+    Ok(results.iter().flat_map(|r| [r.low, r.high]).collect())
+}
+fn start_ends() {
+    start();
+    ends::take_eight();
+}
+
+pub fn vrq_energies_ends(s: &QuantumSet, st: &State, table: &[f64], non_additive: bool, out: usize) -> Result<Vec<f64>, u8> {
+    let n = s.count;
+    lengths(out == 6)?;
+    quantum_lists(s)?;
+    lengths(count_right(n) && st.fractions.len() == n && st.densities.len() == n && table.len() == 256)?;
+    limits(state_right(st))?;
+    let p = ended_vrq::set(n, &points(&s.m), &points(&s.sheets), &s.orders);
+    start_ends();
+    let (x, rho) = (points(&st.fractions), points(&st.densities));
+    ends_of(&ended_vrq::energies(&p, &points(table), F::k(st.temperature), &x, &rho, non_additive))
+}
+
+pub fn vrq_diameter_ends(s: &QuantumSet, i: usize, j: usize, t: f64, radii: [f64; 2], out: usize) -> Result<Vec<f64>, u8> {
+    lengths(out == 2)?;
+    quantum_lists(s)?;
+    lengths(count_right(s.count) && i < s.count && j < s.count)?;
+    limits(temperature_right(t))?;
+    let p = ended_vrq::set(s.count, &points(&s.m), &points(&s.sheets), &s.orders);
+    start_ends();
+    ends::set_r0(radii[1]);
+    ends_of(&[p.hs_diameter_ij(i, j, F::k(t), F::k(radii[0]))])
+}
+
+pub fn vr_dispersion_ends(s: &MieSet, st: &State, diameters: &[f64], chain: bool, out: usize) -> Result<Vec<f64>, u8> {
+    let n = s.count;
+    lengths(mie_set_right(s) && st.fractions.len() == n && st.densities.len() == n && diameters.len() == n && out == 2)?;
+    limits(state_right(st))?;
+    let p = ended_vr::set(n, &points(&s.lists), &points(&s.sheets));
+    start_ends();
+    let (x, rho) = (points(&st.fractions), points(&st.densities));
+    ends_of(&[ended_vr::dispersion(&p, &points(diameters), F::k(st.temperature), &x, &rho, chain)])
+}
+
+pub fn vr_diameter_ends(s: &MieSet, i: usize, j: usize, t: f64, r0: f64, out: usize) -> Result<Vec<f64>, u8> {
+    lengths(mie_set_right(s) && i < s.count && j < s.count && out == 2)?;
+    limits(temperature_right(t))?;
+    let p = ended_vr::set(s.count, &points(&s.lists), &points(&s.sheets));
+    start_ends();
+    ends::set_r0(r0);
+    ends_of(&[p.hs_diameter_ij(i, j, F::k(1.0) / F::k(t))])
+}
+
+/// Equal bits, all NaNs being one.
+pub fn same(a: f64, b: f64) -> bool {
+    a.to_bits() == b.to_bits() || a.is_nan() && b.is_nan()
+}

@@ -1,0 +1,121 @@
+//! The oracle tried on itself: the renamed text with the platform's functions gives the bits of the unchanged text,
+//! and both give the values worked out for a few fluids.
+use crate::oracle::same;
+use crate::random::Random;
+use crate::states;
+use crate::tally::Tally;
+
+/// Everything that a text computes from lists and a state.
+macro_rules! all_values {
+    ($text:ident, $l:expr, $v:expr, $s:expr, $table:expr) => {{
+        use $text::saftvrmie::eos as vr;
+        use $text::saftvrmie::parameters::r0;
+        use $text::saftvrqmie::eos::driver as vrq;
+        let (l, v, s, mut all) = ($l, $v, $s, vec![]);
+        let quantum = vrq::parameters(&vrq::Lists {
+            m: &l.m,
+            sigma: &l.sigma,
+            epsilon_k: &l.epsilon_k,
+            lr: &l.lr,
+            la: &l.la,
+            mass: &l.mass,
+            order: &l.order,
+            k_ij: &l.k_ij,
+            l_ij: &l.l_ij,
+        });
+        match quantum {
+            Err(number) => all.push(number as f64),
+            Ok(p) => {
+                all.extend(vrq::flat(&p).0);
+                let table = vrq::table(&p, s.temperature);
+                all.extend(table);
+                all.extend(vrq::energies(&p, &table, s.temperature, &s.fractions, &s.densities, true));
+                let by_hand: Vec<f64> = table.iter().zip($table).map(|(x, y)| x * y).collect();
+                all.extend(vrq::energies(&p, &by_hand, s.temperature, &s.fractions, &s.densities, true));
+            }
+        }
+        let p = vr::parameters(&vr::Lists {
+            m: &v.m,
+            sigma: &v.sigma,
+            epsilon_k: &v.epsilon_k,
+            lr: &v.lr,
+            la: &v.la,
+            k_ij: &v.k_ij,
+            gamma_ij: &v.l_ij,
+        });
+        all.extend(vr::flat(&p));
+        all.push(r0(&p, 0, v.count - 1, s.temperature));
+        let d = vr::diameters(&p, s.temperature);
+        all.extend(&d);
+        for chain in [false, true] {
+            all.push(vr::dispersion(&p, &d, s.temperature, &s.fractions, &s.densities, chain));
+        }
+        all
+    }};
+}
+
+/// The unchanged text beside the renamed one, on states inside the limits.
+pub fn texts(count: u64, seed: u64, tally: &mut Tally) {
+    num_dual::use_functions(&num_dual::PLATFORM);
+    let mut g = Random(seed ^ 0x7e87);
+    for case in 0..count {
+        let l = states::lists(&mut g, true);
+        let v = loop {
+            let v = states::lists(&mut g, false);
+            if v.count == l.count {
+                break v;
+            }
+        };
+        let mut s = states::state(&mut g, l.count, &v.m, &l.sigma, true);
+        s.fractions.resize(l.count, 0.1);
+        s.densities.resize(l.count, 0.001);
+        let scales: Vec<f64> = (0..256).map(|_| g.within(0.98, 1.02)).collect();
+        let unchanged = all_values!(plain, &l, &v, &s, &scales);
+        let renamed = all_values!(renamed, &l, &v, &s, &scales);
+        let other = unchanged.iter().zip(&renamed).filter(|(a, b)| !same(**a, **b)).count();
+        tally.note("oracle: two texts", 0, other == 0 && unchanged.len() == renamed.len(), || {
+            format!("case {case}: {other} of {} values", unchanged.len())
+        });
+    }
+}
+
+fn close(tally: &mut Tally, what: &str, got: &[f64], wanted: &[f64]) {
+    let right = got.len() == wanted.len() && got.iter().zip(wanted).all(|(a, b)| (a - b).abs() <= 1e-11 * b.abs());
+    tally.note("oracle: known values", 0, right, || format!("{what}: {got:?}, expected {wanted:?}"));
+}
+
+/// Values of hydrogen-like and neon-like fluids and of ethane and methane, to eleven digits.
+pub fn known_values(tally: &mut Tally) {
+    use plain::saftvrmie::eos as vr;
+    use plain::saftvrqmie::eos::driver as vrq;
+    let quantum = |n: usize, x: &[f64], rho: &[f64]| {
+        let p = vrq::parameters(&vrq::Lists {
+            m: &[1.0, 1.0][..n],
+            sigma: &[3.0243, 2.7778][..n],
+            epsilon_k: &[26.706, 37.501][..n],
+            lr: &[9.0, 13.0][..n],
+            la: &[6.0, 6.0][..n],
+            mass: &[3.3474472e-27, 3.35092e-26][..n],
+            order: &[1, 1][..n],
+            k_ij: &[0.0; 4][..n * n],
+            l_ij: &[0.0; 4][..n * n],
+        })
+        .unwrap();
+        vrq::energies(&p, &vrq::table(&p, 30.0), 30.0, x, rho, true)
+    };
+    close(tally, "hydrogen", &quantum(1, &[1.0], &[0.01]), &[0.00787455788859, -0.0185045783891, 0.0]);
+    close(tally, "hydrogen and neon", &quantum(2, &[0.5, 0.5], &[0.01, 0.01]), &[0.0317091953986, -0.0707546404806, 0.000543401006029]);
+    let p = vr::parameters(&vr::Lists {
+        m: &[1.4373, 1.0],
+        sigma: &[3.7257, 3.7412],
+        epsilon_k: &[206.12, 153.36],
+        lr: &[12.4, 12.65],
+        la: &[6.0, 6.0],
+        k_ij: &[0.0; 4],
+        gamma_ij: &[0.0; 4],
+    });
+    let d = vr::diameters(&p, 200.0);
+    close(tally, "diameters of ethane and methane", &d, &[3.62927155125, 3.62348866077]);
+    let energies = [false, true].map(|chain| vr::dispersion(&p, &d, 200.0, &[0.4, 0.6], &[0.003, 0.004], chain));
+    close(tally, "ethane and methane", &energies, &[-0.0206772971504, -0.0207175328474]);
+}

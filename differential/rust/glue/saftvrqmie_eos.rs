@@ -1,0 +1,124 @@
+// The file of docs/src as it is; the driver is its child and so sees the private table.
+include!("feos_mod.rs");
+
+pub mod driver {
+    //! Ways in with flat lists: sheets of 64 places, entry (i, j) at 8i + j.
+    use super::dispersion::Dispersion;
+    use super::hard_sphere::HardSphere;
+    use super::non_additive_hs::NonAddHardSphere;
+    use super::*;
+    use crate::saftvrqmie::parameters::*;
+    use feos_core::StateHD;
+    use nalgebra::{DMatrix, DVector};
+
+    /// Component lists of `count` places, pair lists of their square.
+    pub struct Lists<'a> {
+        pub m: &'a [f64],
+        pub sigma: &'a [f64],
+        pub epsilon_k: &'a [f64],
+        pub lr: &'a [f64],
+        pub la: &'a [f64],
+        pub mass: &'a [f64],
+        pub order: &'a [u8],
+        pub k_ij: &'a [f64],
+        pub l_ij: &'a [f64],
+    }
+
+    /// The Rust's parameters, or the number of the refusal that its text stands for.
+    pub fn parameters(l: &Lists) -> Result<SaftVRQMiePars, u8> {
+        let n = l.m.len();
+        let records = (0..n)
+            .map(|i| SaftVRQMieRecord {
+                m: l.m[i],
+                sigma: l.sigma[i],
+                epsilon_k: l.epsilon_k[i],
+                lr: l.lr[i],
+                la: l.la[i],
+                fh: l.order[i] as usize,
+            })
+            .collect();
+        let pairs = (0..n * n).map(|e| SaftVRQMieBinaryRecord { k_ij: l.k_ij[e], l_ij: l.l_ij[e] }).collect();
+        let all = SaftVRQMieParameters::from_lists(records, l.mass.to_vec(), pairs);
+        SaftVRQMiePars::new(&all).map_err(|FeosError::IncompatibleParameters(text)| match &text[..7] {
+            "Segment" => 3,
+            "failed " => 4,
+            "cannot " => 5,
+            _ => panic!("{text}"),
+        })
+    }
+
+    /// The six sheets in the order of the Rust's fields, and the orders.
+    pub fn flat(p: &SaftVRQMiePars) -> ([f64; 384], [u8; 64]) {
+        let (mut sheets, mut orders, n) = ([0.0; 384], [0; 64], p.m.len());
+        let fields = [&p.sigma_ij, &p.epsilon_k_ij, &p.c_ij, &p.lambda_r_ij, &p.lambda_a_ij, &p.mass_ij];
+        for i in 0..n {
+            for j in 0..n {
+                for (s, field) in fields.iter().enumerate() {
+                    sheets[64 * s + 8 * i + j] = field[(i, j)];
+                }
+                orders[8 * i + j] = p.fh_ij[(i, j)] as u8;
+            }
+        }
+        (sheets, orders)
+    }
+
+    /// A set filled by hand. The Rust's sigma and epsilon_k of components are read for their length alone.
+    pub fn set(count: usize, m: &[f64], sheets: &[f64], orders: &[u8]) -> SaftVRQMiePars {
+        let sheet = |s: usize| DMatrix::from_fn(count, count, |i, j| sheets[64 * s + 8 * i + j]);
+        SaftVRQMiePars {
+            m: DVector::from(m[..count].to_vec()),
+            sigma: DVector::from(vec![f64::NAN; count]),
+            epsilon_k: DVector::from(vec![f64::NAN; count]),
+            sigma_ij: sheet(0),
+            epsilon_k_ij: sheet(1),
+            c_ij: sheet(2),
+            lambda_r_ij: sheet(3),
+            lambda_a_ij: sheet(4),
+            mass_ij: sheet(5),
+            fh_ij: DMatrix::from_fn(count, count, |i, j| FeynmanHibbsOrder::try_from(orders[8 * i + j] as usize).unwrap()),
+        }
+    }
+
+    /// sigma_eff, hs_diameter, epsilon_k_eff, quantum_d.
+    pub fn table(p: &SaftVRQMiePars, temperature: f64) -> [f64; 256] {
+        let t = TemperatureDependentProperties::new(p, temperature);
+        let (mut flat, n) = ([0.0; 256], p.m.len());
+        let fields = [&t.sigma_eff_ij, &t.hs_diameter_ij, &t.epsilon_k_eff_ij, &t.quantum_d_ij];
+        for (s, field) in fields.into_iter().enumerate() {
+            for i in 0..n {
+                for j in 0..n {
+                    flat[64 * s + 8 * i + j] = field[(i, j)];
+                }
+            }
+        }
+        flat
+    }
+
+    /// A table filled by hand, in the Rust's own form.
+    pub struct Table(TemperatureDependentProperties<f64>);
+
+    pub fn properties(n: usize, table: &[f64]) -> Table {
+        let sheet = |s: usize| DMatrix::from_fn(n, n, |i, j| table[64 * s + 8 * i + j]);
+        Table(TemperatureDependentProperties {
+            sigma_eff_ij: sheet(0),
+            hs_diameter_ij: sheet(1),
+            epsilon_k_eff_ij: sheet(2),
+            quantum_d_ij: sheet(3),
+        })
+    }
+
+    pub fn state(temperature: f64, x: &[f64], rho: &[f64]) -> StateHD<f64> {
+        StateHD { temperature, partial_density: DVector::from(rho.to_vec()), molefracs: DVector::from(x.to_vec()) }
+    }
+
+    /// Hard sphere, dispersion, non-additive (+0 where not wanted).
+    pub fn contributions(p: &SaftVRQMiePars, table: &Table, state: &StateHD<f64>, non_additive: bool) -> [f64; 3] {
+        let third = if non_additive { NonAddHardSphere.helmholtz_energy_density(p, state, &table.0) } else { 0.0 };
+        [HardSphere.helmholtz_energy_density(p, state, &table.0), Dispersion.helmholtz_energy_density(p, state, &table.0), third]
+    }
+
+    /// The same from flat lists.
+    pub fn energies(p: &SaftVRQMiePars, table: &[f64], temperature: f64, x: &[f64], rho: &[f64], non_additive: bool) -> [f64; 3] {
+        contributions(p, &properties(p.m.len(), table), &state(temperature, x, rho), non_additive)
+    }
+}
