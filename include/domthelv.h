@@ -59,6 +59,14 @@ uint8_t domthelv_vrq_energies(size_t count, const double *m, size_t m_len, const
     const double *densities, size_t densities_len, const double *table, size_t table_len, bool non_additive,
     double *out, size_t out_len);
 
+/* From component lists to energies, with a table of its own. out as above. 1: out; then the first refusal of the
+ * parameters (1 to 6), the table (2, 6, 7) and the energies (1, 2, 6, 7). */
+uint8_t domthelv_vrq_stage(size_t count, const double *m, size_t m_len, const double *sigma, size_t sigma_len,
+    const double *epsilon_k, size_t epsilon_k_len, const double *lr, size_t lr_len, const double *la, size_t la_len,
+    const double *mass, size_t mass_len, const uint8_t *order, size_t order_len, const double *k_ij, size_t k_ij_len,
+    const double *l_ij, size_t l_ij_len, double temperature, const double *fractions, size_t fractions_len,
+    const double *densities, size_t densities_len, bool non_additive, double *out, size_t out_len);
+
 /* SAFT-VR Mie. */
 
 /* Parameters. 1: a list of the set that is lent; 1: the count or a list's length; 2: a number outside its limit; 6. */

@@ -18,12 +18,13 @@ use Rattle.saftvrmie_parameters.specs.declared.SaftVRMiePars.{SaftVRMiePars}
 use Rattle.saftvrqmie.specs.Table.{Lent, temperatureTable}
 use Rattle.saftvrqmie.specs.Pairs.{SearchesIn, searches}
 use Rattle.saftvrqmie_energies.specs.Energies.{EnergiesIn, energies}
+use Rattle.stages.specs.Stages.{quantumStage}
 use Rattle.saftvrmie.specs.Diameters.{diameters}
 use Rattle.saftvrmie.specs.Pairs.{radiusIj}
 use Rattle.saftvrmie_energies.specs.Energies.{energy}
 use Rattle.domthelv.specs.Boundary.{status, stored}
 use Rattle.domthelv.specs.Sets.{quantumLengths, quantumSet, mieLengths, mieSet}
-use Rattle.domthelv.specs.Operations.{QuantumLent, MieLent, setWritten, vrqParameters, vrqTable, radiiLengths, radiiWritten, vrqRadii, energiesWritten, vrqEnergies, mieWritten, vrParameters, vrDiameters, vrRadius, vrDispersion}
+use Rattle.domthelv.specs.Operations.{QuantumLent, MieLent, setWritten, vrqParameters, vrqTable, radiiLengths, radiiWritten, vrqRadii, energiesWritten, vrqEnergies, vrqStage, mieWritten, vrParameters, vrDiameters, vrRadius, vrDispersion}
 
 -- an operation that gives a parameter answer and leaves its lists by `kept`
 verdict-status : {S : Type 0} (p : Ans S) → numberOf (verdict p) ≡ status p
@@ -124,6 +125,19 @@ module _ (n : ℕ) (m sheets : List Float) (orders : List ℕ) (t : Float) (x rh
       pub energies-held : (e : EnergiesIn Float) → energies s t x rho table wanted ≡ held e → vrqEnergies n m sheets orders t x rho table wanted l ≡ held (energiesWritten e l)
       unfolding vrqEnergies demand _>>=_
       energies-held e h = rw (p, q, h)
+
+module _ (x : Quantum.Lists) (t : Float) (fractions rho : List Float) (wanted : Bool) (l : List Float) where
+  pub stage-1 : eqb (length l) 3 ≡ false → vrqStage x t fractions rho wanted l ≡ refused 1
+  unfolding vrqStage demand _>>=_
+  stage-1 p = rw p
+
+  pub stage-refused : (k : ℕ) → eqb (length l) 3 ≡ true → quantumStage x t fractions rho wanted ≡ refused k → vrqStage x t fractions rho wanted l ≡ refused k
+  unfolding vrqStage demand _>>=_
+  stage-refused k p q = rw (p, q)
+
+  pub stage-held : (e : EnergiesIn Float) → eqb (length l) 3 ≡ true → quantumStage x t fractions rho wanted ≡ held e → vrqStage x t fractions rho wanted l ≡ held (energiesWritten e l)
+  unfolding vrqStage demand _>>=_
+  stage-held e p q = rw (p, q)
 
 module _ (x : Mie.Lists) (l : MieLent) where
   pub mie-parameters-1 : mieLengths (l .lists) (l .sheets) ≡ false → vrParameters x l ≡ refused 1

@@ -15,6 +15,7 @@ use Rattle.saftvrqmie_properties.specs.Properties.{radiusOf, lastOf}
 use Rattle.saftvrqmie.specs.Table.{Lent, temperatureTable}
 use Rattle.saftvrqmie.specs.Pairs.{SearchesIn, searches}
 use Rattle.saftvrqmie_energies.specs.Energies.{EnergiesIn, energies}
+use Rattle.stages.specs.Stages.{quantumStage}
 use Rattle.saftvrmie.specs.Diameters.{diameters}
 use Rattle.saftvrmie.specs.Pairs.{radiusIj}
 use Rattle.saftvrmie_energies.specs.Energies.{energy}
@@ -66,6 +67,12 @@ vrqEnergies n m sheets orders t x rho table wanted l =
     demand 1 (eqb (length l) 3) >>= λ _.
     quantumSet n m sheets orders >>= λ s.
     energies s t x rho table wanted >>= λ e.
+    held (energiesWritten e l)
+
+unfoldable pub vrqStage : Quantum.Lists → Float → List Float → List Float → Bool → List Float → Ans (List Float)
+vrqStage x t fractions rho wanted l =
+    demand 1 (eqb (length l) 3) >>= λ _.
+    quantumStage x t fractions rho wanted >>= λ e.
     held (energiesWritten e l)
 
 -- the lists that a set of SAFT-VR Mie is written into

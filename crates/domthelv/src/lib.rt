@@ -9,7 +9,7 @@ ghost use lib.ListN.{length};
 ghost use Rattle.number.specs.Side.{side, sheet};
 ghost use Rattle.domthelv.specs.Boundary.{status, stored};
 ghost use Rattle.domthelv.specs.Sets.{copied, taken, placed, ordersWithin, ordersRead, ordersWritten, quantumLengths, quantumSet, mieLengths, mieSet, listsWritten};
-ghost use Rattle.domthelv.specs.Operations.{setWritten, vrqParameters, vrqTable, radiiWritten, radiiLengths, vrqRadii, energiesWritten, vrqEnergies, mieWritten, vrParameters, vrDiameters, vrRadius, vrDispersion};
+ghost use Rattle.domthelv.specs.Operations.{setWritten, vrqParameters, vrqTable, radiiWritten, radiiLengths, vrqRadii, energiesWritten, vrqEnergies, vrqStage, mieWritten, vrParameters, vrDiameters, vrRadius, vrDispersion};
 ghost use Rattle.saftvrqmie_parameters.specs.Parameters as Quantum;
 ghost use Rattle.saftvrmie_parameters.specs.Parameters as Mie;
 ghost use Rattle.saftvrqmie_potential.specs.Potential.{orderNumber};
@@ -380,6 +380,55 @@ pub extern "C" fn domthelv_vrq_energies(
         fractions,
         densities,
         table,
+        non_additive,
+    );
+    match worked {
+        EnergiesAnswer::Refused(n) => n,
+        EnergiesAnswer::Energies(e) => {
+            write_energies(e, out);
+            0
+        }
+    }
+}
+
+// From component lists to energies, with a table of its own. 1 for `out`, then the parameters' refusals, the table's, the energies'.
+#[no_mangle]
+pub extern "C" fn domthelv_vrq_stage(
+    count: usize,
+    m: &[f64],
+    sigma: &[f64],
+    epsilon_k: &[f64],
+    lr: &[f64],
+    la: &[f64],
+    mass: &[f64],
+    order: &[u8],
+    k_ij: &[f64],
+    l_ij: &[f64],
+    temperature: f64,
+    fractions: &[f64],
+    densities: &[f64],
+    non_additive: bool,
+    out: &mut [f64],
+) -> u8
+    ensures { λ r. ⌜ (r ≡ status (vrqStage (record { count = count; m = now (m .entry); sigma = now (sigma .entry); epsilon-k = now («epsilon_k» .entry); lr = now (lr .entry); la = now (la .entry); mass = now (mass .entry); fh = now (order .entry); k-ij = now («k_ij» .entry); l-ij = now («l_ij» .entry) }) temperature (now (fractions .entry)) (now (densities .entry)) «non_additive» (now (out .entry)))) × (now (out .exit) ≡ stored (now (out .entry)) (vrqStage (record { count = count; m = now (m .entry); sigma = now (sigma .entry); epsilon-k = now («epsilon_k» .entry); lr = now (lr .entry); la = now (la .entry); mass = now (mass .entry); fh = now (order .entry); k-ij = now («k_ij» .entry); l-ij = now («l_ij» .entry) }) temperature (now (fractions .entry)) (now (densities .entry)) «non_additive» (now (out .entry)))) ⌝ }
+{
+    if out.len() != 3 {
+        return 1;
+    }
+    let worked = stages::quantum_stage(
+        count,
+        m,
+        sigma,
+        epsilon_k,
+        lr,
+        la,
+        mass,
+        order,
+        k_ij,
+        l_ij,
+        temperature,
+        fractions,
+        densities,
         non_additive,
     );
     match worked {

@@ -1,2 +1,4 @@
+pub mod Lists
+pub mod Relation
 pub mod Turns
 pub mod Ways

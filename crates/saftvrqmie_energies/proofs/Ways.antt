@@ -24,7 +24,7 @@ use Rattle.saftvrqmie_energies.specs.State.{SheetsIn, sheetsOf, points, 
 use Rattle.saftvrqmie_energies.specs.HardSphere.{ZetaIn, zeta, frac1mz3, zeta23, hardSphereOf, hardSphere}
 use Rattle.saftvrqmie_energies.specs.NonAdditive.{nonAdditiveSum, densityShares, nonAdditive}
 use Rattle.saftvrqmie_energies.specs.Dispersion.{MixtureIn, segmentFractions, perturbation, alphas, first, second, third, mixture, dispersion}
-use Rattle.saftvrqmie_energies.specs.Energies.{EnergiesIn, contributions, allFinite, rightLengths, withinLimits, energies}
+use Rattle.saftvrqmie_energies.specs.Energies.{EnergiesIn, contributions, allFinite, rightLengths, withinLimits, energiesBy, energies}
 
 abbrev F : Functions Float
 F = calls floats port
@@ -103,22 +103,22 @@ module _ (s : SaftVRQMiePars) (t : Float) (x rho table : List Float) (wanted : B
   sheets = sheetsOf floats (s .count) (s .sheets) (s .orders) t table
 
   pub refuses-1 : rightLengths (s .count) x rho table ≡ false → refused 1 ≡ outcome
-  unfolding energies demand _>>=_
+  unfolding energiesBy demand _>>=_
   refuses-1 p = rw p
 
   module _ (p : rightLengths (s .count) x rho table ≡ true) where
     pub refuses-2 : withinLimits (s .count) t x rho ≡ false → refused 2 ≡ outcome
-    unfolding energies demand _>>=_
+    unfolding energiesBy demand _>>=_
     refuses-2 q = rw (p, q)
 
     module _ (q : withinLimits (s .count) t x rho ≡ true) where
       pub no-hard-sphere : (k : ℕ) → hardSphere floats F (s .count) (points floats x) (points floats rho) (diagonal (sheetOf floats table 1)) (points floats (s .m)) ≡ refused k → refused k ≡ outcome
-      unfolding energies contributions demand _>>=_
+      unfolding energiesBy contributions demand _>>=_
       no-hard-sphere k h = rw (p, q, h)
 
       module _ (a : Float) (is-a : hardSphere floats F (s .count) (points floats x) (points floats rho) (diagonal (sheetOf floats table 1)) (points floats (s .m)) ≡ held a) where
         pub no-dispersion : (k : ℕ) → dispersion floats F sheets (points floats x) (points floats rho) (points floats (s .m)) t ≡ refused k → refused k ≡ outcome
-        unfolding energies contributions demand _>>=_
+        unfolding energiesBy contributions demand _>>=_
         no-dispersion k h = rw (p, q, is-a, h)
 
         module _ (b : Float) (is-b : dispersion floats F sheets (points floats x) (points floats rho) (points floats (s .m)) t ≡ held b)
@@ -127,9 +127,9 @@ module _ (s : SaftVRQMiePars) (t : Float) (x rho table : List Float) (wanted : B
           found = record { hard-sphere = a; dispersion = b; non-additive = c }
 
           pub refuses-7 : allFinite found ≡ false → refused 7 ≡ outcome
-          unfolding energies contributions demand _>>=_
+          unfolding energiesBy contributions demand _>>=_
           refuses-7 h = rw (p, q, is-a, is-b, ← is-c, h)
 
           pub holds : allFinite found ≡ true → held found ≡ outcome
-          unfolding energies contributions demand _>>=_
+          unfolding energiesBy contributions demand _>>=_
           holds h = rw (p, q, is-a, is-b, ← is-c, h)

@@ -8,7 +8,7 @@ use mathlib.Core.List.{List}
 use mathlib.Core.Bool.{Bool, _&&_, cond}
 use Rattle.number.specs.Ans.{Ans, held, refused, _>>=_, demand}
 use Rattle.number.specs.Arith.{Arith, floats, zero64}
-use Rattle.number.specs.Functions.{Functions, calls}
+use Rattle.number.specs.Functions.{Functions, Answers, calls}
 use Rattle.number.specs.Lists.{at}
 use Rattle.number.specs.Side.{sheet}
 use Rattle.elementary.specs.Port.{port}
@@ -58,11 +58,14 @@ rightLengths n x rho table = countWithin n && eqb (length x) n && eqb (length rh
 unfoldable pub withinLimits : ℕ → Float → List Float → List Float → Bool
 withinLimits n t x rho = temperatureWithin t && sharesWithin n (at x) && sharesWithin n (at rho)
 
--- '1; 2 for temperature, fractions or densities; 6; 7 if a contribution is not finite'
-unfoldable pub energies : SaftVRQMiePars → Float → List Float → List Float → List Float → Bool → Ans (EnergiesIn Float)
-energies s t x rho table wanted =
+-- '1; 2 for temperature, fractions or densities; 6; 7 if a contribution is not finite', whatever the elementary functions answer
+unfoldable pub energiesBy : Answers → SaftVRQMiePars → Float → List Float → List Float → List Float → Bool → Ans (EnergiesIn Float)
+energiesBy E s t x rho table wanted =
     demand 1 (rightLengths (s .count) x rho table) >>= λ _.
     demand 2 (withinLimits (s .count) t x rho) >>= λ _.
-    contributionsOf floats (calls floats port) s t x rho table wanted >>= λ e.
+    contributionsOf floats (calls floats E) s t x rho table wanted >>= λ e.
     demand 7 (allFinite e) >>= λ _.
     held e
+
+abbrev pub energies : SaftVRQMiePars → Float → List Float → List Float → List Float → Bool → Ans (EnergiesIn Float)
+energies = energiesBy port

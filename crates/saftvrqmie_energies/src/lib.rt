@@ -608,13 +608,13 @@ fn all_finite(e: QuantumEnergies) -> bool
         & number::is_finite(e.non_additive)
 }
 
-fn right_lengths(n: usize, x: &[f64], rho: &[f64], table: &[f64]) -> bool
+pub fn right_lengths(n: usize, x: &[f64], rho: &[f64], table: &[f64]) -> bool
     ensures { λ r. ⌜ r ≡ rightLengths n (now (x .entry)) (now (rho .entry)) (now (table .entry)) ⌝ }
 {
     limits::count_within(n) & (x.len() == n) & (rho.len() == n) & (table.len() == FIFTH)
 }
 
-fn within_limits(n: usize, t: f64, x: &[f64], rho: &[f64]) -> bool
+pub fn within_limits(n: usize, t: f64, x: &[f64], rho: &[f64]) -> bool
     requires { ⌜ (length (now x) ≡ n) × (length (now rho) ≡ n) ⌝ }
     ensures { λ r. ⌜ r ≡ withinLimits n t (now (x .entry)) (now (rho .entry)) ⌝ }
 {

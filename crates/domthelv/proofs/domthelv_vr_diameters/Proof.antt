@@ -1,5 +1,5 @@
 -- `domthelv::domthelv_vr_diameters` meets its contract. Assumes nothing.
-use Rattle.domthelv.proofs.Sets.{mie-held, mie-refused}
+use Rattle.stages.proofs.Given.{mie-held, mie-refused}
 use Rattle.domthelv.proofs.Operations.{diameters-refused, diameters-are, refused-status, refused-stored, through-status, through-stored}
 use mathlib.Core.Path.{ap, _∙_}
 use Rattle.mie_parameters.specs.Answer.{numberOf}

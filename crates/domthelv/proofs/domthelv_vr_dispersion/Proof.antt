@@ -1,5 +1,5 @@
 -- `domthelv::domthelv_vr_dispersion` meets its contract. Assumes nothing.
-use Rattle.domthelv.proofs.Sets.{mie-held, mie-refused}
+use Rattle.stages.proofs.Given.{mie-held, mie-refused}
 use Rattle.domthelv.proofs.Operations.{dispersion-refused, dispersion-is, refused-status, refused-stored, held-status, held-stored}
 use Rattle.saftvrmie_energies.specs.Energies.{energyAnswer}
 use Rattle.number.proofs.Walk.{via}

@@ -1,5 +1,5 @@
 -- `domthelv::domthelv_vr_radius` meets its contract. Assumes nothing.
-use Rattle.domthelv.proofs.Sets.{mie-held, mie-refused}
+use Rattle.stages.proofs.Given.{mie-held, mie-refused}
 use Rattle.domthelv.proofs.Operations.{radius-refused, radius-is, refused-status, refused-stored, held-status, held-stored}
 use Rattle.mie_parameters.specs.Answer.{numberAnswer}
 use Rattle.number.proofs.Walk.{via}

@@ -1,5 +1,5 @@
 -- `domthelv::domthelv_vrq_energies` meets its contract. Assumes nothing.
-use Rattle.domthelv.proofs.Sets.{quantum-held, quantum-refused}
+use Rattle.stages.proofs.Given.{quantum-held, quantum-refused}
 use Rattle.domthelv.proofs.Operations.{energies-1, energies-set, energies-refused, energies-held, refused-status, refused-stored, held-status, held-stored}
 use Rattle.saftvrqmie_energies.specs.Energies.{energiesAnswer}
 use borrow.Author.Tests.{eq-eqb, ne-eqb}

@@ -1,5 +1,5 @@
 -- `domthelv::domthelv_vrq_radii` meets its contract. Assumes nothing.
-use Rattle.domthelv.proofs.Sets.{quantum-held, quantum-refused}
+use Rattle.stages.proofs.Given.{quantum-held, quantum-refused}
 use Rattle.domthelv.proofs.Operations.{radii-lengths, radii-1, radii-set, radii-refused, radii-held, refused-status, refused-stored, held-status, held-stored}
 use Rattle.saftvrqmie.specs.Table.{Lent}
 use Rattle.saftvrqmie.specs.Pairs.{searchesAnswer}

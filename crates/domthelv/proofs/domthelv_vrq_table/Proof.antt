@@ -1,5 +1,5 @@
 -- `domthelv::domthelv_vrq_table` meets its contract. Assumes nothing.
-use Rattle.domthelv.proofs.Sets.{quantum-held, quantum-refused}
+use Rattle.stages.proofs.Given.{quantum-held, quantum-refused}
 use Rattle.domthelv.proofs.Operations.{table-refused, table-is, refused-status, refused-stored, through-status, through-stored}
 use Rattle.saftvrqmie.specs.Table.{Lent}
 use mathlib.Core.Path.{ap, _∙_}

@@ -1,0 +1,330 @@
+// Alpha of a pair and its functions (saftvrqmie/eos/dispersion.rs) in the two-ended run, with chi and the third order perturbation.
+ghost use mathlib.Core.Path.{_≡_};
+ghost use Rattle.number.specs.Functions.{calls};
+ghost use Rattle.elementary.specs.Port.{port};
+ghost use Rattle.enclosure.specs.Answer.{answer};
+ghost use Rattle.enclosure.specs.Enclosure.{enclosures};
+ghost use Rattle.saftvrqmie_potential.specs.Potential.{prefactor, quantumD};
+ghost use Rattle.saftvrqmie_dispersion.specs.Alpha.{ratio, dmtOf, alphaMie, alphaQ1, alphaQ2, alphaOf, alpha, fOf, f, chi, thirdOrderIj};
+ghost use Rattle.saftvrqmie_alpha_ends.specs.Pair.{pairIn};
+use enclosure::Enclosure;
+use enclosure::EnclosureAnswer;
+use saftvrqmie_dispersion::PHI;
+use saftvrqmie_parameters::FeynmanHibbsOrder;
+
+// The parameters of a pair, and the temperature.
+pub struct PairEnclosures {
+    pub sigma: Enclosure,
+    pub epsilon_k: Enclosure,
+    pub c: Enclosure,
+    pub lr: Enclosure,
+    pub la: Enclosure,
+    pub mass: Enclosure,
+    pub order: FeynmanHibbsOrder,
+    pub temperature: Enclosure,
+}
+
+// D_QM_PREFACTOR, worked.
+fn prefactor() -> Enclosure
+    ensures { λ r. ⌜ r ≡ prefactor enclosures (calls enclosures port) ⌝ }
+{
+    let planck = enclosure::point(6.62607015e-34);
+    let kb = enclosure::point(1.380649e-23);
+    let tau = enclosure::point(6.283185307179586);
+    let scale = enclosure::point(1e20);
+    let twelve = enclosure::point(12.0);
+    enclosure::div(
+        enclosure::mul(
+            enclosure::div(
+                enclosure::div(enclosure::mul(planck, planck), enclosure::mul(tau, tau)),
+                twelve,
+            ),
+            scale,
+        ),
+        kb,
+    )
+}
+
+// `quantum_d_mass`.
+pub fn quantum_d(mass: Enclosure, temperature: Enclosure) -> Enclosure
+    ensures { λ r. ⌜ r ≡ quantumD enclosures (calls enclosures port) mass temperature ⌝ }
+{
+    let one = enclosure::point(1.0);
+    enclosure::mul(
+        enclosure::div(enclosure::div(one, temperature), mass),
+        prefactor(),
+    )
+}
+
+fn dmt_of(p: PairEnclosures) -> Enclosure
+    ensures { λ r. ⌜ r ≡ dmtOf enclosures (calls enclosures port) (pairIn p) ⌝ }
+{
+    enclosure::div(
+        quantum_d(p.mass, p.temperature),
+        enclosure::pow_up(p.sigma, 2),
+    )
+}
+
+fn ratio(x: Enclosure, y: Enclosure) -> Enclosure
+    ensures { λ r. ⌜ r ≡ ratio enclosures x y ⌝ }
+{
+    let one = enclosure::point(1.0);
+    enclosure::div(enclosure::mul(one, x), y)
+}
+
+fn alpha_mie(la: Enclosure, lr: Enclosure, ra: Enclosure, rr: Enclosure) -> Enclosure
+    ensures { λ r. ⌜ r ≡ alphaMie enclosures la lr ra rr ⌝ }
+{
+    let three = enclosure::point(3.0);
+    enclosure::sub(
+        enclosure::div(ra, enclosure::sub(la, three)),
+        enclosure::div(rr, enclosure::sub(lr, three)),
+    )
+}
+
+fn alpha_q1(l: Enclosure, s: Enclosure, x: Enclosure) -> Enclosure
+    ensures { λ r. ⌜ r ≡ alphaQ1 enclosures l s x ⌝ }
+{
+    enclosure::mul(enclosure::mul(x, enclosure::pow_up(s, 2)), l)
+}
+
+fn alpha_q2(l: Enclosure, s: Enclosure, x: Enclosure) -> Enclosure
+    ensures { λ r. ⌜ r ≡ alphaQ2 enclosures l s x ⌝ }
+{
+    let two = enclosure::point(2.0);
+    let one = enclosure::point(1.0);
+    let half = enclosure::point(0.5);
+    enclosure::mul(
+        enclosure::mul(
+            enclosure::mul(
+                enclosure::mul(
+                    enclosure::mul(x, enclosure::pow_up(s, 4)),
+                    enclosure::add(l, two),
+                ),
+                l,
+            ),
+            enclosure::sub(l, one),
+        ),
+        half,
+    )
+}
+
+// Alpha before its last factor.
+fn alpha_of(
+    p: PairEnclosures,
+    dmt: Enclosure,
+    s: Enclosure,
+    ra: Enclosure,
+    rr: Enclosure,
+) -> Enclosure
+    ensures { λ r. ⌜ r ≡ alphaOf enclosures (pairIn p) dmt s ra rr ⌝ }
+{
+    let order = p.order;
+    let v = alpha_mie(p.la, p.lr, ra, rr);
+    if !saftvrqmie_potential::first_order(order) {
+        return v;
+    }
+    let v1 = enclosure::add(
+        v,
+        enclosure::mul(
+            dmt,
+            enclosure::sub(alpha_q1(p.la, s, ra), alpha_q1(p.lr, s, rr)),
+        ),
+    );
+    if !saftvrqmie_potential::second_order(order) {
+        return v1;
+    }
+    enclosure::add(
+        v1,
+        enclosure::mul(
+            enclosure::pow_up(dmt, 2),
+            enclosure::sub(alpha_q2(p.la, s, ra), alpha_q2(p.lr, s, rr)),
+        ),
+    )
+}
+
+// Alpha of a pair, at its effective diameter and depth.
+pub fn alpha_ij(
+    p: PairEnclosures,
+    sigma_eff: Enclosure,
+    epsilon_k_eff: Enclosure,
+) -> EnclosureAnswer
+    ensures { λ r. ⌜ answer r ≡ alpha enclosures (calls enclosures port) (pairIn p) «sigma_eff» «epsilon_k_eff» ⌝ }
+{
+    let s = ratio(p.sigma, sigma_eff);
+    let EnclosureAnswer::Value(ra) = saftvrqmie_dispersion_terms_ends::powf(s, p.la) else {
+        return EnclosureAnswer::Outside;
+    };
+    let EnclosureAnswer::Value(rr) = saftvrqmie_dispersion_terms_ends::powf(s, p.lr) else {
+        return EnclosureAnswer::Outside;
+    };
+    let dmt = dmt_of(p);
+    let v = enclosure::mul(
+        alpha_of(p, dmt, s, ra, rr),
+        enclosure::mul(ratio(p.epsilon_k, epsilon_k_eff), p.c),
+    );
+    EnclosureAnswer::Value(enclosure::after(dmt, v))
+}
+
+// A row of PHI.
+fn f_of(a: Enclosure, p0: f64, p1: f64, p2: f64, p3: f64, p4: f64, p5: f64, p6: f64) -> Enclosure
+    ensures { λ r. ⌜ r ≡ fOf enclosures a p0 p1 p2 p3 p4 p5 p6 ⌝ }
+{
+    let t0 = enclosure::point(p0);
+    let t1 = enclosure::point(p1);
+    let t2 = enclosure::point(p2);
+    let t3 = enclosure::point(p3);
+    let t4 = enclosure::point(p4);
+    let t5 = enclosure::point(p5);
+    let t6 = enclosure::point(p6);
+    let a2 = enclosure::pow_up(a, 2);
+    let a3 = enclosure::pow_up(a, 3);
+    let over = enclosure::add(
+        enclosure::add(
+            enclosure::add(enclosure::mul(a, t1), enclosure::mul(a2, t2)),
+            enclosure::mul(a3, t3),
+        ),
+        t0,
+    );
+    let one = enclosure::point(1.0);
+    let under = enclosure::add(
+        enclosure::add(
+            enclosure::add(enclosure::mul(a, t4), enclosure::mul(a2, t5)),
+            enclosure::mul(a3, t6),
+        ),
+        one,
+    );
+    enclosure::div(over, under)
+}
+
+pub fn f0(a: Enclosure) -> Enclosure
+    ensures { λ r. ⌜ r ≡ f enclosures 0 a ⌝ }
+{
+    f_of(
+        a,
+        PHI[0][0],
+        PHI[0][1],
+        PHI[0][2],
+        PHI[0][3],
+        PHI[0][4],
+        PHI[0][5],
+        PHI[0][6],
+    )
+}
+
+pub fn f1(a: Enclosure) -> Enclosure
+    ensures { λ r. ⌜ r ≡ f enclosures 1 a ⌝ }
+{
+    f_of(
+        a,
+        PHI[1][0],
+        PHI[1][1],
+        PHI[1][2],
+        PHI[1][3],
+        PHI[1][4],
+        PHI[1][5],
+        PHI[1][6],
+    )
+}
+
+pub fn f2(a: Enclosure) -> Enclosure
+    ensures { λ r. ⌜ r ≡ f enclosures 2 a ⌝ }
+{
+    f_of(
+        a,
+        PHI[2][0],
+        PHI[2][1],
+        PHI[2][2],
+        PHI[2][3],
+        PHI[2][4],
+        PHI[2][5],
+        PHI[2][6],
+    )
+}
+
+pub fn f3(a: Enclosure) -> Enclosure
+    ensures { λ r. ⌜ r ≡ f enclosures 3 a ⌝ }
+{
+    f_of(
+        a,
+        PHI[3][0],
+        PHI[3][1],
+        PHI[3][2],
+        PHI[3][3],
+        PHI[3][4],
+        PHI[3][5],
+        PHI[3][6],
+    )
+}
+
+pub fn f4(a: Enclosure) -> Enclosure
+    ensures { λ r. ⌜ r ≡ f enclosures 4 a ⌝ }
+{
+    f_of(
+        a,
+        PHI[4][0],
+        PHI[4][1],
+        PHI[4][2],
+        PHI[4][3],
+        PHI[4][4],
+        PHI[4][5],
+        PHI[4][6],
+    )
+}
+
+pub fn f5(a: Enclosure) -> Enclosure
+    ensures { λ r. ⌜ r ≡ f enclosures 5 a ⌝ }
+{
+    f_of(
+        a,
+        PHI[5][0],
+        PHI[5][1],
+        PHI[5][2],
+        PHI[5][3],
+        PHI[5][4],
+        PHI[5][5],
+        PHI[5][6],
+    )
+}
+
+pub fn chi(a: Enclosure, zeta_bar: Enclosure) -> Enclosure
+    ensures { λ r. ⌜ r ≡ chi enclosures a «zeta_bar» ⌝ }
+{
+    enclosure::add(
+        enclosure::add(
+            enclosure::mul(f0(a), zeta_bar),
+            enclosure::mul(f1(a), enclosure::pow_up(zeta_bar, 5)),
+        ),
+        enclosure::mul(f2(a), enclosure::pow_up(zeta_bar, 8)),
+    )
+}
+
+// An elementary call: the float run's answer as a point.
+fn exp(x: Enclosure) -> EnclosureAnswer
+    ensures { λ r. ⌜ answer r ≡ calls enclosures port .exp x ⌝ }
+{
+    enclosure::answered(elementary::exp(x.value), x)
+}
+
+pub fn third_order_perturbation_ij(
+    epsilon_k_eff: Enclosure,
+    a: Enclosure,
+    zeta_bar: Enclosure,
+) -> EnclosureAnswer
+    ensures { λ r. ⌜ answer r ≡ thirdOrderIj enclosures (calls enclosures port) «epsilon_k_eff» a «zeta_bar» ⌝ }
+{
+    let x = enclosure::add(
+        enclosure::mul(f4(a), zeta_bar),
+        enclosure::mul(f5(a), enclosure::pow_up(zeta_bar, 2)),
+    );
+    let EnclosureAnswer::Value(e) = exp(x) else {
+        return EnclosureAnswer::Outside;
+    };
+    EnclosureAnswer::Value(enclosure::mul(
+        enclosure::mul(
+            enclosure::mul(enclosure::neg(enclosure::pow_up(epsilon_k_eff, 3)), f3(a)),
+            zeta_bar,
+        ),
+        e,
+    ))
+}

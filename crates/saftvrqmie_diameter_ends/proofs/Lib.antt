@@ -1,0 +1,2 @@
+pub mod Encloses
+pub mod Nodes

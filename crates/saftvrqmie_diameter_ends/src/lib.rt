@@ -1,0 +1,152 @@
+// The diameter of a pair from its two searched radii (saftvrqmie/eos/hard_sphere.rs, `hs_diameter_ij`) in the two-ended run, and as a two-ended operation.
+ghost use mathlib.Core.Path.{_≡_};
+ghost use Prim.Native.Nat.{_<_};
+ghost use Rattle.number.specs.Functions.{calls};
+ghost use Rattle.number.specs.Side.{sheet};
+ghost use Rattle.elementary.specs.Port.{port};
+ghost use Rattle.enclosure.specs.Answer.{answer, ends};
+ghost use Rattle.enclosure.specs.Enclosure.{enclosures};
+ghost use Rattle.saftvrqmie_alpha_ends.specs.Pair.{pairIn};
+ghost use Rattle.saftvrqmie_potential.specs.Potential.{potential};
+ghost use Rattle.saftvrqmie_potential_ends.specs.Shared.{Sharing};
+ghost use Rattle.saftvrqmie_searches.specs.Diameter.{abscissas, weights, entry, nodeTurn, diameterBy, diameter};
+ghost use Rattle.saftvrqmie.specs.Table.{pairAt};
+ghost use Rattle.saftvrqmie_diameter_ends.specs.Operations.{pointsOf, diameterEnds};
+use enclosure::Enclosure;
+use enclosure::EnclosureAnswer;
+use enclosure::EndsAnswer;
+use number::SHEET;
+use number::SIDE;
+use saftvrqmie_alpha_ends::PairEnclosures;
+use saftvrqmie_parameters::OrderRecord;
+use saftvrqmie_parameters::SaftVRQMiePars;
+use saftvrqmie_potential_ends::PairShared;
+use saftvrqmie_potential_ends::PairSharedAnswer;
+use saftvrqmie_potential_ends::PotentialEnclosuresAnswer;
+use saftvrqmie_searches::W_K21;
+use saftvrqmie_searches::X_K21;
+
+// Entries of the rule, as points; k is the turn of a loop over its 21 nodes, and beyond them there is no entry.
+fn abscissa(k: usize) -> Enclosure
+    requires { ⌜ k < 21 ⌝ }
+    ensures { λ r. ⌜ r ≡ entry (calls enclosures port) abscissas k ⌝ }
+{
+    enclosure::point(X_K21[k])
+}
+
+fn weight(k: usize) -> Enclosure
+    requires { ⌜ k < 21 ⌝ }
+    ensures { λ r. ⌜ r ≡ entry (calls enclosures port) weights k ⌝ }
+{
+    enclosure::point(W_K21[k])
+}
+
+// An elementary call: the float run's answer as a point.
+fn exp(x: Enclosure) -> EnclosureAnswer
+    ensures { λ r. ⌜ answer r ≡ calls enclosures port .exp x ⌝ }
+{
+    enclosure::answered(elementary::exp(x.value), x)
+}
+
+// One node's part, added. Both derivatives are worked on the way.
+fn node(
+    w: PairShared,
+    temperature: Enclosure,
+    sigma_eff: Enclosure,
+    r0: Enclosure,
+    k: usize,
+    d_hs: Enclosure,
+) -> EnclosureAnswer
+    requires { ⌜ k < 21 ⌝ }
+    ensures { λ r. ⌜ (Sharing w → answer r ≡ nodeTurn enclosures (calls enclosures port) (potential enclosures (calls enclosures port) (pairIn (w .pair))) temperature «sigma_eff» r0 k «d_hs») ⌝ }
+{
+    let half = enclosure::point(0.5);
+    let width = enclosure::mul(enclosure::sub(sigma_eff, r0), half);
+    let r = enclosure::add(
+        enclosure::add(enclosure::mul(width, abscissa(k)), width),
+        r0,
+    );
+    let PotentialEnclosuresAnswer::Value(v) = saftvrqmie_potential_ends::potential_at(w, r) else {
+        return EnclosureAnswer::Outside;
+    };
+    let EnclosureAnswer::Value(e) = exp(enclosure::div(enclosure::neg(v.u), temperature)) else {
+        return EnclosureAnswer::Outside;
+    };
+    let one = enclosure::point(1.0);
+    let f_u = enclosure::add(enclosure::neg(e), one);
+    let part = enclosure::mul(enclosure::mul(width, f_u), weight(k));
+    let next = enclosure::add(d_hs, part);
+    EnclosureAnswer::Value(enclosure::after(v.u_r, enclosure::after(v.u_rr, next)))
+}
+
+fn diameter_by(
+    w: PairShared,
+    temperature: Enclosure,
+    sigma_eff: Enclosure,
+    r0: Enclosure,
+) -> EnclosureAnswer
+    ensures { λ r. ⌜ (Sharing w → answer r ≡ diameterBy enclosures (calls enclosures port) (potential enclosures (calls enclosures port) (pairIn (w .pair))) temperature «sigma_eff» r0) ⌝ }
+{
+    let mut d_hs = r0;
+    for k in 0usize..21usize {
+        let EnclosureAnswer::Value(next) = node(w, temperature, sigma_eff, r0, k, d_hs) else {
+            return EnclosureAnswer::Outside;
+        };
+        d_hs = next;
+    }
+    EnclosureAnswer::Value(d_hs)
+}
+
+// From the searched radii.
+pub fn hs_diameter(p: PairEnclosures, sigma_eff: Enclosure, r0: Enclosure) -> EnclosureAnswer
+    ensures { λ r. ⌜ answer r ≡ diameter enclosures (calls enclosures port) (pairIn p) «sigma_eff» r0 ⌝ }
+{
+    let PairSharedAnswer::At(w) = saftvrqmie_potential_ends::share(p) else {
+        return EnclosureAnswer::Outside;
+    };
+    diameter_by(w, p.temperature, sigma_eff, r0)
+}
+
+// A set's pair: each number is read as it is.
+fn pair_at(s: &[f64; 384], orders: [OrderRecord; 64], t: f64, e: usize) -> PairEnclosures
+    requires { ⌜ e < sheet ⌝ }
+    ensures { λ r. ⌜ pairIn r ≡ pointsOf enclosures (pairAt (now (s .entry)) orders t e) ⌝ }
+{
+    let record = orders[e];
+    let order = record.order;
+    PairEnclosures {
+        sigma: enclosure::point(s[e]),
+        epsilon_k: enclosure::point(s[SHEET + e]),
+        c: enclosure::point(s[2 * SHEET + e]),
+        lr: enclosure::point(s[3 * SHEET + e]),
+        la: enclosure::point(s[4 * SHEET + e]),
+        mass: enclosure::point(s[5 * SHEET + e]),
+        order,
+        temperature: enclosure::point(t),
+    }
+}
+
+// `hs_diameter_ij` with two ends. 1, 2, 6, 7, 8.
+pub fn hs_diameter_ij_ends(
+    set: SaftVRQMiePars,
+    i: usize,
+    j: usize,
+    temperature: f64,
+    sigma_eff: f64,
+    r0: f64,
+) -> EndsAnswer
+    ensures { λ r. ⌜ ends r ≡ diameterEnds port set i j temperature «sigma_eff» r0 ⌝ }
+{
+    if !limits::index_within(set.count, i, j) {
+        return EndsAnswer::Refused(1);
+    }
+    if !limits::temperature_within(temperature) {
+        return EndsAnswer::Refused(2);
+    }
+    let sheets = set.sheets;
+    let orders = set.orders;
+    let pair = pair_at(&sheets, orders, temperature, SIDE * i + j);
+    let s = enclosure::point(sigma_eff);
+    let r = enclosure::point(r0);
+    enclosure::ends_of(hs_diameter(pair, s, r))
+}

@@ -1,0 +1,233 @@
+// The Sutherland and B terms of a pair (saftvrqmie/eos/dispersion.rs, `eta_eff` to `combine_sutherland_and_b`) in the two-ended run.
+ghost use mathlib.Core.Path.{_≡_};
+ghost use Rattle.number.specs.Functions.{calls};
+ghost use Rattle.elementary.specs.Port.{port};
+ghost use Rattle.enclosure.specs.Answer.{answer};
+ghost use Rattle.enclosure.specs.Enclosure.{enclosures};
+ghost use Rattle.saftvrqmie_dispersion_terms.specs.Terms.{lamSum, etaEff, sutherlandOf, ilambdaOf, jlambdaOf, factorI, factorJ, bOf, combineSutherlandAndB};
+ghost use Rattle.saftvrqmie_dispersion_terms_ends.specs.Shared.{combineAt};
+use enclosure::Enclosure;
+use enclosure::EnclosureAnswer;
+use saftvrqmie_dispersion_terms::LAM_COEFF;
+
+// What all exponents of a pair share.
+pub struct PairTerms {
+    pub epsilon_k: Enclosure,
+    pub zeta: Enclosure,
+    pub factor_i: Enclosure,
+    pub factor_j: Enclosure,
+    pub x0: Enclosure,
+    pub x0_eff: Enclosure,
+}
+
+fn lam_sum_0(l0: Enclosure, l1: Enclosure, l2: Enclosure, l3: Enclosure) -> Enclosure
+    ensures { λ r. ⌜ r ≡ lamSum enclosures 0 l0 l1 l2 l3 ⌝ }
+{
+    let a0 = enclosure::mul(l0, enclosure::point(LAM_COEFF[0][0]));
+    let a1 = enclosure::mul(l1, enclosure::point(LAM_COEFF[0][1]));
+    let a2 = enclosure::mul(l2, enclosure::point(LAM_COEFF[0][2]));
+    let a3 = enclosure::mul(l3, enclosure::point(LAM_COEFF[0][3]));
+    enclosure::add(enclosure::add(enclosure::add(a0, a1), a2), a3)
+}
+
+fn lam_sum_1(l0: Enclosure, l1: Enclosure, l2: Enclosure, l3: Enclosure) -> Enclosure
+    ensures { λ r. ⌜ r ≡ lamSum enclosures 1 l0 l1 l2 l3 ⌝ }
+{
+    let a0 = enclosure::mul(l0, enclosure::point(LAM_COEFF[1][0]));
+    let a1 = enclosure::mul(l1, enclosure::point(LAM_COEFF[1][1]));
+    let a2 = enclosure::mul(l2, enclosure::point(LAM_COEFF[1][2]));
+    let a3 = enclosure::mul(l3, enclosure::point(LAM_COEFF[1][3]));
+    enclosure::add(enclosure::add(enclosure::add(a0, a1), a2), a3)
+}
+
+fn lam_sum_2(l0: Enclosure, l1: Enclosure, l2: Enclosure, l3: Enclosure) -> Enclosure
+    ensures { λ r. ⌜ r ≡ lamSum enclosures 2 l0 l1 l2 l3 ⌝ }
+{
+    let a0 = enclosure::mul(l0, enclosure::point(LAM_COEFF[2][0]));
+    let a1 = enclosure::mul(l1, enclosure::point(LAM_COEFF[2][1]));
+    let a2 = enclosure::mul(l2, enclosure::point(LAM_COEFF[2][2]));
+    let a3 = enclosure::mul(l3, enclosure::point(LAM_COEFF[2][3]));
+    enclosure::add(enclosure::add(enclosure::add(a0, a1), a2), a3)
+}
+
+fn lam_sum_3(l0: Enclosure, l1: Enclosure, l2: Enclosure, l3: Enclosure) -> Enclosure
+    ensures { λ r. ⌜ r ≡ lamSum enclosures 3 l0 l1 l2 l3 ⌝ }
+{
+    let a0 = enclosure::mul(l0, enclosure::point(LAM_COEFF[3][0]));
+    let a1 = enclosure::mul(l1, enclosure::point(LAM_COEFF[3][1]));
+    let a2 = enclosure::mul(l2, enclosure::point(LAM_COEFF[3][2]));
+    let a3 = enclosure::mul(l3, enclosure::point(LAM_COEFF[3][3]));
+    enclosure::add(enclosure::add(enclosure::add(a0, a1), a2), a3)
+}
+
+pub fn eta_eff(lambda: Enclosure, zeta: Enclosure) -> Enclosure
+    ensures { λ r. ⌜ r ≡ etaEff enclosures lambda zeta ⌝ }
+{
+    let one = enclosure::point(1.0);
+    let l1 = enclosure::div(one, lambda);
+    let l2 = enclosure::div(one, enclosure::pow_up(lambda, 2));
+    let l3 = enclosure::div(one, enclosure::pow_up(lambda, 3));
+    let c0 = lam_sum_0(one, l1, l2, l3);
+    let c1 = lam_sum_1(one, l1, l2, l3);
+    let c2 = lam_sum_2(one, l1, l2, l3);
+    let c3 = lam_sum_3(one, l1, l2, l3);
+    let s3 = enclosure::add(enclosure::mul(zeta, c3), c2);
+    let s2 = enclosure::add(enclosure::mul(zeta, s3), c1);
+    let s1 = enclosure::add(enclosure::mul(zeta, s2), c0);
+    enclosure::mul(zeta, s1)
+}
+
+fn sutherland_of(lambda: Enclosure, epsilon_k: Enclosure, ef: Enclosure, p: Enclosure) -> Enclosure
+    ensures { λ r. ⌜ r ≡ sutherlandOf enclosures lambda «epsilon_k» ef p ⌝ }
+{
+    let half = enclosure::point(0.5);
+    let one = enclosure::point(1.0);
+    let a = enclosure::add(enclosure::mul(enclosure::neg(ef), half), one);
+    let minus_twelve = enclosure::point(-12.0);
+    let three = enclosure::point(3.0);
+    let c = enclosure::div(
+        enclosure::mul(
+            enclosure::mul(enclosure::mul(a, minus_twelve), p),
+            epsilon_k,
+        ),
+        enclosure::sub(lambda, three),
+    );
+    let d = enclosure::pow_up(enclosure::add(enclosure::neg(ef), one), 3);
+    enclosure::div(c, d)
+}
+
+fn ilambda_of(lambda: Enclosure, p3: Enclosure) -> Enclosure
+    ensures { λ r. ⌜ r ≡ ilambdaOf enclosures lambda p3 ⌝ }
+{
+    let one = enclosure::point(1.0);
+    let three = enclosure::point(3.0);
+    enclosure::div(
+        enclosure::neg(enclosure::sub(p3, one)),
+        enclosure::sub(lambda, three),
+    )
+}
+
+fn jlambda_of(lambda: Enclosure, p4: Enclosure, p3: Enclosure) -> Enclosure
+    ensures { λ r. ⌜ r ≡ jlambdaOf enclosures lambda p4 p3 ⌝ }
+{
+    let three = enclosure::point(3.0);
+    let l3 = enclosure::sub(lambda, three);
+    let four = enclosure::point(4.0);
+    let l4 = enclosure::sub(lambda, four);
+    let one = enclosure::point(1.0);
+    enclosure::div(
+        enclosure::neg(enclosure::sub(
+            enclosure::sub(enclosure::mul(p4, l3), enclosure::mul(p3, l4)),
+            one,
+        )),
+        enclosure::mul(l3, l4),
+    )
+}
+
+fn factor_i(zeta: Enclosure) -> Enclosure
+    ensures { λ r. ⌜ r ≡ factorI enclosures zeta ⌝ }
+{
+    let m = enclosure::neg(zeta);
+    let two = enclosure::point(2.0);
+    let one = enclosure::point(1.0);
+    enclosure::div(
+        enclosure::add(m, two),
+        enclosure::pow_up(enclosure::add(m, one), 3),
+    )
+}
+
+fn factor_j(zeta: Enclosure) -> Enclosure
+    ensures { λ r. ⌜ r ≡ factorJ enclosures zeta ⌝ }
+{
+    let m = enclosure::neg(zeta);
+    let nine = enclosure::point(9.0);
+    let one = enclosure::point(1.0);
+    enclosure::div(
+        enclosure::mul(enclosure::mul(m, nine), enclosure::add(zeta, one)),
+        enclosure::pow_up(enclosure::add(m, one), 3),
+    )
+}
+
+fn b_of(
+    epsilon_k: Enclosure,
+    fi: Enclosure,
+    fj: Enclosure,
+    i: Enclosure,
+    j: Enclosure,
+    p: Enclosure,
+) -> Enclosure
+    ensures { λ r. ⌜ r ≡ bOf enclosures «epsilon_k» fi fj i j p ⌝ }
+{
+    let six = enclosure::point(6.0);
+    enclosure::mul(
+        enclosure::mul(
+            enclosure::mul(
+                p,
+                enclosure::add(enclosure::mul(fi, i), enclosure::mul(fj, j)),
+            ),
+            six,
+        ),
+        epsilon_k,
+    )
+}
+
+// An elementary call: the float run's answer as a point.
+pub fn powf(x: Enclosure, y: Enclosure) -> EnclosureAnswer
+    ensures { λ r. ⌜ answer r ≡ calls enclosures port .powf x y ⌝ }
+{
+    enclosure::answered_two(elementary::powf(x.value, y.value), x, y)
+}
+
+pub fn combine_at(w: PairTerms, lambda: Enclosure) -> EnclosureAnswer
+    ensures { λ r. ⌜ answer r ≡ combineAt w lambda ⌝ }
+{
+    let three = enclosure::point(3.0);
+    let e3 = enclosure::sub(three, lambda);
+    let four = enclosure::point(4.0);
+    let e4 = enclosure::sub(four, lambda);
+    let EnclosureAnswer::Value(p) = powf(w.x0, lambda) else {
+        return EnclosureAnswer::Outside;
+    };
+    let EnclosureAnswer::Value(p3) = powf(w.x0_eff, e3) else {
+        return EnclosureAnswer::Outside;
+    };
+    let EnclosureAnswer::Value(p4) = powf(w.x0_eff, e4) else {
+        return EnclosureAnswer::Outside;
+    };
+    let int_as = sutherland_of(lambda, w.epsilon_k, eta_eff(lambda, w.zeta), p);
+    let i = ilambda_of(lambda, p3);
+    let j = jlambda_of(lambda, p4, p3);
+    let int_b = b_of(w.epsilon_k, w.factor_i, w.factor_j, i, j, p);
+    EnclosureAnswer::Value(enclosure::add(int_as, int_b))
+}
+
+// As a function of the exponent.
+pub fn terms_of(
+    epsilon_k: Enclosure,
+    zeta: Enclosure,
+    x0: Enclosure,
+    x0_eff: Enclosure,
+) -> PairTerms
+    ensures { λ r. ⌜ combineAt r ≡ combineSutherlandAndB enclosures (calls enclosures port) «epsilon_k» zeta x0 «x0_eff» ⌝ }
+{
+    PairTerms {
+        epsilon_k: epsilon_k,
+        zeta: zeta,
+        factor_i: factor_i(zeta),
+        factor_j: factor_j(zeta),
+        x0: x0,
+        x0_eff: x0_eff,
+    }
+}
+
+pub fn combine_sutherland_and_b(
+    lambda: Enclosure,
+    epsilon_k: Enclosure,
+    zeta: Enclosure,
+    x0: Enclosure,
+    x0_eff: Enclosure,
+) -> EnclosureAnswer
+    ensures { λ r. ⌜ answer r ≡ combineSutherlandAndB enclosures (calls enclosures port) «epsilon_k» zeta x0 «x0_eff» lambda ⌝ }
+{
+    combine_at(terms_of(epsilon_k, zeta, x0, x0_eff), lambda)
+}

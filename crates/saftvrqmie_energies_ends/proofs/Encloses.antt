@@ -1,0 +1,70 @@
+-- Demand 3 on the quantum energies: whatever is handed in and whatever the elementary functions answer, the ends that are reported enclose the float run and the exact run of each contribution. Assumes nothing.
+use mathlib.Core.Path.{_≡_, subst}
+use mathlib.Core.Bool.{Bool, true, false, _&&_}
+use mathlib.Core.List.{List}
+use lib.Dec.{T}
+use lib.Ieee.{Float}
+use lib.Ieee.Fits.{and-l, and-r}
+use Rattle.number.specs.Ans.{Ans, held, _>>=_, demand}
+use Rattle.number.specs.Arith.{floats}
+use Rattle.number.specs.Functions.{Answers, calls}
+use Rattle.number.proofs.Rel.{Both, both-held, then-both, calls-rel}
+use Rattle.number.proofs.Walk.{then-held, held-inj}
+use Rattle.enclosure.specs.declared.Enclosure.{Enclosure}
+use Rattle.enclosure.specs.declared.Ends.{Ends}
+use Rattle.enclosure.specs.Enclosure.{enclosures}
+use Rattle.enclosure.specs.Exact.{Exact, exacts}
+use Rattle.enclosure.specs.Ends.{Encloses}
+use Rattle.enclosure.proofs.Relations.{Value, Contains, contains}
+use Rattle.enclosure.proofs.TwoEnds.{held-encloses}
+use Rattle.saftvrqmie_parameters.specs.declared.SaftVRQMiePars.{SaftVRQMiePars}
+use Rattle.saftvrqmie_energies.specs.Energies.{EnergiesIn, contributionsOf, energiesBy}
+use Rattle.saftvrqmie_energies.proofs.Relation.{EnergiesR, contributionsOf-rel}
+use Rattle.saftvrqmie_energies_ends.specs.Operation.{eachEnds, allSound, energiesEnds}
+use Rattle.saftvrqmie_energies_ends.proofs.Ways.{worked-values}
+
+-- one contribution of a run
+abbrev pub partOf : {N : Type 0} → (EnergiesIn N → N) → Ans (EnergiesIn N) → Ans N
+partOf f a = a >>= λ v. held (f v)
+
+is-part : {N : Type 0} (f : EnergiesIn N → N) (a : Ans (EnergiesIn N)) (b : EnergiesIn N) → a ≡ held b → partOf f a ≡ held (f b)
+unfolding _>>=_
+is-part f a b e = rw e
+
+told-true : (b x : Bool) → demand 8 b ≡ held x → T b
+unfolding demand
+told-true true x h = tt
+told-true false x h = let z : _≡_ {A = Bool} true false = cc in subst T z tt
+
+-- each contribution's ends enclose both runs of it
+pub record EachEncloses (e : EnergiesIn Ends) (float : Ans (EnergiesIn Float)) (exact : Ans (EnergiesIn Exact)) : Type 0 where
+  pub hard-sphere : Encloses (e .hard-sphere) (partOf (λ v. v .hard-sphere) float) (partOf (λ v. v .hard-sphere) exact)
+  pub dispersion : Encloses (e .dispersion) (partOf (λ v. v .dispersion) float) (partOf (λ v. v .dispersion) exact)
+  pub non-additive : Encloses (e .non-additive) (partOf (λ v. v .non-additive) float) (partOf (λ v. v .non-additive) exact)
+
+module _ {enclosure : Ans (EnergiesIn Enclosure)} {float : Ans (EnergiesIn Float)} {exact : Ans (EnergiesIn Exact)} (K : Both (EnergiesR Value) enclosure float) (C : Both (EnergiesR Contains) enclosure exact) (b : EnergiesIn Enclosure) (h : enclosure ≡ held b) where
+  sound-each : T (allSound b) → EachEncloses (eachEnds b) float exact
+  unfolding allSound
+  sound-each t =
+      let x = b .hard-sphere .ends .sound in
+      let y = b .dispersion .ends .sound in
+      let z = b .non-additive .ends .sound in
+      let xy = and-l (x && y) z t in
+      record {
+        hard-sphere = held-encloses (then-both K (λ _ _ r. both-held (r .hard-sphere))) (then-both C (λ _ _ r. both-held (r .hard-sphere))) (b .hard-sphere) (is-part (λ v. v .hard-sphere) enclosure b h) (and-l x y xy);
+        dispersion = held-encloses (then-both K (λ _ _ r. both-held (r .dispersion))) (then-both C (λ _ _ r. both-held (r .dispersion))) (b .dispersion) (is-part (λ v. v .dispersion) enclosure b h) (and-r x y xy);
+        non-additive = held-encloses (then-both K (λ _ _ r. both-held (r .non-additive))) (then-both C (λ _ _ r. both-held (r .non-additive))) (b .non-additive) (is-part (λ v. v .non-additive) enclosure b h) (and-r (x && y) z t);
+      }
+
+module _ (E : Answers) (s : SaftVRQMiePars) (t : Float) (x rho table : List Float) (wanted : Bool) where
+  pub energies-enclose : (e : EnergiesIn Ends) → energiesEnds E s t x rho table wanted ≡ held e
+      → EachEncloses e (contributionsOf floats (calls floats E) s t x rho table wanted) (contributionsOf exacts (calls exacts E) s t x rho table wanted)
+  unfolding energiesEnds
+  energies-enclose e h =
+      let a = then-held (energiesBy E s t x rho table wanted) _ e h in
+      let b = then-held (contributionsOf enclosures (calls enclosures E) s t x rho table wanted) _ e (a .2) in
+      let d = then-held (demand 8 (allSound (b .0))) _ e (b .2) in
+      subst (λ (z : EnergiesIn Ends). EachEncloses z (contributionsOf floats (calls floats E) s t x rho table wanted) (contributionsOf exacts (calls exacts E) s t x rho table wanted)) (held-inj _ _ (d .2))
+      (sound-each (worked-values E s t x rho table wanted)
+      (contributionsOf-rel enclosures exacts contains (calls enclosures E) (calls exacts E) (calls-rel enclosures exacts contains E) s t x rho table wanted)
+      (b .0) (b .1) (told-true (allSound (b .0)) (d .0) (d .1)))

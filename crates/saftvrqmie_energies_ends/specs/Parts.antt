@@ -1,0 +1,16 @@
+-- The code's records in the two-ended run, as the formulas take them.
+use Rattle.enclosure.specs.declared.Enclosure.{Enclosure}
+use Rattle.saftvrqmie_energies.specs.HardSphere.{ZetaIn, Zeta23In}
+use Rattle.saftvrqmie_energies.specs.Dispersion.{MixtureIn}
+use Rattle.saftvrqmie_energies_ends.specs.declared.ZetaEnclosures.{ZetaEnclosures}
+use Rattle.saftvrqmie_energies_ends.specs.declared.Zeta23Enclosures.{Zeta23Enclosures}
+use Rattle.saftvrqmie_energies_ends.specs.declared.MixtureEnclosures.{MixtureEnclosures}
+
+abbrev pub zetaIn : ZetaEnclosures → ZetaIn Enclosure
+zetaIn z = record { z0 = z .z0; z1 = z .z1; z2 = z .z2; z3 = z .z3 }
+
+abbrev pub zeta23In : Zeta23Enclosures → Zeta23In Enclosure
+zeta23In y = record { y0 = y .y0; y1 = y .y1 }
+
+abbrev pub mixtureIn : MixtureEnclosures → MixtureIn Enclosure
+mixtureIn w = record { rho-s = w .«rho_s»; zeta = w .zeta; zeta-bar = w .«zeta_bar» }

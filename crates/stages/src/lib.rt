@@ -1,0 +1,63 @@
+// The energy stage of the quantum model: from component lists to energies.
+ghost use mathlib.Core.Path.{_≡_};
+ghost use Rattle.saftvrqmie_energies.specs.Energies.{energiesAnswer};
+ghost use Rattle.stages.specs.Stages.{quantumStage};
+use mie_parameters::ParameterAnswer;
+use saftvrqmie_energies::EnergiesAnswer;
+
+// Quantum: parameters (1 to 6), a table of its own (2, 6, 7), energies (1, 2, 6, 7); the first refusal on the way.
+pub fn quantum_stage(
+    count: usize,
+    m: &[f64],
+    sigma: &[f64],
+    epsilon_k: &[f64],
+    lr: &[f64],
+    la: &[f64],
+    mass: &[f64],
+    order: &[u8],
+    k_ij: &[f64],
+    l_ij: &[f64],
+    temperature: f64,
+    fractions: &[f64],
+    densities: &[f64],
+    non_additive: bool,
+) -> EnergiesAnswer
+    ensures { λ r. ⌜ energiesAnswer r ≡ quantumStage (record { count = count; m = now (m .entry); sigma = now (sigma .entry); epsilon-k = now («epsilon_k» .entry); lr = now (lr .entry); la = now (la .entry); mass = now (mass .entry); fh = now (order .entry); k-ij = now («k_ij» .entry); l-ij = now («l_ij» .entry) }) temperature (now (fractions .entry)) (now (densities .entry)) «non_additive» ⌝ }
+{
+    let given = saftvrqmie_parameters::parameters(
+        count,
+        m,
+        sigma,
+        epsilon_k,
+        lr,
+        la,
+        mass,
+        order,
+        k_ij,
+        l_ij,
+    );
+    let answer = given.answer;
+    let ParameterAnswer::Held = answer else {
+        return EnergiesAnswer::Refused(mie_parameters::number(answer));
+    };
+    let set = given.set;
+    let mut table = [0.0; 256];
+    let mut counts = [0u8; 192];
+    let worked = saftvrqmie::temperature_dependent_properties(
+        set,
+        temperature,
+        &mut table,
+        &mut counts,
+    );
+    let ParameterAnswer::Held = worked else {
+        return EnergiesAnswer::Refused(mie_parameters::number(worked));
+    };
+    saftvrqmie_energies::helmholtz_energy_densities(
+        set,
+        temperature,
+        fractions,
+        densities,
+        &table,
+        non_additive,
+    )
+}
