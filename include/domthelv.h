@@ -59,6 +59,19 @@ uint8_t domthelv_vrq_energies(size_t count, const double *m, size_t m_len, const
     const double *densities, size_t densities_len, const double *table, size_t table_len, bool non_additive,
     double *out, size_t out_len);
 
+/* Two ends of the energies. out (6): low and high end of each of the three (+0, +0 where not wanted). Refusals as above,
+ * then 8: at an operation on the way a divisor's ends enclose or touch zero, or an end is not finite. */
+uint8_t domthelv_vrq_energies_ends(size_t count, const double *m, size_t m_len, const double *sheets, size_t sheets_len,
+    const uint8_t *orders, size_t orders_len, double temperature, const double *fractions, size_t fractions_len,
+    const double *densities, size_t densities_len, const double *table, size_t table_len, bool non_additive,
+    double *out, size_t out_len);
+
+/* Two ends of a pair's diameter from its searched radii. out (2): low and high end. 1: out; 1, 4: the set's lists;
+ * 1: the count or an index; 2: temperature; 6; 7: the diameter is not finite; 8. */
+uint8_t domthelv_vrq_diameter_ends(size_t count, const double *m, size_t m_len, const double *sheets, size_t sheets_len,
+    const uint8_t *orders, size_t orders_len, size_t i, size_t j, double temperature, double sigma_eff, double r0,
+    double *out, size_t out_len);
+
 /* From component lists to energies, with a table of its own. out as above. 1: out; then the first refusal of the
  * parameters (1 to 6), the table (2, 6, 7) and the energies (1, 2, 6, 7). */
 uint8_t domthelv_vrq_stage(size_t count, const double *m, size_t m_len, const double *sigma, size_t sigma_len,

@@ -18,13 +18,17 @@ use Rattle.saftvrmie_parameters.specs.declared.SaftVRMiePars.{SaftVRMiePars}
 use Rattle.saftvrqmie.specs.Table.{Lent, temperatureTable}
 use Rattle.saftvrqmie.specs.Pairs.{SearchesIn, searches}
 use Rattle.saftvrqmie_energies.specs.Energies.{EnergiesIn, energies}
+use Rattle.elementary.specs.Port.{port}
+use Rattle.enclosure.specs.declared.Ends.{Ends}
+use Rattle.saftvrqmie_energies_ends.specs.Operation.{energiesEnds}
+use Rattle.saftvrqmie_diameter_ends.specs.Operations.{diameterEnds}
 use Rattle.stages.specs.Stages.{quantumStage}
 use Rattle.saftvrmie.specs.Diameters.{diameters}
 use Rattle.saftvrmie.specs.Pairs.{radiusIj}
 use Rattle.saftvrmie_energies.specs.Energies.{energy}
 use Rattle.domthelv.specs.Boundary.{status, stored}
 use Rattle.domthelv.specs.Sets.{quantumLengths, quantumSet, mieLengths, mieSet}
-use Rattle.domthelv.specs.Operations.{QuantumLent, MieLent, setWritten, vrqParameters, vrqTable, radiiLengths, radiiWritten, vrqRadii, energiesWritten, vrqEnergies, vrqStage, mieWritten, vrParameters, vrDiameters, vrRadius, vrDispersion}
+use Rattle.domthelv.specs.Operations.{QuantumLent, MieLent, setWritten, vrqParameters, vrqTable, radiiLengths, radiiWritten, vrqRadii, energiesWritten, vrqEnergies, endsWritten, vrqEnergiesEnds, pairWritten, vrqDiameterEnds, vrqStage, mieWritten, vrParameters, vrDiameters, vrRadius, vrDispersion}
 
 -- an operation that gives a parameter answer and leaves its lists by `kept`
 verdict-status : {S : Type 0} (p : Ans S) → numberOf (verdict p) ≡ status p
@@ -125,6 +129,44 @@ module _ (n : ℕ) (m sheets : List Float) (orders : List ℕ) (t : Float) (x rh
       pub energies-held : (e : EnergiesIn Float) → energies s t x rho table wanted ≡ held e → vrqEnergies n m sheets orders t x rho table wanted l ≡ held (energiesWritten e l)
       unfolding vrqEnergies demand _>>=_
       energies-held e h = rw (p, q, h)
+
+module _ (n : ℕ) (m sheets : List Float) (orders : List ℕ) (t : Float) (x rho table : List Float) (wanted : Bool) (l : List Float) where
+  pub energies-ends-1 : eqb (length l) 6 ≡ false → vrqEnergiesEnds n m sheets orders t x rho table wanted l ≡ refused 1
+  unfolding vrqEnergiesEnds demand _>>=_
+  energies-ends-1 p = rw p
+
+  module _ (p : eqb (length l) 6 ≡ true) where
+    pub energies-ends-set : (k : ℕ) → quantumSet n m sheets orders ≡ refused k → vrqEnergiesEnds n m sheets orders t x rho table wanted l ≡ refused k
+    unfolding vrqEnergiesEnds demand _>>=_
+    energies-ends-set k q = rw (p, q)
+
+    module _ (s : SaftVRQMiePars) (q : quantumSet n m sheets orders ≡ held s) where
+      pub energies-ends-refused : (k : ℕ) → energiesEnds port s t x rho table wanted ≡ refused k → vrqEnergiesEnds n m sheets orders t x rho table wanted l ≡ refused k
+      unfolding vrqEnergiesEnds demand _>>=_
+      energies-ends-refused k r = rw (p, q, r)
+
+      pub energies-ends-held : (e : EnergiesIn Ends) → energiesEnds port s t x rho table wanted ≡ held e → vrqEnergiesEnds n m sheets orders t x rho table wanted l ≡ held (endsWritten e l)
+      unfolding vrqEnergiesEnds demand _>>=_
+      energies-ends-held e h = rw (p, q, h)
+
+module _ (n : ℕ) (m sheets : List Float) (orders : List ℕ) (i j : ℕ) (t sigma-eff r0 : Float) (l : List Float) where
+  pub diameter-ends-1 : eqb (length l) 2 ≡ false → vrqDiameterEnds n m sheets orders i j t sigma-eff r0 l ≡ refused 1
+  unfolding vrqDiameterEnds demand _>>=_
+  diameter-ends-1 p = rw p
+
+  module _ (p : eqb (length l) 2 ≡ true) where
+    pub diameter-ends-set : (k : ℕ) → quantumSet n m sheets orders ≡ refused k → vrqDiameterEnds n m sheets orders i j t sigma-eff r0 l ≡ refused k
+    unfolding vrqDiameterEnds demand _>>=_
+    diameter-ends-set k q = rw (p, q)
+
+    module _ (s : SaftVRQMiePars) (q : quantumSet n m sheets orders ≡ held s) where
+      pub diameter-ends-refused : (k : ℕ) → diameterEnds port s i j t sigma-eff r0 ≡ refused k → vrqDiameterEnds n m sheets orders i j t sigma-eff r0 l ≡ refused k
+      unfolding vrqDiameterEnds demand _>>=_
+      diameter-ends-refused k r = rw (p, q, r)
+
+      pub diameter-ends-held : (e : Ends) → diameterEnds port s i j t sigma-eff r0 ≡ held e → vrqDiameterEnds n m sheets orders i j t sigma-eff r0 l ≡ held (pairWritten e l)
+      unfolding vrqDiameterEnds demand _>>=_
+      diameter-ends-held e h = rw (p, q, h)
 
 module _ (x : Quantum.Lists) (t : Float) (fractions rho : List Float) (wanted : Bool) (l : List Float) where
   pub stage-1 : eqb (length l) 3 ≡ false → vrqStage x t fractions rho wanted l ≡ refused 1

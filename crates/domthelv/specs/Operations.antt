@@ -15,6 +15,10 @@ use Rattle.saftvrqmie_properties.specs.Properties.{radiusOf, lastOf}
 use Rattle.saftvrqmie.specs.Table.{Lent, temperatureTable}
 use Rattle.saftvrqmie.specs.Pairs.{SearchesIn, searches}
 use Rattle.saftvrqmie_energies.specs.Energies.{EnergiesIn, energies}
+use Rattle.elementary.specs.Port.{port}
+use Rattle.enclosure.specs.declared.Ends.{Ends}
+use Rattle.saftvrqmie_energies_ends.specs.Operation.{energiesEnds}
+use Rattle.saftvrqmie_diameter_ends.specs.Operations.{diameterEnds}
 use Rattle.stages.specs.Stages.{quantumStage}
 use Rattle.saftvrmie.specs.Diameters.{diameters}
 use Rattle.saftvrmie.specs.Pairs.{radiusIj}
@@ -68,6 +72,29 @@ vrqEnergies n m sheets orders t x rho table wanted l =
     quantumSet n m sheets orders >>= λ s.
     energies s t x rho table wanted >>= λ e.
     held (energiesWritten e l)
+
+-- 'low and high end of each of the three'
+unfoldable pub endsWritten : EnergiesIn Ends → List Float → List Float
+endsWritten e l =
+    set (set (set (set (set (set l 0 (e .hard-sphere .lower)) 1 (e .hard-sphere .upper)) 2 (e .dispersion .lower)) 3 (e .dispersion .upper)) 4 (e .non-additive .lower)) 5 (e .non-additive .upper)
+
+unfoldable pub vrqEnergiesEnds : ℕ → List Float → List Float → List ℕ → Float → List Float → List Float → List Float → Bool → List Float → Ans (List Float)
+vrqEnergiesEnds n m sheets orders t x rho table wanted l =
+    demand 1 (eqb (length l) 6) >>= λ _.
+    quantumSet n m sheets orders >>= λ s.
+    energiesEnds port s t x rho table wanted >>= λ e.
+    held (endsWritten e l)
+
+-- 'low and high end'
+unfoldable pub pairWritten : Ends → List Float → List Float
+pairWritten e l = set (set l 0 (e .lower)) 1 (e .upper)
+
+unfoldable pub vrqDiameterEnds : ℕ → List Float → List Float → List ℕ → ℕ → ℕ → Float → Float → Float → List Float → Ans (List Float)
+vrqDiameterEnds n m sheets orders i j t sigma-eff r0 l =
+    demand 1 (eqb (length l) 2) >>= λ _.
+    quantumSet n m sheets orders >>= λ s.
+    diameterEnds port s i j t sigma-eff r0 >>= λ e.
+    held (pairWritten e l)
 
 unfoldable pub vrqStage : Quantum.Lists → Float → List Float → List Float → Bool → List Float → Ans (List Float)
 vrqStage x t fractions rho wanted l =

@@ -9,12 +9,15 @@ ghost use lib.ListN.{length};
 ghost use Rattle.number.specs.Side.{side, sheet};
 ghost use Rattle.domthelv.specs.Boundary.{status, stored};
 ghost use Rattle.domthelv.specs.Sets.{copied, taken, placed, ordersWithin, ordersRead, ordersWritten, quantumLengths, quantumSet, mieLengths, mieSet, listsWritten};
-ghost use Rattle.domthelv.specs.Operations.{setWritten, vrqParameters, vrqTable, radiiWritten, radiiLengths, vrqRadii, energiesWritten, vrqEnergies, vrqStage, mieWritten, vrParameters, vrDiameters, vrRadius, vrDispersion};
+ghost use Rattle.domthelv.specs.Operations.{setWritten, vrqParameters, vrqTable, radiiWritten, radiiLengths, vrqRadii, energiesWritten, vrqEnergies, endsWritten, vrqEnergiesEnds, pairWritten, vrqDiameterEnds, vrqStage, mieWritten, vrParameters, vrDiameters, vrRadius, vrDispersion};
 ghost use Rattle.saftvrqmie_parameters.specs.Parameters as Quantum;
 ghost use Rattle.saftvrmie_parameters.specs.Parameters as Mie;
 ghost use Rattle.saftvrqmie_potential.specs.Potential.{orderNumber};
 ghost use Rattle.saftvrqmie.specs.Pairs.{searchesIn};
 ghost use Rattle.saftvrqmie_energies.specs.Energies.{energiesIn};
+ghost use Rattle.domthelv.specs.Ends.{endsEach};
+use enclosure::Ends;
+use enclosure::EndsAnswer;
 use mie_parameters::NumberAnswer;
 use mie_parameters::ParameterAnswer;
 use number::FloatAnswer;
@@ -26,6 +29,8 @@ use saftvrqmie::PairSearches;
 use saftvrqmie::SearchesAnswer;
 use saftvrqmie_energies::EnergiesAnswer;
 use saftvrqmie_energies::QuantumEnergies;
+use saftvrqmie_energies_ends::EnergiesEnds;
+use saftvrqmie_energies_ends::EnergiesEndsAnswer;
 use saftvrqmie_parameters::FeynmanHibbsOrder;
 use saftvrqmie_parameters::OrderRecord;
 use saftvrqmie_parameters::SaftVRQMiePars;
@@ -386,6 +391,111 @@ pub extern "C" fn domthelv_vrq_energies(
         EnergiesAnswer::Refused(n) => n,
         EnergiesAnswer::Energies(e) => {
             write_energies(e, out);
+            0
+        }
+    }
+}
+
+fn write_ends(e: EnergiesEnds, out: &mut [f64])
+    requires { ⌜ length (now out) ≡ 6 ⌝ }
+    ensures { λ _. ⌜ now (out .exit) ≡ endsWritten (endsEach e) (now (out .entry)) ⌝ }
+{
+    let h = e.hard_sphere;
+    let d = e.dispersion;
+    let a = e.non_additive;
+    out[0] = h.lower;
+    out[1] = h.upper;
+    out[2] = d.lower;
+    out[3] = d.upper;
+    out[4] = a.lower;
+    out[5] = a.upper;
+}
+
+// Two ends of the quantum energies: low and high end of each. 1 for `out`, 1 and 4 for the set's lists, then 1, 2, 6, 7, 8.
+#[no_mangle]
+pub extern "C" fn domthelv_vrq_energies_ends(
+    count: usize,
+    m: &[f64],
+    sheets: &[f64],
+    orders: &[u8],
+    temperature: f64,
+    fractions: &[f64],
+    densities: &[f64],
+    table: &[f64],
+    non_additive: bool,
+    out: &mut [f64],
+) -> u8
+    ensures { λ r. ⌜ (r ≡ status (vrqEnergiesEnds count (now (m .entry)) (now (sheets .entry)) (now (orders .entry)) temperature (now (fractions .entry)) (now (densities .entry)) (now (table .entry)) «non_additive» (now (out .entry)))) × (now (out .exit) ≡ stored (now (out .entry)) (vrqEnergiesEnds count (now (m .entry)) (now (sheets .entry)) (now (orders .entry)) temperature (now (fractions .entry)) (now (densities .entry)) (now (table .entry)) «non_additive» (now (out .entry)))) ⌝ }
+{
+    if out.len() != 6 {
+        return 1;
+    }
+    let read = quantum_set(count, m, sheets, orders);
+    let answer = read.answer;
+    let ParameterAnswer::Held = answer else {
+        return mie_parameters::number(answer);
+    };
+    let worked = saftvrqmie_energies_ends::helmholtz_energy_densities_ends(
+        read.set,
+        temperature,
+        fractions,
+        densities,
+        table,
+        non_additive,
+    );
+    match worked {
+        EnergiesEndsAnswer::Refused(n) => n,
+        EnergiesEndsAnswer::Held(e) => {
+            write_ends(e, out);
+            0
+        }
+    }
+}
+
+fn write_pair(e: Ends, out: &mut [f64])
+    requires { ⌜ length (now out) ≡ 2 ⌝ }
+    ensures { λ _. ⌜ now (out .exit) ≡ pairWritten e (now (out .entry)) ⌝ }
+{
+    out[0] = e.lower;
+    out[1] = e.upper;
+}
+
+// Two ends of a pair's diameter from its searched radii. 1 for `out`, 1 and 4 for the set's lists, then 1, 2, 6, 7, 8.
+#[no_mangle]
+pub extern "C" fn domthelv_vrq_diameter_ends(
+    count: usize,
+    m: &[f64],
+    sheets: &[f64],
+    orders: &[u8],
+    i: usize,
+    j: usize,
+    temperature: f64,
+    sigma_eff: f64,
+    r0: f64,
+    out: &mut [f64],
+) -> u8
+    ensures { λ r. ⌜ (r ≡ status (vrqDiameterEnds count (now (m .entry)) (now (sheets .entry)) (now (orders .entry)) i j temperature «sigma_eff» r0 (now (out .entry)))) × (now (out .exit) ≡ stored (now (out .entry)) (vrqDiameterEnds count (now (m .entry)) (now (sheets .entry)) (now (orders .entry)) i j temperature «sigma_eff» r0 (now (out .entry)))) ⌝ }
+{
+    if out.len() != 2 {
+        return 1;
+    }
+    let read = quantum_set(count, m, sheets, orders);
+    let answer = read.answer;
+    let ParameterAnswer::Held = answer else {
+        return mie_parameters::number(answer);
+    };
+    let worked = saftvrqmie_diameter_ends::hs_diameter_ij_ends(
+        read.set,
+        i,
+        j,
+        temperature,
+        sigma_eff,
+        r0,
+    );
+    match worked {
+        EndsAnswer::Refused(n) => n,
+        EndsAnswer::Held(e) => {
+            write_pair(e, out);
             0
         }
     }
