@@ -614,6 +614,7 @@ pub fn right_lengths(n: usize, x: &[f64], rho: &[f64], table: &[f64]) -> bool
     limits::count_within(n) & (x.len() == n) & (rho.len() == n) & (table.len() == FIFTH)
 }
 
+// The lists are as long as the count: both operations refuse others with 1 before they ask.
 pub fn within_limits(n: usize, t: f64, x: &[f64], rho: &[f64]) -> bool
     requires { ⌜ (length (now x) ≡ n) × (length (now rho) ≡ n) ⌝ }
     ensures { λ r. ⌜ r ≡ withinLimits n t (now (x .entry)) (now (rho .entry)) ⌝ }
