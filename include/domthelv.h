@@ -104,6 +104,14 @@ uint8_t domthelv_vr_dispersion(size_t count, const double *lists, size_t lists_l
 uint8_t domthelv_vr_radius(size_t count, const double *lists, size_t lists_len, const double *sheets,
     size_t sheets_len, size_t i, size_t j, double temperature, double *out);
 
+/* From component lists to dispersion, with the chain where it is wanted, and diameters of its own. The first refusal of
+ * the parameters (1, 2, 6), the diameters (2, 6, 7) and the energy (1, 2, 6, 7). */
+uint8_t domthelv_vr_stage(size_t count, const double *m, size_t m_len, const double *sigma, size_t sigma_len,
+    const double *epsilon_k, size_t epsilon_k_len, const double *lr, size_t lr_len, const double *la, size_t la_len,
+    const double *k_ij, size_t k_ij_len, const double *gamma_ij, size_t gamma_ij_len, double temperature,
+    const double *fractions, size_t fractions_len, const double *densities, size_t densities_len, bool chain,
+    double *out);
+
 #ifdef __cplusplus
 }
 #endif

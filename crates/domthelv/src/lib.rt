@@ -10,6 +10,7 @@ ghost use Rattle.number.specs.Side.{side, sheet};
 ghost use Rattle.domthelv.specs.Boundary.{status, stored};
 ghost use Rattle.domthelv.specs.Sets.{copied, taken, placed, ordersWithin, ordersRead, ordersWritten, quantumLengths, quantumSet, mieLengths, mieSet, listsWritten};
 ghost use Rattle.domthelv.specs.Operations.{setWritten, vrqParameters, vrqTable, radiiWritten, radiiLengths, vrqRadii, energiesWritten, vrqEnergies, endsWritten, vrqEnergiesEnds, pairWritten, vrqDiameterEnds, vrqStage, mieWritten, vrParameters, vrDiameters, vrRadius, vrDispersion};
+ghost use Rattle.stages.specs.Stages.{mieStage};
 ghost use Rattle.saftvrqmie_parameters.specs.Parameters as Quantum;
 ghost use Rattle.saftvrmie_parameters.specs.Parameters as Mie;
 ghost use Rattle.saftvrqmie_potential.specs.Potential.{orderNumber};
@@ -725,6 +726,48 @@ pub extern "C" fn domthelv_vr_dispersion(
         fractions,
         densities,
         diameters,
+        chain,
+    );
+    match worked {
+        EnergyAnswer::Refused(n) => n,
+        EnergyAnswer::Value(x) => {
+            *out = x;
+            0
+        }
+    }
+}
+
+// From component lists to dispersion, with the chain where it is wanted and diameters of its own. The parameters' refusals, the diameters', the energy's.
+#[no_mangle]
+pub extern "C" fn domthelv_vr_stage(
+    count: usize,
+    m: &[f64],
+    sigma: &[f64],
+    epsilon_k: &[f64],
+    lr: &[f64],
+    la: &[f64],
+    k_ij: &[f64],
+    gamma_ij: &[f64],
+    temperature: f64,
+    fractions: &[f64],
+    densities: &[f64],
+    chain: bool,
+    out: &mut f64,
+) -> u8
+    ensures { λ r. ⌜ (r ≡ status (mieStage (record { count = count; m = now (m .entry); sigma = now (sigma .entry); epsilon-k = now («epsilon_k» .entry); lr = now (lr .entry); la = now (la .entry); k-ij = now («k_ij» .entry); gamma-ij = now («gamma_ij» .entry) }) temperature (now (fractions .entry)) (now (densities .entry)) chain)) × (now (out .exit) ≡ stored (now (out .entry)) (mieStage (record { count = count; m = now (m .entry); sigma = now (sigma .entry); epsilon-k = now («epsilon_k» .entry); lr = now (lr .entry); la = now (la .entry); k-ij = now («k_ij» .entry); gamma-ij = now («gamma_ij» .entry) }) temperature (now (fractions .entry)) (now (densities .entry)) chain)) ⌝ }
+{
+    let worked = stages::mie_stage(
+        count,
+        m,
+        sigma,
+        epsilon_k,
+        lr,
+        la,
+        k_ij,
+        gamma_ij,
+        temperature,
+        fractions,
+        densities,
         chain,
     );
     match worked {
