@@ -4,8 +4,8 @@ use lib.Ieee.{Float}
 use lib.Ieee.Scale.{finite}
 use mathlib.Core.List.{List}
 use Rattle.number.specs.Ans.{Ans, held, _>>=_, demand}
-use Rattle.number.specs.Arith.{floats}
-use Rattle.number.specs.Functions.{calls}
+use Rattle.number.specs.Arith.{Arith, floats}
+use Rattle.number.specs.Functions.{Answers, calls}
 use Rattle.number.specs.Lists.{at}
 use Rattle.number.specs.Side.{sheet, cell}
 use Rattle.elementary.specs.Port.{port}
@@ -28,11 +28,20 @@ radiusIj s i j t =
     demand 2 (temperatureWithin t) >>= λ _.
     lowerLimit floats (calls floats port) (entryOf (s .sheets) 3 (cell i j)) (entryOf (s .sheets) 2 (cell i j)) (cEpsAt (s .sheets) t (cell i j))
 
--- the diameter from a reduced r0, which is read as it is: 1; 2 for the temperature; 6; 7 if it is not finite
-unfoldable pub diameterIj : SaftVRMiePars → ℕ → ℕ → Float → Float → Ans Float
-diameterIj s i j t r0 =
+-- a run of the diameter from a reduced r0: the set's numbers, the temperature and r0 are read as they are
+abbrev pub diameterRun : (A : Arith) → Answers → SaftVRMiePars → ℕ → ℕ → Float → Float → Ans (A .Num)
+diameterRun A E s i j t r0 =
+    diameterFrom A (calls A E) (A .lit (entryOf (s .sheets) 3 (cell i j))) (A .lit (entryOf (s .sheets) 2 (cell i j)))
+    (cEpsT A (A .lit t) (A .lit (entryOf (s .sheets) 4 (cell i j))) (A .lit (entryOf (s .sheets) 1 (cell i j)))) (A .lit (entryOf (s .sheets) 0 (cell i j))) (A .lit r0)
+
+-- 1; 2 for the temperature; 6; 7 if the diameter is not finite; whatever the elementary functions answer
+unfoldable pub diameterIjBy : Answers → SaftVRMiePars → ℕ → ℕ → Float → Float → Ans Float
+diameterIjBy E s i j t r0 =
     demand 1 (indexWithin (s .count) i j) >>= λ _.
     demand 2 (temperatureWithin t) >>= λ _.
-    diameterFrom floats (calls floats port) (entryOf (s .sheets) 3 (cell i j)) (entryOf (s .sheets) 2 (cell i j)) (cEpsAt (s .sheets) t (cell i j)) (entryOf (s .sheets) 0 (cell i j)) r0 >>= λ d.
+    diameterRun floats E s i j t r0 >>= λ d.
     demand 7 (finite d) >>= λ _.
     held d
+
+abbrev pub diameterIj : SaftVRMiePars → ℕ → ℕ → Float → Float → Ans Float
+diameterIj = diameterIjBy port

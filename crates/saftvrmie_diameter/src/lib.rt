@@ -10,7 +10,7 @@ ghost use Rattle.saftvrmie_diameter.specs.Diameter.{positions, weights, 
 use number::FloatAnswer;
 
 // 10-point Gauss-Legendre quadrature: positions and weights.
-const GLQ10: [[f64; 2]; 10] = [
+pub const GLQ10: [[f64; 2]; 10] = [
     [-0.1488743389816312, 0.2955242247147529],
     [0.1488743389816312, 0.2955242247147529],
     [-0.4333953941292472, 0.2692667193099963],
