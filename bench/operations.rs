@@ -1,4 +1,5 @@
-//! The operations of the C boundary beside the unchanged Rust text on the platform's functions, built at the same level.
+//! The operations of the C boundary beside the unchanged Rust text on the platform's functions, built at the same level;
+//! and the two-ended ones beside the port's own float run.
 use crate::best_of_two;
 use crate::port;
 use crate::random::Random;
@@ -72,6 +73,32 @@ impl Fluid {
 #[derive(Default)]
 struct Rows(Vec<(&'static str, Vec<String>)>);
 
+// A pair's diameter in floats, which the C boundary has only in its tables.
+#[link(name = "diameter_bench", kind = "static")]
+unsafe extern "C" {
+    fn domthelv_bench_quantum_diameter(
+        sigma: f64, epsilon_k: f64, c: f64, lr: f64, la: f64, mass: f64, order: u8, temperature: f64, sigma_eff: f64, r0: f64,
+    ) -> f64;
+    fn domthelv_bench_mie_diameter(la: f64, lr: f64, c_eps_t: f64, sigma: f64, r0: f64) -> f64;
+}
+
+/// All of `k` fluids through one function.
+fn over<T>(k: usize, f: impl Fn(usize) -> T) -> impl Fn() {
+    move || (0..k).for_each(|i| drop(black_box(f(black_box(i)))))
+}
+
+/// At most this ratio, where one was set.
+fn goal(name: &str) -> Option<f64> {
+    match name {
+        "quantum table" | "quantum energies" => Some(0.6),
+        "VR Mie dispersion" | "VR Mie and chain" => Some(0.75),
+        "VR Mie diameters" => Some(1.0),
+        _ if name.ends_with("diameter, two ends") => Some(4.0),
+        _ if name.ends_with("two ends") => Some(10.0),
+        _ => None,
+    }
+}
+
 impl Rows {
     /// One row: both sides over the same `k` fluids, microseconds a call.
     fn row<A, B>(
@@ -83,13 +110,15 @@ impl Rows {
         rust: impl Fn(usize) -> A,
         port: impl Fn(usize) -> B,
     ) {
-        let (rust, port) = best_of_two(
-            || (0..k).for_each(|i| drop(black_box(rust(black_box(i))))),
-            || (0..k).for_each(|i| drop(black_box(port(black_box(i))))),
-        );
-        let (rust, port) = (rust / k as f64 / 1000.0, port / k as f64 / 1000.0);
+        let (rust, port) = best_of_two(over(k, rust), over(k, port));
+        self.add(name, n, order, rust / k as f64, port / k as f64);
+    }
+
+    fn add(&mut self, name: &'static str, n: usize, order: Option<u8>, one: f64, other: f64) {
+        let (one, other) = (one / 1000.0, other / 1000.0);
         let order = order.map_or("-".into(), |o| o.to_string());
-        let line = format!("{name:<24} {n:>2} {order:>5} {rust:>10.2} {port:>10.2} {:>6.2}x", port / rust);
+        let goal = goal(name).map_or("-".into(), |g| format!("{g:.2}"));
+        let line = format!("{name:<26} {n:>2} {order:>5} {one:>10.2} {other:>10.2} {:>6.2}x {goal:>6}", other / one);
         match self.0.iter_mut().find(|r| r.0 == name) {
             Some(rows) => rows.1.push(line),
             None => self.0.push((name, vec![line])),
@@ -206,9 +235,137 @@ fn vr_mie(rows: &mut Rows, n: usize) {
     }
 }
 
+/// Two ends of the quantum energies and of a pair's diameter, beside their floats.
+fn quantum_ends(rows: &mut Rows, n: usize, order: u8) {
+    let (Some(energies), Some(ends), Some(radii), Some(diameter)) =
+        (port::VRQ_ENERGIES, port::VRQ_ENERGIES_ENDS, port::VRQ_RADII, port::VRQ_DIAMETER_ENDS)
+    else {
+        return;
+    };
+    let fluids = fluids(n, order, true);
+    let k = fluids.len();
+    let sets: Vec<_> = fluids.iter().map(|f| vrq::parameters(&f.quantum_lists()).ok().unwrap()).collect();
+    let flat: Vec<_> = sets.iter().map(vrq::flat).collect();
+    let tables: Vec<_> = (0..k).map(|i| vrq::table(&sets[i], fluids[i].temperature)).collect();
+    let worked = |f: port::Energies, places: usize, i: usize| {
+        let (mut out, (sheets, orders), fluid) = ([0.0; 6], &flat[i], &fluids[i]);
+        let number = unsafe {
+            f(
+                n, [1.0; 8].as_ptr(), 8, sheets.as_ptr(), 384, orders.as_ptr(), 64, fluid.temperature, fluid.x.as_ptr(), n,
+                fluid.rho.as_ptr(), n, tables[i].as_ptr(), 256, true, out.as_mut_ptr(), places,
+            )
+        };
+        assert!(number == 0);
+        out
+    };
+    rows.row("quantum energies, two ends", n, Some(order), k, |i| worked(energies, 3, i), |i| worked(ends, 6, i));
+    if n > 1 {
+        return;
+    }
+    let searched = |i: usize| {
+        let (mut out, mut counts, (sheets, orders)) = ([0.0; 6], [0u8; 3], &flat[i]);
+        let t = fluids[i].temperature;
+        let number = unsafe {
+            radii(
+                1, [1.0; 8].as_ptr(), 8, sheets.as_ptr(), 384, orders.as_ptr(), 64, 0, 0, t, out.as_mut_ptr(), 6,
+                counts.as_mut_ptr(), 3,
+            )
+        };
+        assert!(number == 0);
+        out
+    };
+    let found: Vec<_> = (0..k).map(searched).collect();
+    let two = |i: usize| {
+        let (mut out, (sheets, orders)) = ([0.0; 2], &flat[i]);
+        let number = unsafe {
+            diameter(
+                1, [1.0; 8].as_ptr(), 8, sheets.as_ptr(), 384, orders.as_ptr(), 64, 0, 0, fluids[i].temperature, found[i][0],
+                found[i][2], out.as_mut_ptr(), 2,
+            )
+        };
+        assert!(number == 0);
+        out
+    };
+    let float = |i: usize| {
+        let (s, t) = (&flat[i].0, fluids[i].temperature);
+        unsafe { domthelv_bench_quantum_diameter(s[0], s[64], s[128], s[192], s[256], s[320], order, t, found[i][0], found[i][2]) }
+    };
+    (0..k).for_each(|i| assert!(two(i)[0] <= float(i) && float(i) <= two(i)[1]));
+    rows.row("quantum diameter, two ends", n, Some(order), k, float, two);
+}
+
+/// The same of SAFT-VR Mie, where the library has them.
+fn vr_mie_ends(rows: &mut Rows, n: usize) {
+    let fluids = fluids(n, 0, false);
+    let k = fluids.len();
+    let sets: Vec<_> = fluids.iter().map(|f| vr::parameters(&f.mie_lists())).collect();
+    let flat: Vec<_> = sets.iter().map(vr::flat).collect();
+    let lists: Vec<Vec<f64>> = fluids
+        .iter()
+        .map(|f| [&f.m, &f.sigma, &f.epsilon_k, &f.lr, &f.la].iter().flat_map(|l| (0..8).map(|i| *l.get(i).unwrap_or(&0.0))).collect())
+        .collect();
+    let diameters: Vec<_> = (0..k).map(|i| vr::diameters(&sets[i], fluids[i].temperature)).collect();
+    if let (Some(float), Some(ends)) = (port::VR_DISPERSION, port::VR_DISPERSION_ENDS) {
+        for (chain, name) in [(false, "VR Mie disp., two ends"), (true, "VR Mie chain, two ends")] {
+            let floats = |i: usize| {
+                let (mut out, f) = (0.0, &fluids[i]);
+                let number = unsafe {
+                    float(
+                        n, lists[i].as_ptr(), 40, flat[i].as_ptr(), 384, f.temperature, f.x.as_ptr(), n, f.rho.as_ptr(), n,
+                        diameters[i].as_ptr(), n, chain, &mut out,
+                    )
+                };
+                assert!(number == 0);
+                out
+            };
+            let two = |i: usize| {
+                let (mut out, f) = ([0.0; 2], &fluids[i]);
+                let number = unsafe {
+                    ends(
+                        n, lists[i].as_ptr(), 40, flat[i].as_ptr(), 384, f.temperature, f.x.as_ptr(), n, f.rho.as_ptr(), n,
+                        diameters[i].as_ptr(), n, chain, out.as_mut_ptr(), 2,
+                    )
+                };
+                assert!(number == 0);
+                out
+            };
+            rows.row(name, n, None, k, floats, two);
+        }
+    }
+    if n > 1 {
+        return;
+    }
+    if let (Some(radius), Some(ends)) = (port::VR_RADIUS, port::VR_DIAMETER_ENDS) {
+        let searched = |i: usize| {
+            let mut out = 0.0;
+            let number = unsafe { radius(1, lists[i].as_ptr(), 40, flat[i].as_ptr(), 384, 0, 0, fluids[i].temperature, &mut out) };
+            assert!(number == 0);
+            out
+        };
+        let found: Vec<f64> = (0..k).map(searched).collect();
+        let two = |i: usize| {
+            let mut out = [0.0; 2];
+            let t = fluids[i].temperature;
+            let number = unsafe { ends(1, lists[i].as_ptr(), 40, flat[i].as_ptr(), 384, 0, 0, t, found[i], out.as_mut_ptr(), 2) };
+            assert!(number == 0);
+            out
+        };
+        let float = |i: usize| {
+            let s = &flat[i];
+            let c_eps_t = (1.0 / fluids[i].temperature) * s[256] * s[64];
+            unsafe { domthelv_bench_mie_diameter(s[192], s[128], c_eps_t, s[0], found[i]) }
+        };
+        rows.row("VR Mie diameter, two ends", n, None, k, float, two);
+    }
+}
+
+fn print(title: &str, columns: [&str; 2], rows: &Rows) {
+    println!("{title}");
+    println!("{:<26} {:>2} {:>5} {:>10} {:>10} {:>7} {:>6}", "operation", "n", "order", columns[0], columns[1], "ratio", "goal");
+    rows.0.iter().flat_map(|r| &r.1).for_each(|line| println!("{line}"));
+}
+
 pub fn run() {
-    println!("operations: the Rust as it is on the platform's functions, and the port; order is Feynman-Hibbs'");
-    println!("{:<24} {:>2} {:>5} {:>10} {:>10} {:>7}", "operation", "n", "order", "Rust us", "port us", "ratio");
     let mut rows = Rows::default();
     for n in [1, 2, 4, 8] {
         for order in 0..3 {
@@ -218,5 +375,16 @@ pub fn run() {
     for n in [1, 2, 4, 8] {
         vr_mie(&mut rows, n);
     }
-    rows.0.iter().flat_map(|r| &r.1).for_each(|line| println!("{line}"));
+    let title = "operations: the Rust as it is on the platform's functions, and the port; order is Feynman-Hibbs'";
+    print(title, ["Rust us", "port us"], &rows);
+    let mut rows = Rows::default();
+    for n in [1, 2, 4, 8] {
+        for order in 0..3 {
+            quantum_ends(&mut rows, n, order);
+        }
+    }
+    for n in [1, 2, 4, 8] {
+        vr_mie_ends(&mut rows, n);
+    }
+    print("two ends: the port's floats, and its ends", ["float us", "ends us"], &rows);
 }

@@ -104,6 +104,17 @@ uint8_t domthelv_vr_dispersion(size_t count, const double *lists, size_t lists_l
 uint8_t domthelv_vr_radius(size_t count, const double *lists, size_t lists_len, const double *sheets,
     size_t sheets_len, size_t i, size_t j, double temperature, double *out);
 
+/* Two ends of dispersion, with the chain where it is wanted: low and high end. 1: out; 1: the set's lists; then as
+ * domthelv_vr_dispersion, then 8. */
+uint8_t domthelv_vr_dispersion_ends(size_t count, const double *lists, size_t lists_len, const double *sheets,
+    size_t sheets_len, double temperature, const double *fractions, size_t fractions_len, const double *densities,
+    size_t densities_len, const double *diameters, size_t diameters_len, bool chain, double *out, size_t out_len);
+
+/* Two ends of one pair's diameter from its reduced r0: low and high end. 1: out; 1: the set's lists; 1: the count or an
+ * index; 2: temperature; 6; 7; 8. */
+uint8_t domthelv_vr_diameter_ends(size_t count, const double *lists, size_t lists_len, const double *sheets,
+    size_t sheets_len, size_t i, size_t j, double temperature, double r0, double *out, size_t out_len);
+
 /* From component lists to dispersion, with the chain where it is wanted, and diameters of its own. The first refusal of
  * the parameters (1, 2, 6), the diameters (2, 6, 7) and the energy (1, 2, 6, 7). */
 uint8_t domthelv_vr_stage(size_t count, const double *m, size_t m_len, const double *sigma, size_t sigma_len,

@@ -27,6 +27,7 @@ pub mod Zeros
 pub mod Tiny
 pub mod TinyNear
 pub mod TanhNear
+pub mod TanhLarge
 pub mod TanhTiny
 pub mod TanhDistance
 pub mod Inhabited

@@ -49,10 +49,10 @@ near-turned r x s t S T₁ p q b = near-of r x (negF s) (negF t) (negF-pos s S) 
     flip (frac p n d) (frac q m c) h = (h .1, h .0)
 
 -- ---- the difference, the sum and the quotient of whole numbers in f64
-abbrev whole : ℕ → Float
+abbrev pub whole : ℕ → Float
 whole n = ofInt binary64 (pos n)
 
-whole-is : (n : ℕ) → n ≤ 2 ^ 53 → HasValue (whole n) false n 1
+pub whole-is : (n : ℕ) → n ≤ 2 ^ 53 → HasValue (whole n) false n 1
 unfolding ofInt
 whole-is n h = round-whole binary64 false n h
 
@@ -77,7 +77,7 @@ sum-is (fin false m e) (fin false n d) a b h k = rw (in-units (m * up e) (down e
     go c = mul-one (a * c + b * c) ∙ sym (add-mul a b c)
 
 -- a - b, not below 0
-plus-is : (x y : Float) (t b : ℕ) → HasValue x false (b + t) 1 → HasValue y false b 1 → sub binary64 x y ≡ round binary64 false t 1
+pub plus-is : (x y : Float) (t b : ℕ) → HasValue x false (b + t) 1 → HasValue y false b 1 → sub binary64 x y ≡ round binary64 false t 1
 unfolding sub add neg sum
 plus-is nan y t b h k = absurd h
 plus-is (inf s) y t b h k = absurd h
@@ -97,7 +97,7 @@ plus-is (fin false m e) (fin false n d) t b h k = rw (in-units (m * up e) (down 
         lin x y z e = omega arith
 
 -- and below 0
-minus-is : (x y : Float) (t a : ℕ) → 0 < t → HasValue x false a 1 → HasValue y false (a + t) 1 → sub binary64 x y ≡ round binary64 true t 1
+pub minus-is : (x y : Float) (t a : ℕ) → 0 < t → HasValue x false a 1 → HasValue y false (a + t) 1 → sub binary64 x y ≡ round binary64 true t 1
 unfolding sub add neg sum
 minus-is nan y t a T₁ h k = absurd h
 minus-is (inf s) y t a T₁ h k = absurd h
@@ -384,11 +384,11 @@ module _ (α β ω t b : ℕ) (x : Frac) (some : 0 < α + β) (least : 2 ^ 51 �
       flip : (x : Frac) (z : ℕ) → eqF x (frac 0 z (2 ^ 1074)) → eqF (negF x) (frac z 0 (2 ^ 1074))
       flip x z h = (neg-antiF (frac 0 z (2 ^ 1074)) x (h .1), neg-antiF x (frac 0 z (2 ^ 1074)) (h .0))
 
-abbrev ratioOf : ℕ → ℕ → Float
+abbrev pub ratioOf : ℕ → ℕ → Float
 ratioOf e o = div binary64 (sub binary64 (whole e) (whole o)) (add binary64 (whole e) (whole o))
 
 -- what the f64 operations give, by the sign
-ratio-signed : (s : Bool) (e o t : ℕ) → e ≤ 2 ^ 52 → o ≤ 2 ^ 52 → t ≤ 2 ^ 53 → 0 < e + o → sub binary64 (whole e) (whole o) ≡ round binary64 s t 1 → ratioOf e o ≡ round binary64 s t (e + o)
+pub ratio-signed : (s : Bool) (e o t : ℕ) → e ≤ 2 ^ 52 → o ≤ 2 ^ 52 → t ≤ 2 ^ 53 → 0 < e + o → sub binary64 (whole e) (whole o) ≡ round binary64 s t 1 → ratioOf e o ≡ round binary64 s t (e + o)
 ratio-signed s e o t h k l P d =
     let X = whole-is e (le-trans h (lit≤ tt)) in
     let Y = whole-is o (le-trans k (lit≤ tt)) in

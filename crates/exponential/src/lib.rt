@@ -1,7 +1,7 @@
 // exp, exp_m1 and tanh in u64 fixed point, on one exponential in base 2: the exponent's whole part is the answer's field, 7 bits of its fraction choose a power from a table, five terms do the rest.
 // Budget of exp, in units of 2^-60 and as a part of the value: the argument over ln 2 is cut three times (242, twice that in the answer at most), five terms 81, floors 1, the f64 128; below 2^-50, 2^-48 is asked.
 // exp_m1 takes 1 away from it, from 1/4 on; nearer to 0 six and six terms of a series times the argument, so that the answer keeps all its digits.
-// tanh is a quotient of f64s from the same numbers, exact but for the division; in units of 2^-52: core and cuts 12.4, the division 1; 16 is asked. Below 2^-17 it is x, off by a third of its cube.
+// tanh is a quotient of f64s from the same numbers, exact but for the division; in units of 2^-52: core and cuts 12.4, the division 1; 16 is asked. Below 2^-17 it is x, off by a third of its cube. From 20 on in size the quotient is 1 or -1, and is not worked.
 ghost use mathlib.Core.Path.{_≡_};
 ghost use Prim.Native.Nat.{_+_, _-_, _*_, _/_, _%_, _^_, _≤_, _<_};
 ghost use lib.Dec.{T};
@@ -361,7 +361,15 @@ fn tanh_ratio(w: u64) -> f64
     (x - y) / (x + y)
 }
 
-// tanh x; outside -350 to 350 no value.
+// tanh of x from the bits of an x of 20 or more in size: the smaller of exp 2x and 1 has no digit left in the unit of both.
+fn tanh_large(b: u64) -> f64
+    requires { ⌜ (4109 ≤ b / 2 ^ 50 % 8192) × (fieldOf b ≤ 1031) ⌝ }
+    ensures { λ r. ⌜ r ≡ tanhRatioOf (exponentAt (b + 2 ^ 52)) ⌝ }
+{
+    if b < 0x8000_0000_0000_0000 { 1.0 } else { -1.0 }
+}
+
+// tanh x; outside -350 to 350 no value. The exponent's field and two digits are 4109 for 20 and 4024 for 2^-17: one number serves both tests.
 pub fn tanh(x: f64) -> FloatAnswer
     ensures { λ r. ⌜ answer r ≡ tanhOf x ⌝ }
 {
@@ -369,7 +377,10 @@ pub fn tanh(x: f64) -> FloatAnswer
         return FloatAnswer::Outside;
     }
     let b = f64::to_bits(x);
-    if b / 0x10_0000_0000_0000 % 2048 < 1006 {
+    let top = b / 0x4_0000_0000_0000 % 8192;
+    if 4109 <= top {
+        FloatAnswer::Value(tanh_large(b))
+    } else if top < 4024 {
         FloatAnswer::Value(x)
     } else {
         FloatAnswer::Value(tanh_ratio(exponent_bits(b + 0x10_0000_0000_0000)))

@@ -1,12 +1,18 @@
 //! A float of the float run with its two ends, by the outward rules of the scope. Under the name `f64` it takes the place of
 //! the plain float in the Rust text.
+mod fraction;
+
+pub use fraction::Fraction;
 use num_traits::{Inv, One, Zero};
-use std::cell::Cell;
+use std::cell::{Cell, RefCell};
 use std::ops::*;
 
 thread_local! {
     static EIGHT: Cell<bool> = const { Cell::new(false) };
     static R0: Cell<f64> = const { Cell::new(0.0) };
+    static EXACT: Cell<bool> = const { Cell::new(false) };
+    /// The exact run's values; nothing where a divisor of 0 went before.
+    static VALUES: RefCell<Vec<Option<Fraction>>> = const { RefCell::new(vec![]) };
 }
 
 /// Whether 8 arose since the last look.
@@ -21,11 +27,40 @@ pub fn r0() -> F {
     F::k(R0.get())
 }
 
+/// Starts the exact run beside the others, or stops it; its values so far are forgotten.
+pub fn work_exactly(wanted: bool) {
+    EXACT.set(wanted);
+    VALUES.with_borrow_mut(Vec::clear);
+}
+
+/// Where the exact run's value stands; a point is its float.
+#[derive(Clone, Copy, Debug)]
+enum Exact {
+    Point,
+    At(usize),
+}
+
 #[derive(Clone, Copy, Debug)]
 pub struct F {
     pub v: f64,
     pub low: f64,
     pub high: f64,
+    exact: Exact,
+}
+
+/// The exact run's value of an operation on two operands.
+fn exactly(a: F, b: F, f: impl FnOnce(&Fraction, &Fraction) -> Option<Fraction>) -> Exact {
+    if !EXACT.get() {
+        return Exact::Point;
+    }
+    let value = match (a.fraction(), b.fraction()) {
+        (Some(a), Some(b)) => f(&a, &b),
+        _ => None,
+    };
+    VALUES.with_borrow_mut(|values| {
+        values.push(value);
+        Exact::At(values.len() - 1)
+    })
 }
 
 /// The neighbour above: a step onto zero gives +0, from either zero it is 2^-1074.
@@ -39,14 +74,14 @@ fn down(x: f64) -> f64 {
 }
 
 /// The least and greatest corner, each moved outward; 8 if an end of an operand, a corner or a moved end is not finite.
-fn outward(v: f64, corners: [f64; 4], a: F, b: F) -> F {
+fn outward(v: f64, corners: [f64; 4], a: F, b: F, exact: Exact) -> F {
     let low = down(corners.into_iter().fold(f64::INFINITY, f64::min));
     let high = up(corners.into_iter().fold(f64::NEG_INFINITY, f64::max));
     let ends = [a.low, a.high, b.low, b.high, low, high];
     if !ends.into_iter().chain(corners).all(f64::is_finite) {
         EIGHT.set(true);
     }
-    F { v, low, high }
+    F { v, low, high, exact }
 }
 
 impl F {
@@ -54,7 +89,14 @@ impl F {
     pub const NAN: F = F::k(f64::NAN);
     /// A point: an input, a constant or an elementary answer.
     pub const fn k(x: f64) -> F {
-        F { v: x, low: x, high: x }
+        F { v: x, low: x, high: x, exact: Exact::Point }
+    }
+    /// The exact run's value: nothing after a divisor of 0, or where an input is not finite.
+    pub fn fraction(self) -> Option<Fraction> {
+        match self.exact {
+            Exact::Point => self.v.is_finite().then(|| Fraction::of(self.v)),
+            Exact::At(k) => VALUES.with_borrow(|values| values[k].clone()),
+        }
     }
     pub fn of(n: usize) -> F {
         F::k(n as f64)
@@ -85,21 +127,25 @@ platform!(sqrt, ln, ln_1p, exp, exp_m1, tanh);
 impl Neg for F {
     type Output = F;
     fn neg(self) -> F {
-        F { v: -self.v, low: -self.high, high: -self.low }
+        let exact = match self.exact {
+            Exact::Point => Exact::Point,
+            at => exactly(F::k(0.0), F { exact: at, ..self }, |zero, x| Some(zero.minus(x))),
+        };
+        F { v: -self.v, low: -self.high, high: -self.low, exact }
     }
 }
 macro_rules! corners {
-    ($($op:ident $f:ident $sign:tt),*) => { $(
+    ($($op:ident $f:ident $sign:tt $exact:ident),*) => { $(
         impl $op for F {
             type Output = F;
             fn $f(self, o: F) -> F {
                 let corners = [self.low $sign o.low, self.low $sign o.high, self.high $sign o.low, self.high $sign o.high];
-                outward(self.v $sign o.v, corners, self, o)
+                outward(self.v $sign o.v, corners, self, o, exactly(self, o, |a, b| Some(a.$exact(b))))
             }
         }
     )* };
 }
-corners!(Add add +, Sub sub -, Mul mul *);
+corners!(Add add + plus, Sub sub - minus, Mul mul * times);
 impl Div for F {
     type Output = F;
     fn div(self, o: F) -> F {
@@ -107,7 +153,7 @@ impl Div for F {
             EIGHT.set(true);
         }
         let corners = [self.low / o.low, self.low / o.high, self.high / o.low, self.high / o.high];
-        outward(self.v / o.v, corners, self, o)
+        outward(self.v / o.v, corners, self, o, exactly(self, o, Fraction::by))
     }
 }
 macro_rules! assigns {

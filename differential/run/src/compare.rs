@@ -14,7 +14,7 @@ pub fn judge<T>(
     outs: usize,
     number: u8,
     expected: &Result<T, u8>,
-    values: impl Fn(&T) -> Result<(), String>,
+    values: impl FnOnce(&T) -> Result<(), String>,
 ) {
     let wrong = match expected {
         _ if !c.lent.guards_kept() => Err("wrote beside a lent list".into()),

@@ -1,4 +1,5 @@
-//! The port beside the Rust, bit for bit. Options: --count N (cases), --seed S, --only CASE, --fuzz N (cases), --spread.
+//! The port beside the Rust, bit for bit. Options: --count N (cases), --seed S, --only CASE, --fuzz N (cases), --exact N (cases),
+//! --spread, --vectors FOLDER.
 #[cfg(feature = "unproved")]
 extern crate unproved;
 
@@ -6,6 +7,7 @@ extern crate unproved;
 mod calls;
 mod compare;
 mod elementary;
+mod exact;
 mod fuzz;
 mod lent;
 mod oracle;
@@ -15,6 +17,7 @@ mod selfcheck;
 mod spread;
 mod states;
 mod tally;
+mod vectors;
 
 use std::time::Instant;
 use tally::Tally;
@@ -29,6 +32,9 @@ fn main() {
     let (count, seed) = (option("--count").unwrap_or(10000), option("--seed").unwrap_or(1));
     if std::env::args().any(|w| w == "--spread") {
         return spread::run(count, seed);
+    }
+    if let Some(at) = std::env::args().position(|w| w == "--vectors") {
+        return vectors::write(&std::env::args().nth(at + 1).expect("--vectors wants a folder"));
     }
     let lacking: Vec<&str> = port::ALL.iter().filter(|f| !f.1).map(|f| f.0).collect();
     if !lacking.is_empty() {
@@ -46,6 +52,7 @@ fn main() {
     });
     part("elementary functions", &mut |t| elementary::run(50 * count, seed, t));
     part("operations", &mut |t| compare::run(count, seed, option("--only"), t));
+    part("exact run", &mut |t| exact::run(option("--exact").unwrap_or(count / 100), seed, t));
     part("arbitrary bits", &mut |t| fuzz::run(option("--fuzz").unwrap_or(count / 4), seed, t));
     tally.print("answers met");
     println!("{} passed, {} failed", tally.passed, tally.failed);

@@ -387,22 +387,26 @@ pub static ENDED: num_dual_ended::Functions = num_dual_ended::Functions {
 fn points(list: &[f64]) -> Vec<F> {
     list.iter().map(|x| F::k(*x)).collect()
 }
-/// The ends one after another: 6, 7 if a float result is not finite, 8.
-fn ends_of(results: &[F]) -> Result<Vec<f64>, u8> {
+/// The results: 6, 7 if a float result is not finite, 8.
+fn enclosed(results: &[F]) -> Result<Vec<F>, u8> {
     inside()?;
     finite(&results.iter().map(|r| r.v).collect::<Vec<_>>())?;
     if ends::take_eight() {
         return Err(8);
     }
     assert!(results.iter().all(|r| r.low <= r.v && r.v <= r.high), "a float result outside its ends");
-    Ok(results.iter().flat_map(|r| [r.low, r.high]).collect())
+    Ok(results.to_vec())
+}
+/// The ends one after another.
+fn ends_of(results: Result<Vec<F>, u8>) -> Result<Vec<f64>, u8> {
+    results.map(|list| list.iter().flat_map(|r| [r.low, r.high]).collect())
 }
 fn start_ends() {
     start();
     ends::take_eight();
 }
 
-pub fn vrq_energies_ends(s: &QuantumSet, st: &State, table: &[f64], non_additive: bool, out: usize) -> Result<Vec<f64>, u8> {
+pub fn vrq_energies_enclosed(s: &QuantumSet, st: &State, table: &[f64], non_additive: bool, out: usize) -> Result<Vec<F>, u8> {
     let n = s.count;
     lengths(out == 6)?;
     quantum_lists(s)?;
@@ -411,10 +415,13 @@ pub fn vrq_energies_ends(s: &QuantumSet, st: &State, table: &[f64], non_additive
     let p = ended_vrq::set(n, &points(&s.m), &points(&s.sheets), &s.orders);
     start_ends();
     let (x, rho) = (points(&st.fractions), points(&st.densities));
-    ends_of(&ended_vrq::energies(&p, &points(table), F::k(st.temperature), &x, &rho, non_additive))
+    enclosed(&ended_vrq::energies(&p, &points(table), F::k(st.temperature), &x, &rho, non_additive))
+}
+pub fn vrq_energies_ends(s: &QuantumSet, st: &State, table: &[f64], non_additive: bool, out: usize) -> Result<Vec<f64>, u8> {
+    ends_of(vrq_energies_enclosed(s, st, table, non_additive, out))
 }
 
-pub fn vrq_diameter_ends(s: &QuantumSet, i: usize, j: usize, t: f64, radii: [f64; 2], out: usize) -> Result<Vec<f64>, u8> {
+pub fn vrq_diameter_enclosed(s: &QuantumSet, i: usize, j: usize, t: f64, radii: [f64; 2], out: usize) -> Result<Vec<F>, u8> {
     lengths(out == 2)?;
     quantum_lists(s)?;
     lengths(count_right(s.count) && i < s.count && j < s.count)?;
@@ -422,26 +429,35 @@ pub fn vrq_diameter_ends(s: &QuantumSet, i: usize, j: usize, t: f64, radii: [f64
     let p = ended_vrq::set(s.count, &points(&s.m), &points(&s.sheets), &s.orders);
     start_ends();
     ends::set_r0(radii[1]);
-    ends_of(&[p.hs_diameter_ij(i, j, F::k(t), F::k(radii[0]))])
+    enclosed(&[p.hs_diameter_ij(i, j, F::k(t), F::k(radii[0]))])
+}
+pub fn vrq_diameter_ends(s: &QuantumSet, i: usize, j: usize, t: f64, radii: [f64; 2], out: usize) -> Result<Vec<f64>, u8> {
+    ends_of(vrq_diameter_enclosed(s, i, j, t, radii, out))
 }
 
-pub fn vr_dispersion_ends(s: &MieSet, st: &State, diameters: &[f64], chain: bool, out: usize) -> Result<Vec<f64>, u8> {
+pub fn vr_dispersion_enclosed(s: &MieSet, st: &State, diameters: &[f64], chain: bool, out: usize) -> Result<Vec<F>, u8> {
     let n = s.count;
     lengths(mie_set_right(s) && st.fractions.len() == n && st.densities.len() == n && diameters.len() == n && out == 2)?;
     limits(state_right(st))?;
     let p = ended_vr::set(n, &points(&s.lists), &points(&s.sheets));
     start_ends();
     let (x, rho) = (points(&st.fractions), points(&st.densities));
-    ends_of(&[ended_vr::dispersion(&p, &points(diameters), F::k(st.temperature), &x, &rho, chain)])
+    enclosed(&[ended_vr::dispersion(&p, &points(diameters), F::k(st.temperature), &x, &rho, chain)])
+}
+pub fn vr_dispersion_ends(s: &MieSet, st: &State, diameters: &[f64], chain: bool, out: usize) -> Result<Vec<f64>, u8> {
+    ends_of(vr_dispersion_enclosed(s, st, diameters, chain, out))
 }
 
-pub fn vr_diameter_ends(s: &MieSet, i: usize, j: usize, t: f64, r0: f64, out: usize) -> Result<Vec<f64>, u8> {
+pub fn vr_diameter_enclosed(s: &MieSet, i: usize, j: usize, t: f64, r0: f64, out: usize) -> Result<Vec<F>, u8> {
     lengths(mie_set_right(s) && i < s.count && j < s.count && out == 2)?;
     limits(temperature_right(t))?;
     let p = ended_vr::set(s.count, &points(&s.lists), &points(&s.sheets));
     start_ends();
     ends::set_r0(r0);
-    ends_of(&[p.hs_diameter_ij(i, j, F::k(1.0) / F::k(t))])
+    enclosed(&[p.hs_diameter_ij(i, j, F::k(1.0) / F::k(t))])
+}
+pub fn vr_diameter_ends(s: &MieSet, i: usize, j: usize, t: f64, r0: f64, out: usize) -> Result<Vec<f64>, u8> {
+    ends_of(vr_diameter_enclosed(s, i, j, t, r0, out))
 }
 
 /// Equal bits, all NaNs being one.

@@ -88,6 +88,10 @@ pub fn lists(g: &mut Random, quantum: bool) -> Lists {
 
 pub fn lists_of(g: &mut Random, quantum: bool, kind: Kind) -> Lists {
     let n = g.one_of(&[1, 1, 1, 2, 2, 2, 3, 3, 4, 5, 6, 7, 8]);
+    lists_with(g, quantum, kind, n)
+}
+
+pub fn lists_with(g: &mut Random, quantum: bool, kind: Kind, n: usize) -> Lists {
     let exponents: Vec<(f64, f64)> = (0..n).map(|_| exponents(g, kind)).collect();
     let epsilon = if quantum { (5.0, 60.0) } else { (90.0, 400.0) };
     let pair_kind = if g.once_in(8) { Kind::Ends } else { kind };
