@@ -1,13 +1,13 @@
 -- The ends that a two-ended operation gives enclose the float run and the exact run, whatever the formula and the elementary answers (demand 3). Assumes nothing.
 use Prim.Native.Nat.{ℕ}
-use mathlib.Core.Path.{_≡_, refl, sym, ap, subst}
+use mathlib.Core.Path.{_≡_, refl, sym, ap, _∙_, subst}
 use mathlib.Core.Bool.{Bool, true, false, cond}
 use mathlib.Core.Option.{some}
 use lib.Dec.{T}
 use lib.Ieee.{Float}
 use lib.Ieee.Scale.{finite}
 use Rattle.number.specs.Frac.{Frac, valF}
-use Rattle.number.specs.Ans.{Ans, held, refused, _>>=_}
+use Rattle.number.specs.Ans.{Ans, held, refused, _>>=_, demand}
 use Rattle.number.proofs.Rel.{Both, both-held, both-refused}
 use Rattle.interval.proofs.Encloses.{In}
 use Rattle.enclosure.specs.declared.Enclosure.{Enclosure}
@@ -44,7 +44,7 @@ held-encloses (both-held {x = b'} {y = v} p) (both-held {y = e} c) b h t =
     sound-encloses b v e (subst (λ (w : Enclosure). Value w v) z p) (subst (λ (w : Enclosure). Contains w e) z c) t
 held-encloses (both-refused {n = n}) c b h t = let z : _≡_ {A = Bool} true false = cc in absurd (subst T z tt)
 
-no-refusal : {n : ℕ} {e : Ends} → _≡_ {A = Ans Ends} (refused n) (held e) → ⊥
+pub no-refusal : {n : ℕ} {e : Ends} → _≡_ {A = Ans Ends} (refused n) (held e) → ⊥
 no-refusal {n = n} p = let z : _≡_ {A = Bool} true false = cc in subst T z tt
 
 module _ (e : Ends) where
@@ -92,3 +92,62 @@ module _ (b : Enclosure) where
   pub alone-held : finite (b .value) ≡ true → b .ends .sound ≡ true → held (endsIn b) ≡ endsAlone (held b)
   unfolding endsAlone endsOf _>>=_ orNotFinite orUnsound
   alone-held t u = rw (t, u)
+
+-- ---- an operation that finds its float result finite by itself
+abbrev pub found : Ans Float → Ans Float
+found a = a >>= λ d. demand 7 (finite d) >>= λ _. held d
+
+-- a result that was found finite is tested no second time
+twice : (d : Float) (k : Float → Ans Ends) → ((demand 7 (finite d) >>= λ _. held d) >>= orNotFinite >>= k) ≡ (orNotFinite d >>= k)
+unfolding demand orNotFinite _>>=_
+twice d k = go (finite d) refl
+  where
+    go : (b : Bool) → finite d ≡ b → ((demand 7 (finite d) >>= λ _. held d) >>= orNotFinite >>= k) ≡ (orNotFinite d >>= k)
+    go true p = rw (p, p)
+    go false p = rw p
+
+pub tested : (a : Ans Float) (b : Ans Enclosure) → endsOf (found a) b ≡ endsOf a b
+unfolding endsOf _>>=_
+tested (held d) b = twice d _
+tested (refused n) b = refl
+
+-- where ends are reported, the test left the result as it is
+pub untouched : (a : Ans Float) (b : Ans Enclosure) (e : Ends) → endsOf (found a) b ≡ held e → a ≡ found a
+unfolding endsOf demand _>>=_
+untouched (held d) b e h = go (finite d) refl
+  where
+    go : (c : Bool) → finite d ≡ c → held d ≡ (demand 7 (finite d) >>= λ _. held d)
+    go true p = rw p
+    go false p = let z : refused 7 ≡ endsOf (demand 7 (finite d) >>= λ _. held d) b = rw p in absurd (no-refusal (z ∙ h))
+untouched (refused n) b e h = refl
+
+-- ---- an operation of one result: indexes or lengths (1), limits (2), then its run
+abbrev pub operation : Bool → Bool → Ans Float → Ans Float
+operation x y float = demand 1 x >>= λ _. demand 2 y >>= λ _. found float
+
+module _ {float : Ans Float} {enclosure : Ans Enclosure} (K : Both Value enclosure float) (x y : Bool) where
+  pub operation-1 : x ≡ false → refused 1 ≡ endsOf (operation x y float) enclosure
+  unfolding endsOf demand _>>=_
+  operation-1 p = rw p
+
+  pub operation-2 : x ≡ true → y ≡ false → refused 2 ≡ endsOf (operation x y float) enclosure
+  unfolding endsOf demand _>>=_
+  operation-2 p q = rw (p, q)
+
+  -- the two-ended run alone gives the float operation's 6 and 7 too: what the code works
+  pub operation-alone : x ≡ true → y ≡ true → endsAlone enclosure ≡ endsOf (operation x y float) enclosure
+  unfolding demand _>>=_
+  operation-alone p q = rw (p, q) (alone-is K ∙ sym (tested float enclosure))
+
+  -- where ends are reported both demands were met, and the float operation reports what its run gives
+  pub operation-encloses : {exact : Ans Exact} → Both Contains enclosure exact → (e : Ends) → endsOf (operation x y float) enclosure ≡ held e → Encloses e (operation x y float) exact
+  unfolding demand _>>=_
+  operation-encloses {exact = exact} C e h = go x y refl refl
+    where
+      go : (a b : Bool) → x ≡ a → y ≡ b → Encloses e (operation x y float) exact
+      go true true p q =
+          let w : operation x y float ≡ found float = rw (p, q) in
+          let g : endsOf (found float) enclosure ≡ held e = ap (λ (a : Ans Float). endsOf a enclosure) (sym w) ∙ h in
+          subst (λ (a : Ans Float). Encloses e a exact) (untouched float enclosure e g ∙ sym w) (ends-enclose e K C (sym (tested float enclosure) ∙ g))
+      go true false p q = absurd (no-refusal (operation-2 p q ∙ h))
+      go false b p q = absurd (no-refusal (operation-1 p ∙ h))

@@ -15,7 +15,7 @@ use Rattle.saftvrqmie_potential.specs.Potential.{pairIn}
 use Rattle.saftvrqmie_potential.specs.declared.Pair.{Pair}
 use Rattle.saftvrqmie_searches.specs.Diameter.{diameter}
 use Rattle.saftvrqmie.specs.Table.{pairAt}
-use Rattle.saftvrqmie.specs.Pairs.{SearchesIn, pairSearches, searches, diameterIj}
+use Rattle.saftvrqmie.specs.Pairs.{SearchesIn, pairSearches, searches, diameterIjBy, diameterIj}
 
 module _ (s : SaftVRQMiePars) (i j : ℕ) (t : Float) where
   abbrev pair : Pair
@@ -27,7 +27,7 @@ module _ (s : SaftVRQMiePars) (i j : ℕ) (t : Float) where
 
   module _ (sigma-eff r0 : Float) where
     pub diameter-1 : indexWithin (s .count) i j ≡ false → refused 1 ≡ diameterIj s i j t sigma-eff r0
-    unfolding diameterIj demand _>>=_
+    unfolding diameterIjBy demand _>>=_
     diameter-1 p = rw p
 
   module _ (p : indexWithin (s .count) i j ≡ true) where
@@ -41,7 +41,7 @@ module _ (s : SaftVRQMiePars) (i j : ℕ) (t : Float) where
 
     module _ (sigma-eff r0 : Float) where
       pub diameter-2 : temperatureWithin t ≡ false → refused 2 ≡ diameterIj s i j t sigma-eff r0
-      unfolding diameterIj demand _>>=_
+      unfolding diameterIjBy demand _>>=_
       diameter-2 q = rw (p, q)
 
       module _ (q : temperatureWithin t ≡ true) (x : Pair) (e : x ≡ pair) (a : Ans Float) (h : a ≡ diameter floats (calls floats port) (pairIn x) sigma-eff r0) where
@@ -49,13 +49,13 @@ module _ (s : SaftVRQMiePars) (i j : ℕ) (t : Float) where
         here = sym (h ∙ ap (λ (x : Pair). diameter floats (calls floats port) (pairIn x) sigma-eff r0) e)
 
         pub diameter-6 : (k : ℕ) → a ≡ refused k → refused k ≡ diameterIj s i j t sigma-eff r0
-        unfolding diameterIj demand _>>=_
+        unfolding diameterIjBy demand _>>=_
         diameter-6 k g = rw (p, q, here, g)
 
         pub diameter-7 : (d : Float) → a ≡ held d → finite d ≡ false → refused 7 ≡ diameterIj s i j t sigma-eff r0
-        unfolding diameterIj demand _>>=_
+        unfolding diameterIjBy demand _>>=_
         diameter-7 d g f = rw (p, q, here, g, f)
 
         pub diameter-is : (d : Float) → a ≡ held d → finite d ≡ true → held d ≡ diameterIj s i j t sigma-eff r0
-        unfolding diameterIj demand _>>=_
+        unfolding diameterIjBy demand _>>=_
         diameter-is d g f = rw (p, q, here, g, f)

@@ -4,12 +4,13 @@ use lib.Ieee.{Float}
 use lib.Ieee.Scale.{finite}
 use Rattle.number.specs.Ans.{Ans, held, refused, _>>=_, demand}
 use Rattle.number.specs.Arith.{Arith, floats}
-use Rattle.number.specs.Functions.{Functions, calls}
+use Rattle.number.specs.Functions.{Functions, Answers, calls}
 use Rattle.number.specs.Side.{cell}
 use Rattle.elementary.specs.Port.{port}
 use Rattle.limits.specs.Limits.{indexWithin, temperatureWithin}
 use Rattle.saftvrqmie_parameters.specs.declared.SaftVRQMiePars.{SaftVRQMiePars}
 use Rattle.saftvrqmie_potential.specs.Potential.{PairIn, pairIn}
+use Rattle.saftvrqmie_potential.specs.declared.Pair.{Pair}
 use Rattle.saftvrqmie_searches.specs.Searches.{Counted, searchIn, sigmaEff, zeroIntegrand, epsilonKEff}
 use Rattle.saftvrqmie_searches.specs.Diameter.{diameter}
 use Rattle.saftvrqmie_properties.specs.Properties.{radiusOf}
@@ -52,11 +53,32 @@ searches s i j t =
     demand 2 (temperatureWithin t) >>= λ _.
     pairSearches floats (calls floats port) (pairIn (pairAt (s .sheets) (s .orders) t (cell i j)))
 
--- 1; 2 for the temperature; 6; 7 if the diameter is not finite. Both radii are read as they are
-unfoldable pub diameterIj : SaftVRQMiePars → ℕ → ℕ → Float → Float → Float → Ans Float
-diameterIj s i j t sigma-eff r0 =
+-- a pair as a run reads it: each number a point
+abbrev pub pointsOf : (A : Arith) → Pair → PairIn (A .Num)
+pointsOf A p =
+    record {
+      sigma = A .lit (p .sigma);
+      epsilon-k = A .lit (p .«epsilon_k»);
+      c = A .lit (p .c);
+      lr = A .lit (p .lr);
+      la = A .lit (p .la);
+      mass = A .lit (p .mass);
+      order = p .order;
+      temperature = A .lit (p .temperature);
+    }
+
+-- a run of the diameter from searched radii: the set's numbers, the temperature and both radii are read as they are
+abbrev pub diameterRun : (A : Arith) → Answers → SaftVRQMiePars → ℕ → ℕ → Float → Float → Float → Ans (A .Num)
+diameterRun A E s i j t sigma-eff r0 = diameter A (calls A E) (pointsOf A (pairAt (s .sheets) (s .orders) t (cell i j))) (A .lit sigma-eff) (A .lit r0)
+
+-- 1; 2 for the temperature; 6; 7 if the diameter is not finite; whatever the elementary functions answer
+unfoldable pub diameterIjBy : Answers → SaftVRQMiePars → ℕ → ℕ → Float → Float → Float → Ans Float
+diameterIjBy E s i j t sigma-eff r0 =
     demand 1 (indexWithin (s .count) i j) >>= λ _.
     demand 2 (temperatureWithin t) >>= λ _.
-    diameter floats (calls floats port) (pairIn (pairAt (s .sheets) (s .orders) t (cell i j))) sigma-eff r0 >>= λ d.
+    diameterRun floats E s i j t sigma-eff r0 >>= λ d.
     demand 7 (finite d) >>= λ _.
     held d
+
+abbrev pub diameterIj : SaftVRQMiePars → ℕ → ℕ → Float → Float → Float → Ans Float
+diameterIj = diameterIjBy port

@@ -152,10 +152,10 @@ pub fn alpha_ij(
     ensures { λ r. ⌜ answer r ≡ alpha enclosures (calls enclosures port) (pairIn p) «sigma_eff» «epsilon_k_eff» ⌝ }
 {
     let s = ratio(p.sigma, sigma_eff);
-    let EnclosureAnswer::Value(ra) = saftvrqmie_dispersion_terms_ends::powf(s, p.la) else {
+    let EnclosureAnswer::Value(ra) = elementary_ends::powf(s, p.la) else {
         return EnclosureAnswer::Outside;
     };
-    let EnclosureAnswer::Value(rr) = saftvrqmie_dispersion_terms_ends::powf(s, p.lr) else {
+    let EnclosureAnswer::Value(rr) = elementary_ends::powf(s, p.lr) else {
         return EnclosureAnswer::Outside;
     };
     let dmt = dmt_of(p);
@@ -299,13 +299,6 @@ pub fn chi(a: Enclosure, zeta_bar: Enclosure) -> Enclosure
     )
 }
 
-// An elementary call: the float run's answer as a point.
-fn exp(x: Enclosure) -> EnclosureAnswer
-    ensures { λ r. ⌜ answer r ≡ calls enclosures port .exp x ⌝ }
-{
-    enclosure::answered(elementary::exp(x.value), x)
-}
-
 pub fn third_order_perturbation_ij(
     epsilon_k_eff: Enclosure,
     a: Enclosure,
@@ -317,7 +310,7 @@ pub fn third_order_perturbation_ij(
         enclosure::mul(f4(a), zeta_bar),
         enclosure::mul(f5(a), enclosure::pow_up(zeta_bar, 2)),
     );
-    let EnclosureAnswer::Value(e) = exp(x) else {
+    let EnclosureAnswer::Value(e) = elementary_ends::exp(x) else {
         return EnclosureAnswer::Outside;
     };
     EnclosureAnswer::Value(enclosure::mul(

@@ -11,7 +11,8 @@ ghost use Rattle.saftvrqmie_potential.specs.Potential.{potential};
 ghost use Rattle.saftvrqmie_potential_ends.specs.Shared.{Sharing};
 ghost use Rattle.saftvrqmie_searches.specs.Diameter.{abscissas, weights, entry, nodeTurn, diameterBy, diameter};
 ghost use Rattle.saftvrqmie.specs.Table.{pairAt};
-ghost use Rattle.saftvrqmie_diameter_ends.specs.Operations.{pointsOf, diameterEnds};
+ghost use Rattle.saftvrqmie.specs.Pairs.{pointsOf};
+ghost use Rattle.saftvrqmie_diameter_ends.specs.Operations.{diameterEnds};
 use enclosure::Enclosure;
 use enclosure::EnclosureAnswer;
 use enclosure::EndsAnswer;
@@ -41,13 +42,6 @@ fn weight(k: usize) -> Enclosure
     enclosure::point(W_K21[k])
 }
 
-// An elementary call: the float run's answer as a point.
-fn exp(x: Enclosure) -> EnclosureAnswer
-    ensures { λ r. ⌜ answer r ≡ calls enclosures port .exp x ⌝ }
-{
-    enclosure::answered(elementary::exp(x.value), x)
-}
-
 // One node's part, added. Both derivatives are worked on the way.
 fn node(
     w: PairShared,
@@ -69,7 +63,10 @@ fn node(
     let PotentialEnclosuresAnswer::Value(v) = saftvrqmie_potential_ends::potential_at(w, r) else {
         return EnclosureAnswer::Outside;
     };
-    let EnclosureAnswer::Value(e) = exp(enclosure::div(enclosure::neg(v.u), temperature)) else {
+    let EnclosureAnswer::Value(e) = elementary_ends::exp(enclosure::div(
+        enclosure::neg(v.u),
+        temperature,
+    )) else {
         return EnclosureAnswer::Outside;
     };
     let one = enclosure::point(1.0);

@@ -171,13 +171,6 @@ fn b_of(
     )
 }
 
-// An elementary call: the float run's answer as a point.
-pub fn powf(x: Enclosure, y: Enclosure) -> EnclosureAnswer
-    ensures { λ r. ⌜ answer r ≡ calls enclosures port .powf x y ⌝ }
-{
-    enclosure::answered_two(elementary::powf(x.value, y.value), x, y)
-}
-
 pub fn combine_at(w: PairTerms, lambda: Enclosure) -> EnclosureAnswer
     ensures { λ r. ⌜ answer r ≡ combineAt w lambda ⌝ }
 {
@@ -185,13 +178,13 @@ pub fn combine_at(w: PairTerms, lambda: Enclosure) -> EnclosureAnswer
     let e3 = enclosure::sub(three, lambda);
     let four = enclosure::point(4.0);
     let e4 = enclosure::sub(four, lambda);
-    let EnclosureAnswer::Value(p) = powf(w.x0, lambda) else {
+    let EnclosureAnswer::Value(p) = elementary_ends::powf(w.x0, lambda) else {
         return EnclosureAnswer::Outside;
     };
-    let EnclosureAnswer::Value(p3) = powf(w.x0_eff, e3) else {
+    let EnclosureAnswer::Value(p3) = elementary_ends::powf(w.x0_eff, e3) else {
         return EnclosureAnswer::Outside;
     };
-    let EnclosureAnswer::Value(p4) = powf(w.x0_eff, e4) else {
+    let EnclosureAnswer::Value(p4) = elementary_ends::powf(w.x0_eff, e4) else {
         return EnclosureAnswer::Outside;
     };
     let int_as = sutherland_of(lambda, w.epsilon_k, eta_eff(lambda, w.zeta), p);

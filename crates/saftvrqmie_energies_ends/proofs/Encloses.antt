@@ -21,11 +21,8 @@ use Rattle.saftvrqmie_parameters.specs.declared.SaftVRQMiePars.{SaftVRQMiePars}
 use Rattle.saftvrqmie_energies.specs.Energies.{EnergiesIn, contributionsOf, energiesBy}
 use Rattle.saftvrqmie_energies.proofs.Relation.{EnergiesR, contributionsOf-rel}
 use Rattle.saftvrqmie_energies_ends.specs.Operation.{eachEnds, allSound, energiesEnds}
+use Rattle.saftvrqmie_energies_ends.specs.Encloses.{partOf, EachEncloses}
 use Rattle.saftvrqmie_energies_ends.proofs.Ways.{worked-values}
-
--- one contribution of a run
-abbrev pub partOf : {N : Type 0} → (EnergiesIn N → N) → Ans (EnergiesIn N) → Ans N
-partOf f a = a >>= λ v. held (f v)
 
 is-part : {N : Type 0} (f : EnergiesIn N → N) (a : Ans (EnergiesIn N)) (b : EnergiesIn N) → a ≡ held b → partOf f a ≡ held (f b)
 unfolding _>>=_
@@ -35,12 +32,6 @@ told-true : (b x : Bool) → demand 8 b ≡ held x → T b
 unfolding demand
 told-true true x h = tt
 told-true false x h = let z : _≡_ {A = Bool} true false = cc in subst T z tt
-
--- each contribution's ends enclose both runs of it
-pub record EachEncloses (e : EnergiesIn Ends) (float : Ans (EnergiesIn Float)) (exact : Ans (EnergiesIn Exact)) : Type 0 where
-  pub hard-sphere : Encloses (e .hard-sphere) (partOf (λ v. v .hard-sphere) float) (partOf (λ v. v .hard-sphere) exact)
-  pub dispersion : Encloses (e .dispersion) (partOf (λ v. v .dispersion) float) (partOf (λ v. v .dispersion) exact)
-  pub non-additive : Encloses (e .non-additive) (partOf (λ v. v .non-additive) float) (partOf (λ v. v .non-additive) exact)
 
 module _ {enclosure : Ans (EnergiesIn Enclosure)} {float : Ans (EnergiesIn Float)} {exact : Ans (EnergiesIn Exact)} (K : Both (EnergiesR Value) enclosure float) (C : Both (EnergiesR Contains) enclosure exact) (b : EnergiesIn Enclosure) (h : enclosure ≡ held b) where
   sound-each : T (allSound b) → EachEncloses (eachEnds b) float exact

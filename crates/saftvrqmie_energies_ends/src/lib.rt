@@ -222,19 +222,13 @@ fn hard_sphere_of(z: ZetaEnclosures, z23: Enclosure, l: Enclosure) -> Enclosure
     enclosure::div(enclosure::mul(sum, six), pi)
 }
 
-fn ln_1p(x: Enclosure) -> EnclosureAnswer
-    ensures { λ r. ⌜ answer r ≡ calls enclosures port .ln1p x ⌝ }
-{
-    enclosure::answered(elementary::ln_1p(x.value), x)
-}
-
 fn hard_sphere(n: usize, x: &[f64], rho: &[f64], table: &[f64], m: &[f64; 8]) -> EnclosureAnswer
     requires { ⌜ (n ≤ side) × (length (now x) ≡ n) × (length (now rho) ≡ n) × (length (now table) ≡ 4 * sheet) ⌝ }
     ensures { λ r. ⌜ answer r ≡ hardSphere enclosures (calls enclosures port) n (points enclosures (now (x .entry))) (points enclosures (now (rho .entry))) (diagonal (sheetOf enclosures (now (table .entry)) 1)) (points enclosures (now (m .entry))) ⌝ }
 {
     let z = zeta(n, rho, table, m);
     let v = enclosure::mul(z.z3, enclosure::point(-1.0));
-    let EnclosureAnswer::Value(l) = ln_1p(v) else {
+    let EnclosureAnswer::Value(l) = elementary_ends::ln_1p(v) else {
         return EnclosureAnswer::Outside;
     };
     let z23 = zeta_23(n, x, table, m);

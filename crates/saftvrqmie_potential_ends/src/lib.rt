@@ -235,10 +235,10 @@ fn after_shared(w: PairShared, v: PotentialEnclosures) -> PotentialEnclosures
 fn line_at(w: PairShared, r: Enclosure, er: Enclosure, ea: Enclosure) -> LineAnswer
     ensures { λ v. ⌜ (Sharing w → lineOf w v ≡ line enclosures (calls enclosures port) (pairIn (w .pair)) r er ea) ⌝ }
 {
-    let EnclosureAnswer::Value(rr) = saftvrqmie_dispersion_terms_ends::powf(r, er) else {
+    let EnclosureAnswer::Value(rr) = elementary_ends::powf(r, er) else {
         return LineAnswer::Outside;
     };
-    let EnclosureAnswer::Value(ra) = saftvrqmie_dispersion_terms_ends::powf(r, ea) else {
+    let EnclosureAnswer::Value(ra) = elementary_ends::powf(r, ea) else {
         return LineAnswer::Outside;
     };
     LineAnswer::Powers(LinePowers { rr: rr, ra: ra })
@@ -341,10 +341,10 @@ pub fn potential_at(w: PairShared, r: Enclosure) -> PotentialEnclosuresAnswer
 pub fn share(p: PairEnclosures) -> PairSharedAnswer
     ensures { λ v. ⌜ Shares p v ⌝ }
 {
-    let EnclosureAnswer::Value(sr) = saftvrqmie_dispersion_terms_ends::powf(p.sigma, p.lr) else {
+    let EnclosureAnswer::Value(sr) = elementary_ends::powf(p.sigma, p.lr) else {
         return PairSharedAnswer::Outside;
     };
-    let EnclosureAnswer::Value(sa) = saftvrqmie_dispersion_terms_ends::powf(p.sigma, p.la) else {
+    let EnclosureAnswer::Value(sa) = elementary_ends::powf(p.sigma, p.la) else {
         return PairSharedAnswer::Outside;
     };
     let d = saftvrqmie_alpha_ends::quantum_d(p.mass, p.temperature);
