@@ -16,7 +16,7 @@ use dual::Dual;
 use number::FloatAnswer;
 use saftvrmie_parameters::PairParameters;
 
-const PHI: [[f64; 7]; 6] = [
+pub const PHI: [[f64; 7]; 6] = [
     [
         7.5365557,
         -37.60463,
@@ -57,7 +57,7 @@ const PHI: [[f64; 7]; 6] = [
     ],
 ];
 
-const C: [[f64; 4]; 4] = [
+pub const C: [[f64; 4]; 4] = [
     [0.81096, 1.7888, -37.578, 92.284],
     [1.0205, -19.341, 151.26, -463.50],
     [-1.9057, 22.845, -228.14, 973.92],

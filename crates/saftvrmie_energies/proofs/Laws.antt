@@ -10,8 +10,10 @@ use mathlib.Core.Bool.{Bool, true, false, _&&_}
 use borrow.Author.Tests.{eqb-true}
 use Rattle.number.specs.Ans.{held, refused, _>>=_, demand}
 use Rattle.number.specs.Arith.{floats}
+use Rattle.number.specs.Functions.{calls}
 use Rattle.number.specs.Side.{side}
 use Rattle.number.specs.Walk.{turns}
+use Rattle.elementary.specs.Port.{port}
 use Rattle.limits.specs.Limits.{countWithin}
 use Rattle.mie_parameters.proofs.Laws.{and-left, and-right, count-high}
 use Rattle.saftvrmie_parameters.specs.declared.SaftVRMiePars.{SaftVRMiePars}
@@ -21,7 +23,7 @@ use Rattle.saftvrmie_dispersion.specs.Sutherland.{FluidIn}
 use Rattle.saftvrmie_dispersion.specs.Answer.{fluidDualIn}
 use Rattle.saftvrmie_dispersion.specs.declared.FluidDual.{FluidDual}
 use Rattle.saftvrmie_energies.specs.Properties.{afterLower}
-use Rattle.saftvrmie_energies.specs.Energies.{rightLists, withinLimits, energyRun, energy}
+use Rattle.saftvrmie_energies.specs.Energies.{rightLists, withinLimits, energyRun, energyBy, energy}
 
 same : {S : Type 0} (n : ℕ) (f : ℕ → S → S) (s : S) → ((i : ℕ) (x : S) → f i x ≡ x) → turns n f s ≡ s
 unfolding turns
@@ -58,24 +60,24 @@ module _ (n x rho d : ℕ) (p : rightLists n x rho d ≡ true) where
 -- ---- the operation
 module _ (s : SaftVRMiePars) (t : Float) (x rho d : List Float) (chain : Bool) where
   pub refuses-1 : rightLists (s .count) (length x) (length rho) (length d) ≡ false → refused 1 ≡ energy s t x rho d chain
-  unfolding energy demand _>>=_
+  unfolding energyBy demand _>>=_
   refuses-1 p = rw p
 
   module _ (p : rightLists (s .count) (length x) (length rho) (length d) ≡ true) where
     pub refuses-2 : withinLimits (s .count) t x rho ≡ false → refused 2 ≡ energy s t x rho d chain
-    unfolding energy demand _>>=_
+    unfolding energyBy demand _>>=_
     refuses-2 q = rw (p, q)
 
     module _ (q : withinLimits (s .count) t x rho ≡ true) where
-      pub refuses-6 : energyRun s t x rho d chain ≡ refused 6 → refused 6 ≡ energy s t x rho d chain
-      unfolding energy demand _>>=_
+      pub refuses-6 : energyRun floats (calls floats port) s t x rho d chain ≡ refused 6 → refused 6 ≡ energy s t x rho d chain
+      unfolding energyBy demand _>>=_
       refuses-6 r = rw (p, q, r)
 
-      module _ (v : Float) (r : energyRun s t x rho d chain ≡ held v) where
+      module _ (v : Float) (r : energyRun floats (calls floats port) s t x rho d chain ≡ held v) where
         pub refuses-7 : finite v ≡ false → refused 7 ≡ energy s t x rho d chain
-        unfolding energy demand _>>=_
+        unfolding energyBy demand _>>=_
         refuses-7 e = rw (p, q, r, e)
 
         pub holds : finite v ≡ true → held v ≡ energy s t x rho d chain
-        unfolding energy demand _>>=_
+        unfolding energyBy demand _>>=_
         holds e = rw (p, q, r, e)

@@ -1,20 +1,26 @@
 -- The properties and both energies keep every relation that their operations and calls keep. Assumes nothing.
 use Prim.Native.Nat.{ℕ, zero, suc, _+_}
-use lib.Ieee.{nan}
+use lib.Ieee.{Float, nan}
+use mathlib.Core.Path.{refl}
+use mathlib.Core.Bool.{Bool}
 use lib.ListN.{getD, set, replicate}
 use mathlib.Core.List.{List, [], _∷_}
 use Rattle.number.specs.Arith.{Arith, zero64}
 use Rattle.number.specs.Side.{side}
 use Rattle.number.specs.Functions.{Functions}
-use Rattle.number.proofs.Rel.{Rel, FunRel, Both, both-held, then-both, turns-rel, walk-rel}
+use Rattle.number.proofs.Rel.{Rel, FunRel, Both, both-held, then-both, cond-rel, turns-rel, walk-rel}
 use Rattle.dual.specs.Dual.{DualOf}
 use Rattle.dual.proofs.Relation.{Duals}
+use Rattle.saftvrmie_parameters.specs.declared.PairParameters.{PairParameters}
+use Rattle.saftvrmie_parameters.specs.declared.SaftVRMiePars.{SaftVRMiePars}
+use Rattle.saftvrmie_dispersion.specs.Answer.{pairIn}
 use Rattle.saftvrmie_dispersion.specs.Sutherland.{FluidIn}
 use Rattle.saftvrmie_dispersion.specs.Terms.{PairIn, BarIn, SumsIn}
 use Rattle.saftvrmie_dispersion.specs.Chain.{KIn, LinkIn}
 use Rattle.saftvrmie_dispersion.proofs.Relation.{Pairs, Fluids, Bars, AllSums, Ks, Links, kHs-rel, fluidOf-rel, barOf-rel, addPure-rel, addPair-rel, ordersSum-rel, fluidDual-rel, termsOf-rel, kOf-rel, chainPure-rel}
 use Rattle.saftvrmie_energies.specs.Properties.{PropertiesIn, total, weighted, xsOf, nth, dIj, d3Ij, s3Ij, zetaTurn, zetaRow, zetaSum, afterLower, properties}
 use Rattle.saftvrmie_energies.specs.Dispersion.{StateIn, noSums, pairTurn, pairRow, dispRow, chainRow, dispRows, chainRows, dispersion, dispersionChain}
+use Rattle.saftvrmie_energies.specs.Energies.{stateIn, energyRun}
 
 module _ {S T : Type 0} (R : S → T → Type 0) where
   pub record AllProperties (x : PropertiesIn S) (u : PropertiesIn T) : Type 0 where
@@ -154,3 +160,25 @@ module _ (A B : Arith) (K : Rel A B) where
           then-both
           (chainRows-rel n _ _ _ _ _ _ _ _ _ _ xs (h .diameter) (h .pair) w (barOf-rel A B K (q .zeta-x-bar)) _ _ (h .pure) _ _ _ _ _ _ v (q .k) (λ i. record { m = h .m i; fraction = h .fraction i; t-inv = it }))
           (λ _ _ a. both-held (r-mul (total-rel n _ _ (h .density)) (r-add (r-mul mean (ordersSum-rel A B K a it)) (a .a-chain)))))
+
+    -- every input enters by the run's lit
+    pair-rel : (p : PairParameters) → Pairs R (pairIn (A .lit) p) (pairIn (B .lit) p)
+    pair-rel p = record { sigma = r-lit _; epsilon-k = r-lit _; lr = r-lit _; la = r-lit _; c = r-lit _; alpha = r-lit _ }
+
+    state-rel : (s : SaftVRMiePars) (t : Float) (x rho d : List Float) → States R (stateIn (A .lit) s t x rho d) (stateIn (B .lit) s t x rho d)
+    state-rel s t x rho d =
+        record {
+          temperature = r-lit _;
+          fraction = λ i. r-lit _;
+          density = λ i. r-lit _;
+          diameter = λ i. r-lit _;
+          m = λ i. r-lit _;
+          pure = λ i. pair-rel _;
+          pair = λ i j. pair-rel _;
+        }
+
+    pub energyRun-rel : (s : SaftVRMiePars) (t : Float) (x rho d : List Float) (chain : Bool) → Both R (energyRun A F s t x rho d chain) (energyRun B G s t x rho d chain)
+    unfolding energyRun
+    energyRun-rel s t x rho d chain =
+        let h = state-rel s t x rho d in
+        cond-rel (Both R) chain chain refl (dispersionChain-rel (s .count) _ _ h) (dispersion-rel (s .count) _ _ h)

@@ -7,8 +7,8 @@ use lib.ListN.{length}
 use mathlib.Core.List.{List}
 use mathlib.Core.Bool.{Bool, _&&_, cond}
 use Rattle.number.specs.Ans.{Ans, held, refused, _>>=_, demand}
-use Rattle.number.specs.Arith.{floats}
-use Rattle.number.specs.Functions.{calls}
+use Rattle.number.specs.Arith.{Arith, floats}
+use Rattle.number.specs.Functions.{Answers, Functions, calls}
 use Rattle.number.specs.Lists.{at}
 use Rattle.number.specs.Side.{sheet, cell}
 use Rattle.elementary.specs.Port.{port}
@@ -85,16 +85,20 @@ rightLists n x rho d = countWithin n && eqb x n && eqb rho n && eqb d n
 unfoldable pub withinLimits : ℕ → Float → List Float → List Float → Bool
 withinLimits n t x rho = temperatureWithin t && sharesWithin n (at x) && sharesWithin n (at rho)
 
-unfoldable pub energyRun : SaftVRMiePars → Float → List Float → List Float → List Float → Bool → Ans Float
-energyRun p t x rho d chain =
-    let s = stateIn (λ v. v) p t x rho d in
-    cond chain (dispersionChain floats (calls floats port) (p .count) s) (dispersion floats (calls floats port) (p .count) s)
+-- dispersion, or dispersion with chain, in any run
+unfoldable pub energyRun : (A : Arith) → Functions (A .Num) → SaftVRMiePars → Float → List Float → List Float → List Float → Bool → Ans (A .Num)
+energyRun A F p t x rho d chain =
+    let s = stateIn (A .lit) p t x rho d in
+    cond chain (dispersionChain A F (p .count) s) (dispersion A F (p .count) s)
 
--- 1; 2; 6 anywhere on the way; then 7 if the energy is not finite
-unfoldable pub energy : SaftVRMiePars → Float → List Float → List Float → List Float → Bool → Ans Float
-energy p t x rho d chain =
+-- 1; 2; 6 anywhere on the way; then 7 if the energy is not finite, whatever the elementary functions answer
+unfoldable pub energyBy : Answers → SaftVRMiePars → Float → List Float → List Float → List Float → Bool → Ans Float
+energyBy E p t x rho d chain =
     demand 1 (rightLists (p .count) (length x) (length rho) (length d)) >>= λ _.
     demand 2 (withinLimits (p .count) t x rho) >>= λ _.
-    energyRun p t x rho d chain >>= λ v.
+    energyRun floats (calls floats E) p t x rho d chain >>= λ v.
     demand 7 (finite v) >>= λ _.
     held v
+
+abbrev pub energy : SaftVRMiePars → Float → List Float → List Float → List Float → Bool → Ans Float
+energy = energyBy port

@@ -94,7 +94,7 @@ fn d3_ij(d: &[f64], i: usize, j: usize) -> f64
     number::pow_up(d_ij(d, i, j), 3)
 }
 
-fn pair_at(s: &[f64; 384], i: usize, j: usize) -> PairParameters
+pub fn pair_at(s: &[f64; 384], i: usize, j: usize) -> PairParameters
     requires { ⌜ (i < side) × (j < side) ⌝ }
     ensures { λ r. ⌜ r ≡ pairAt (now (s .entry)) i j ⌝ }
 {
@@ -110,7 +110,7 @@ fn pair_at(s: &[f64; 384], i: usize, j: usize) -> PairParameters
 }
 
 // sigma, epsilon_k, lr and la of the component lists; c and alpha of the sheets' diagonal.
-fn pure_at(
+pub fn pure_at(
     sigma: &[f64; 8],
     epsilon_k: &[f64; 8],
     lr: &[f64; 8],
@@ -462,13 +462,13 @@ fn helmholtz_energy_density_disp_chain(
 
 // ---- the operation
 
-fn right_lists(n: usize, x: usize, rho: usize, d: usize) -> bool
+pub fn right_lists(n: usize, x: usize, rho: usize, d: usize) -> bool
     ensures { λ r. ⌜ r ≡ rightLists n x rho d ⌝ }
 {
     limits::count_within(n) & (x == n) & (rho == n) & (d == n)
 }
 
-fn within_limits(n: usize, temperature: f64, x: &[f64], rho: &[f64]) -> bool
+pub fn within_limits(n: usize, temperature: f64, x: &[f64], rho: &[f64]) -> bool
     requires { ⌜ (length (now x) ≡ n) × (length (now rho) ≡ n) ⌝ }
     ensures { λ r. ⌜ r ≡ withinLimits n temperature (now (x .entry)) (now (rho .entry)) ⌝ }
 {
@@ -486,7 +486,7 @@ fn work(
     chain: bool,
 ) -> FloatAnswer
     requires { ⌜ (set .count ≤ side) × (length (now x) ≡ set .count) × (length (now rho) ≡ set .count) × (length (now d) ≡ set .count) ⌝ }
-    ensures { λ r. ⌜ answer r ≡ energyRun set temperature (now (x .entry)) (now (rho .entry)) (now (d .entry)) chain ⌝ }
+    ensures { λ r. ⌜ answer r ≡ energyRun floats (calls floats port) set temperature (now (x .entry)) (now (rho .entry)) (now (d .entry)) chain ⌝ }
 {
     let n = set.count;
     let m = set.m;

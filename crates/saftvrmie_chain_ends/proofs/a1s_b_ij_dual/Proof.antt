@@ -1,0 +1,118 @@
+-- `saftvrmie_chain_ends::a1s_b_ij_dual` meets its contract. Assumes nothing.
+use Rattle.saftvrmie_dispersion.specs.Sutherland.{a1sB}
+use Rattle.enclosure.specs.Answer.{answer}
+use Rattle.number.specs.Ans.{_>>=_}
+use Rattle.number.proofs.Walk.{via}
+use Rattle.number.specs.Arith.{decimal}
+use lib.Ieee.{ofBits}
+use borrow.Author.Needs.{needs}
+use Rattle.saftvrmie_chain_ends.proofs.a1s_b_ij_dual.Statement.{statement}
+use Rattle.saftvrmie_chain_ends.proofs.a1s_b_ij_dual.Tie as tie
+
+powf-requires : tie.Need-powf-requires
+powf-requires c κs = search needs
+
+enum-known-p : tie.Need-enum-known-p
+enum-known-p c = search needs
+
+enum-told : tie.Need-enum-told
+enum-told c = search needs
+
+returns : tie.Need-returns
+unfolding a1sB _>>=_ decimal ofBits
+returns c =
+    rw
+    (via answer (c .before .before .powf .ensures) (c .enum-told .given .1))
+
+point-requires : tie.Need-point-requires
+point-requires c κs = search needs
+
+sub-requires : tie.Need-sub-requires
+sub-requires c κs = search needs
+
+powf-requires-2 : tie.Need-powf-requires-2
+powf-requires-2 c κs = search needs
+
+enum-known-p3 : tie.Need-enum-known-p3
+enum-known-p3 c = search needs
+
+enum-told-2 : tie.Need-enum-told-2
+enum-told-2 c = search needs
+
+returns-2 : tie.Need-returns-2
+unfolding a1sB _>>=_ decimal ofBits
+returns-2 c =
+    rw (
+      via answer (c .before .before .before .before .before .before .before .before .powf .ensures) (c .before .before .before .before .before .before .p .given .1),
+      ← c .before .before .before .before .point .ensures,
+      ← c .before .before .before .sub .ensures,
+      via answer (c .before .before .powf2 .ensures) (c .enum-told2 .given .1),
+    )
+
+point-requires-2 : tie.Need-point-requires-2
+point-requires-2 c κs = search needs
+
+sub-requires-2 : tie.Need-sub-requires-2
+sub-requires-2 c κs = search needs
+
+powf-requires-3 : tie.Need-powf-requires-3
+powf-requires-3 c κs = search needs
+
+enum-known-p4 : tie.Need-enum-known-p4
+enum-known-p4 c = search needs
+
+enum-told-3 : tie.Need-enum-told-3
+enum-told-3 c = search needs
+
+returns-3 : tie.Need-returns-3
+unfolding a1sB _>>=_ decimal ofBits
+returns-3 c =
+    rw (
+      via answer (c .before .before .before .before .before .before .before .before .before .before .before .before .before .before .powf .ensures) (c .before .before .before .before .before .before .before .before .before .before .before .before .p .given .1),
+      ← c .before .before .before .before .before .before .before .before .before .before .point .ensures,
+      ← c .before .before .before .before .before .before .before .before .before .sub .ensures,
+      via answer (c .before .before .before .before .before .before .before .before .powf2 .ensures) (c .before .before .before .before .before .before .p3 .given .1),
+      ← c .before .before .before .before .point2 .ensures,
+      ← c .before .before .before .sub2 .ensures,
+      via answer (c .before .before .powf3 .ensures) (c .enum-told3 .given .1),
+    )
+
+a1s-b-of-requires : tie.Need-a1s-b-of-requires
+a1s-b-of-requires c κs = search needs
+
+returns-4 : tie.Need-returns-4
+unfolding a1sB _>>=_ decimal ofBits
+returns-4 c =
+    rw (
+      via answer (c .before .before .before .before .before .before .before .before .before .before .before .before .before .before .before .before .powf .ensures) (c .before .before .before .before .before .before .before .before .before .before .before .before .before .before .p .given .1),
+      ← c .before .before .before .before .before .before .before .before .before .before .before .before .point .ensures,
+      ← c .before .before .before .before .before .before .before .before .before .before .before .sub .ensures,
+      via answer (c .before .before .before .before .before .before .before .before .before .before .powf2 .ensures) (c .before .before .before .before .before .before .before .before .p3 .given .1),
+      ← c .before .before .before .before .before .before .point2 .ensures,
+      ← c .before .before .before .before .before .sub2 .ensures,
+      via answer (c .before .before .before .before .powf3 .ensures) (c .before .before .p4 .given .1),
+      ← c .a1s-b-of .ensures,
+    )
+
+pub a1s-b-ij-dual-spec : {M : Type 1} → statement M
+a1s-b-ij-dual-spec =
+    tie.close
+    (tie.spec
+    powf-requires
+    enum-known-p
+    enum-told
+    returns
+    point-requires
+    sub-requires
+    powf-requires-2
+    enum-known-p3
+    enum-told-2
+    returns-2
+    point-requires-2
+    sub-requires-2
+    powf-requires-3
+    enum-known-p4
+    enum-told-3
+    returns-3
+    a1s-b-of-requires
+    returns-4)

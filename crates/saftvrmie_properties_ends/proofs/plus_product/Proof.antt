@@ -1,0 +1,20 @@
+-- `saftvrmie_properties_ends::plus_product` meets its contract. Assumes nothing.
+use borrow.Author.Needs.{needs}
+use Rattle.saftvrmie_properties_ends.proofs.plus_product.Statement.{statement}
+use Rattle.saftvrmie_properties_ends.proofs.plus_product.Tie as tie
+
+mul-requires : tie.Need-mul-requires
+mul-requires c κs = search needs
+
+add-requires : tie.Need-add-requires
+add-requires c κs = search needs
+
+returns : tie.Need-returns
+returns c =
+    rw (
+      c .add .ensures,
+      c .before .mul .ensures,
+    )
+
+pub plus-product-spec : {M : Type 1} → statement M
+plus-product-spec = tie.close (tie.spec mul-requires add-requires returns)

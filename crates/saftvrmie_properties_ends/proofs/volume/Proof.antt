@@ -1,0 +1,23 @@
+-- `saftvrmie_properties_ends::volume` meets its contract. Assumes nothing.
+use Rattle.number.specs.Arith.{decimal}
+use lib.Ieee.{ofBits}
+use borrow.Author.Needs.{needs}
+use Rattle.saftvrmie_properties_ends.proofs.volume.Statement.{statement}
+use Rattle.saftvrmie_properties_ends.proofs.volume.Tie as tie
+
+point-requires : tie.Need-point-requires
+point-requires c κs = search needs
+
+mul-requires : tie.Need-mul-requires
+mul-requires c κs = search needs
+
+returns : tie.Need-returns
+unfolding decimal ofBits
+returns c =
+    rw (
+      c .mul .ensures,
+      c .before .point .ensures,
+    )
+
+pub volume-spec : {M : Type 1} → statement M
+volume-spec = tie.close (tie.spec point-requires mul-requires returns)
