@@ -1,0 +1,40 @@
+-- Demand 3, whole: 'A float run and an exact run on fractions, given the same elementary answers call by call: wherever the port reports two ends, the exact run divides by no zero and both results lie between the ends or on them. Whatever is handed in, whatever the answers are. The ends equal, bit for bit, what the outward rules give, and are reported wherever no numbered refusal applies.'
+-- The contracts of the two-ended operations say that they answer `energiesEnds`, `dispersionEnds` and the two `diameterEnds` at the port's own answers.
+use Prim.Native.Nat.{ℕ}
+use lib.Ieee.{Float}
+use mathlib.Core.List.{List}
+use mathlib.Core.Bool.{Bool}
+use Rattle.number.specs.Functions.{Answers, calls}
+use Rattle.enclosure.specs.declared.Enclosure.{Enclosure}
+use Rattle.enclosure.specs.Enclosure.{enclosures}
+use Rattle.enclosure.specs.Exact.{exacts}
+use Rattle.enclosure.specs.Ends.{endsIn, Encloses}
+use Rattle.saftvrqmie_parameters.specs.declared.SaftVRQMiePars.{SaftVRQMiePars}
+use Rattle.saftvrqmie_energies.specs.Energies.{contributionsOf, energiesBy}
+use Rattle.saftvrqmie_energies_ends.specs.Operation.{allSound, eachEnds, energiesEnds}
+use Rattle.saftvrqmie_energies_ends.specs.Encloses.{EachEncloses}
+use Rattle.saftvrqmie.specs.Pairs as Quantum
+use Rattle.saftvrqmie_diameter_ends.specs.Operations as QuantumDiameter
+use Rattle.saftvrmie_parameters.specs.declared.SaftVRMiePars.{SaftVRMiePars}
+use Rattle.saftvrmie_energies.specs.Energies.{energyRun, energyBy}
+use Rattle.saftvrmie_energies_ends.specs.Operation.{dispersionEnds}
+use Rattle.saftvrmie.specs.Pairs as Mie
+use Rattle.saftvrmie_diameter_ends.specs.Operations as MieDiameter
+use Rattle.demand_three.specs.TwoEnded.{TwoEnded}
+
+abbrev pub isSound : Enclosure → Bool
+isSound b = b .ends .sound
+
+pub record Demand3 : Type 0 where
+  -- quantum: hard sphere, dispersion and, if wanted, non-additive
+  pub quantum-energies : (E : Answers) (s : SaftVRQMiePars) (t : Float) (x rho table : List Float) (wanted : Bool)
+      → TwoEnded allSound eachEnds EachEncloses (energiesBy E s t x rho table wanted) (contributionsOf enclosures (calls enclosures E) s t x rho table wanted) (contributionsOf exacts (calls exacts E) s t x rho table wanted) (energiesEnds E s t x rho table wanted)
+  -- quantum: a pair's diameter from its two searched radii
+  pub quantum-diameter : (E : Answers) (s : SaftVRQMiePars) (i j : ℕ) (t sigma-eff r0 : Float)
+      → TwoEnded isSound endsIn Encloses (Quantum.diameterIjBy E s i j t sigma-eff r0) (Quantum.diameterRun enclosures E s i j t sigma-eff r0) (Quantum.diameterRun exacts E s i j t sigma-eff r0) (QuantumDiameter.diameterEnds E s i j t sigma-eff r0)
+  -- SAFT-VR Mie: dispersion, and dispersion with chain
+  pub mie-dispersion : (E : Answers) (s : SaftVRMiePars) (t : Float) (x rho d : List Float) (chain : Bool)
+      → TwoEnded isSound endsIn Encloses (energyBy E s t x rho d chain) (energyRun enclosures (calls enclosures E) s t x rho d chain) (energyRun exacts (calls exacts E) s t x rho d chain) (dispersionEnds E s t x rho d chain)
+  -- SAFT-VR Mie: a pair's diameter from its reduced lower limit
+  pub mie-diameter : (E : Answers) (s : SaftVRMiePars) (i j : ℕ) (t r0 : Float)
+      → TwoEnded isSound endsIn Encloses (Mie.diameterIjBy E s i j t r0) (Mie.diameterRun enclosures E s i j t r0) (Mie.diameterRun exacts E s i j t r0) (MieDiameter.diameterEnds E s i j t r0)

@@ -1,0 +1,2 @@
+pub mod TwoEnded
+pub mod Demand
