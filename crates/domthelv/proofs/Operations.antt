@@ -26,9 +26,11 @@ use Rattle.stages.specs.Stages.{quantumStage}
 use Rattle.saftvrmie.specs.Diameters.{diameters}
 use Rattle.saftvrmie.specs.Pairs.{radiusIj}
 use Rattle.saftvrmie_energies.specs.Energies.{energy}
+use Rattle.saftvrmie_energies_ends.specs.Operation.{dispersionEnds}
+use Rattle.saftvrmie_diameter_ends.specs.Operations as MieDiameter
 use Rattle.domthelv.specs.Boundary.{status, stored}
 use Rattle.domthelv.specs.Sets.{quantumLengths, quantumSet, mieLengths, mieSet}
-use Rattle.domthelv.specs.Operations.{QuantumLent, MieLent, setWritten, vrqParameters, vrqTable, radiiLengths, radiiWritten, vrqRadii, energiesWritten, vrqEnergies, endsWritten, vrqEnergiesEnds, pairWritten, vrqDiameterEnds, vrqStage, mieWritten, vrParameters, vrDiameters, vrRadius, vrDispersion}
+use Rattle.domthelv.specs.Operations.{QuantumLent, MieLent, setWritten, vrqParameters, vrqTable, radiiLengths, radiiWritten, vrqRadii, energiesWritten, vrqEnergies, endsWritten, vrqEnergiesEnds, pairWritten, vrqDiameterEnds, vrqStage, mieWritten, vrParameters, vrDiameters, vrRadius, vrDispersion, vrDispersionEnds, vrDiameterEnds}
 
 -- an operation that gives a parameter answer and leaves its lists by `kept`
 verdict-status : {S : Type 0} (p : Ans S) → numberOf (verdict p) ≡ status p
@@ -218,3 +220,41 @@ module _ (n : ℕ) (lists sheets : List Float) where
   pub dispersion-is : (t : Float) (x rho d : List Float) (chain : Bool) (s : SaftVRMiePars) → mieSet n lists sheets ≡ held s → vrDispersion n lists sheets t x rho d chain ≡ energy s t x rho d chain
   unfolding vrDispersion _>>=_
   dispersion-is t x rho d chain s p = rw p
+
+module _ (n : ℕ) (lists sheets : List Float) (t : Float) (x rho d : List Float) (chain : Bool) (l : List Float) where
+  pub mie-dispersion-ends-1 : eqb (length l) 2 ≡ false → vrDispersionEnds n lists sheets t x rho d chain l ≡ refused 1
+  unfolding vrDispersionEnds demand _>>=_
+  mie-dispersion-ends-1 p = rw p
+
+  module _ (p : eqb (length l) 2 ≡ true) where
+    pub mie-dispersion-ends-set : (k : ℕ) → mieSet n lists sheets ≡ refused k → vrDispersionEnds n lists sheets t x rho d chain l ≡ refused k
+    unfolding vrDispersionEnds demand _>>=_
+    mie-dispersion-ends-set k q = rw (p, q)
+
+    module _ (s : SaftVRMiePars) (q : mieSet n lists sheets ≡ held s) where
+      pub mie-dispersion-ends-refused : (k : ℕ) → dispersionEnds port s t x rho d chain ≡ refused k → vrDispersionEnds n lists sheets t x rho d chain l ≡ refused k
+      unfolding vrDispersionEnds demand _>>=_
+      mie-dispersion-ends-refused k r = rw (p, q, r)
+
+      pub mie-dispersion-ends-held : (e : Ends) → dispersionEnds port s t x rho d chain ≡ held e → vrDispersionEnds n lists sheets t x rho d chain l ≡ held (pairWritten e l)
+      unfolding vrDispersionEnds demand _>>=_
+      mie-dispersion-ends-held e h = rw (p, q, h)
+
+module _ (n : ℕ) (lists sheets : List Float) (i j : ℕ) (t r0 : Float) (l : List Float) where
+  pub mie-diameter-ends-1 : eqb (length l) 2 ≡ false → vrDiameterEnds n lists sheets i j t r0 l ≡ refused 1
+  unfolding vrDiameterEnds demand _>>=_
+  mie-diameter-ends-1 p = rw p
+
+  module _ (p : eqb (length l) 2 ≡ true) where
+    pub mie-diameter-ends-set : (k : ℕ) → mieSet n lists sheets ≡ refused k → vrDiameterEnds n lists sheets i j t r0 l ≡ refused k
+    unfolding vrDiameterEnds demand _>>=_
+    mie-diameter-ends-set k q = rw (p, q)
+
+    module _ (s : SaftVRMiePars) (q : mieSet n lists sheets ≡ held s) where
+      pub mie-diameter-ends-refused : (k : ℕ) → MieDiameter.diameterEnds port s i j t r0 ≡ refused k → vrDiameterEnds n lists sheets i j t r0 l ≡ refused k
+      unfolding vrDiameterEnds demand _>>=_
+      mie-diameter-ends-refused k r = rw (p, q, r)
+
+      pub mie-diameter-ends-held : (e : Ends) → MieDiameter.diameterEnds port s i j t r0 ≡ held e → vrDiameterEnds n lists sheets i j t r0 l ≡ held (pairWritten e l)
+      unfolding vrDiameterEnds demand _>>=_
+      mie-diameter-ends-held e h = rw (p, q, h)

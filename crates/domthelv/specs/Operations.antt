@@ -23,6 +23,8 @@ use Rattle.stages.specs.Stages.{quantumStage}
 use Rattle.saftvrmie.specs.Diameters.{diameters}
 use Rattle.saftvrmie.specs.Pairs.{radiusIj}
 use Rattle.saftvrmie_energies.specs.Energies.{energy}
+use Rattle.saftvrmie_energies_ends.specs.Operation.{dispersionEnds}
+use Rattle.saftvrmie_diameter_ends.specs.Operations as MieDiameter
 use Rattle.domthelv.specs.Sets.{placed, ordersWritten, quantumLengths, quantumSet, mieLengths, mieSet, listsWritten}
 
 -- the lists that a quantum set is written into
@@ -124,3 +126,17 @@ vrRadius n lists sheets i j t = mieSet n lists sheets >>= λ s. radiusIj s i j t
 
 unfoldable pub vrDispersion : ℕ → List Float → List Float → Float → List Float → List Float → List Float → Bool → Ans Float
 vrDispersion n lists sheets t x rho d chain = mieSet n lists sheets >>= λ s. energy s t x rho d chain
+
+unfoldable pub vrDispersionEnds : ℕ → List Float → List Float → Float → List Float → List Float → List Float → Bool → List Float → Ans (List Float)
+vrDispersionEnds n lists sheets t x rho d chain l =
+    demand 1 (eqb (length l) 2) >>= λ _.
+    mieSet n lists sheets >>= λ s.
+    dispersionEnds port s t x rho d chain >>= λ e.
+    held (pairWritten e l)
+
+unfoldable pub vrDiameterEnds : ℕ → List Float → List Float → ℕ → ℕ → Float → Float → List Float → Ans (List Float)
+vrDiameterEnds n lists sheets i j t r0 l =
+    demand 1 (eqb (length l) 2) >>= λ _.
+    mieSet n lists sheets >>= λ s.
+    MieDiameter.diameterEnds port s i j t r0 >>= λ e.
+    held (pairWritten e l)

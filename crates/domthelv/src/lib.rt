@@ -9,7 +9,7 @@ ghost use lib.ListN.{length};
 ghost use Rattle.number.specs.Side.{side, sheet};
 ghost use Rattle.domthelv.specs.Boundary.{status, stored};
 ghost use Rattle.domthelv.specs.Sets.{copied, taken, placed, ordersWithin, ordersRead, ordersWritten, quantumLengths, quantumSet, mieLengths, mieSet, listsWritten};
-ghost use Rattle.domthelv.specs.Operations.{setWritten, vrqParameters, vrqTable, radiiWritten, radiiLengths, vrqRadii, energiesWritten, vrqEnergies, endsWritten, vrqEnergiesEnds, pairWritten, vrqDiameterEnds, vrqStage, mieWritten, vrParameters, vrDiameters, vrRadius, vrDispersion};
+ghost use Rattle.domthelv.specs.Operations.{setWritten, vrqParameters, vrqTable, radiiWritten, radiiLengths, vrqRadii, energiesWritten, vrqEnergies, endsWritten, vrqEnergiesEnds, pairWritten, vrqDiameterEnds, vrqStage, mieWritten, vrParameters, vrDiameters, vrRadius, vrDispersion, vrDispersionEnds, vrDiameterEnds};
 ghost use Rattle.stages.specs.Stages.{mieStage};
 ghost use Rattle.saftvrqmie_parameters.specs.Parameters as Quantum;
 ghost use Rattle.saftvrmie_parameters.specs.Parameters as Mie;
@@ -732,6 +732,78 @@ pub extern "C" fn domthelv_vr_dispersion(
         EnergyAnswer::Refused(n) => n,
         EnergyAnswer::Value(x) => {
             *out = x;
+            0
+        }
+    }
+}
+
+// Two ends of dispersion, with the chain where it is wanted. 1 for `out` and for the set's lists, then 1, 2, 6, 7, 8.
+#[no_mangle]
+pub extern "C" fn domthelv_vr_dispersion_ends(
+    count: usize,
+    lists: &[f64],
+    sheets: &[f64],
+    temperature: f64,
+    fractions: &[f64],
+    densities: &[f64],
+    diameters: &[f64],
+    chain: bool,
+    out: &mut [f64],
+) -> u8
+    ensures { λ r. ⌜ (r ≡ status (vrDispersionEnds count (now (lists .entry)) (now (sheets .entry)) temperature (now (fractions .entry)) (now (densities .entry)) (now (diameters .entry)) chain (now (out .entry)))) × (now (out .exit) ≡ stored (now (out .entry)) (vrDispersionEnds count (now (lists .entry)) (now (sheets .entry)) temperature (now (fractions .entry)) (now (densities .entry)) (now (diameters .entry)) chain (now (out .entry)))) ⌝ }
+{
+    if out.len() != 2 {
+        return 1;
+    }
+    let read = mie_set(count, lists, sheets);
+    let answer = read.answer;
+    let ParameterAnswer::Held = answer else {
+        return mie_parameters::number(answer);
+    };
+    let worked = saftvrmie_energies_ends::dispersion_ends(
+        read.set,
+        temperature,
+        fractions,
+        densities,
+        diameters,
+        chain,
+    );
+    match worked {
+        EndsAnswer::Refused(n) => n,
+        EndsAnswer::Held(e) => {
+            write_pair(e, out);
+            0
+        }
+    }
+}
+
+// Two ends of a pair's diameter from its reduced lower limit. 1 for `out` and for the set's lists, then 1, 2, 6, 7, 8.
+#[no_mangle]
+pub extern "C" fn domthelv_vr_diameter_ends(
+    count: usize,
+    lists: &[f64],
+    sheets: &[f64],
+    i: usize,
+    j: usize,
+    temperature: f64,
+    r0: f64,
+    out: &mut [f64],
+) -> u8
+    ensures { λ r. ⌜ (r ≡ status (vrDiameterEnds count (now (lists .entry)) (now (sheets .entry)) i j temperature r0 (now (out .entry)))) × (now (out .exit) ≡ stored (now (out .entry)) (vrDiameterEnds count (now (lists .entry)) (now (sheets .entry)) i j temperature r0 (now (out .entry)))) ⌝ }
+{
+    if out.len() != 2 {
+        return 1;
+    }
+    let read = mie_set(count, lists, sheets);
+    let answer = read.answer;
+    let ParameterAnswer::Held = answer else {
+        return mie_parameters::number(answer);
+    };
+    let worked = saftvrmie_diameter_ends::hs_diameter_ij_ends(read.set, i, j, temperature, r0);
+    match worked {
+        EndsAnswer::Refused(n) => n,
+        EndsAnswer::Held(e) => {
+            write_pair(e, out);
             0
         }
     }
