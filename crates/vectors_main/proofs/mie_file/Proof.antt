@@ -1,0 +1,102 @@
+-- `vectors_main::mie_file` meets its contract. Assumes nothing.
+use Prim.Native.Nat.{_≤_, _-_}
+use borrow.Author.Needs.{needs}
+use Rattle.vectors_main.proofs.mie_file.Statement.{statement}
+use Rattle.vectors_main.proofs.mie_file.Tie as tie
+
+abbrev Inv-loop : tie.InvT-loop
+Inv-loop fd t₀ head₀ bytes₀ d₀ set₀ turn₀ t head bytes d set turn = turn ≤ 1000000
+
+abbrev μ-loop : tie.MeasureT-loop
+μ-loop fd t₀ head₀ bytes₀ d₀ set₀ turn₀ t head bytes d set turn = 1000000 - turn
+
+refused-with-requires : tie.Need-refused-with-requires Inv-loop μ-loop
+refused-with-requires c κs = search needs
+
+loop-holds : tie.Need-loop-holds Inv-loop μ-loop
+loop-holds c = search needs
+
+next-record-requires : tie.Need-next-record-requires Inv-loop μ-loop
+next-record-requires c κs = search needs
+
+returns : tie.Need-returns Inv-loop μ-loop
+returns c = search needs
+
+head-word-requires : tie.Need-head-word-requires Inv-loop μ-loop
+head-word-requires c κs = search needs
+
+floats-of-requires : tie.Need-floats-of-requires Inv-loop μ-loop
+floats-of-requires c κs = search needs
+
+head-word-requires-2 : tie.Need-head-word-requires-2 Inv-loop μ-loop
+head-word-requires-2 c κs = search needs
+
+mie-parameters-of-requires : tie.Need-mie-parameters-of-requires Inv-loop μ-loop
+mie-parameters-of-requires c κs = search needs
+
+mie-set-told-requires : tie.Need-mie-set-told-requires Inv-loop μ-loop
+mie-set-told-requires c κs = search needs
+
+noted-requires : tie.Need-noted-requires Inv-loop μ-loop
+noted-requires c κs = search needs
+
+mie-diameters-requires : tie.Need-mie-diameters-requires Inv-loop μ-loop
+mie-diameters-requires c κs = search needs
+
+noted-requires-2 : tie.Need-noted-requires-2 Inv-loop μ-loop
+noted-requires-2 c κs = search needs
+
+mie-dispersion-requires : tie.Need-mie-dispersion-requires Inv-loop μ-loop
+mie-dispersion-requires c κs = search needs
+
+dispersion-row-requires : tie.Need-dispersion-row-requires Inv-loop μ-loop
+dispersion-row-requires c κs = search needs
+
+noted-requires-3 : tie.Need-noted-requires-3 Inv-loop μ-loop
+noted-requires-3 c κs = search needs
+
+mie-by-hand-requires : tie.Need-mie-by-hand-requires Inv-loop μ-loop
+mie-by-hand-requires c κs = search needs
+
+diameters-by-hand-requires : tie.Need-diameters-by-hand-requires Inv-loop μ-loop
+diameters-by-hand-requires c κs = search needs
+
+add-turn : tie.Need-add-turn Inv-loop μ-loop
+add-turn c = search needs
+
+loop-less : tie.Need-loop-less Inv-loop μ-loop
+loop-less c = search needs
+
+loop-again : tie.Need-loop-again Inv-loop μ-loop
+loop-again c = search needs
+
+returns-2 : tie.Need-returns-2 Inv-loop μ-loop
+returns-2 c = search needs
+
+pub mie-file-spec : {M : Type 1} → statement M
+mie-file-spec =
+    tie.close
+    (tie.spec
+    Inv-loop
+    μ-loop
+    refused-with-requires
+    loop-holds
+    next-record-requires
+    returns
+    head-word-requires
+    floats-of-requires
+    head-word-requires-2
+    mie-parameters-of-requires
+    mie-set-told-requires
+    noted-requires
+    mie-diameters-requires
+    noted-requires-2
+    mie-dispersion-requires
+    dispersion-row-requires
+    noted-requires-3
+    mie-by-hand-requires
+    diameters-by-hand-requires
+    add-turn
+    loop-less
+    loop-again
+    returns-2)
