@@ -1,0 +1,17 @@
+//! Links libdomthelv.a: from DOMTHELV_LIB_DIR, or from target/staticlib of the repository (`rt staticlib domthelv`).
+use std::{env, path::PathBuf};
+
+fn main() {
+    let folder = match env::var_os("DOMTHELV_LIB_DIR") {
+        Some(folder) => PathBuf::from(folder),
+        None => PathBuf::from(env::var_os("CARGO_MANIFEST_DIR").unwrap()).join("../target/staticlib"),
+    };
+    let library = folder.join("libdomthelv.a");
+    println!("cargo::rerun-if-env-changed=DOMTHELV_LIB_DIR");
+    println!("cargo::rerun-if-changed={}", library.display());
+    if !library.exists() {
+        println!("cargo::error=no {}: run `rt staticlib domthelv`, or set DOMTHELV_LIB_DIR", library.display());
+    }
+    println!("cargo::rustc-link-search=native={}", folder.display());
+    println!("cargo::rustc-link-lib=static=domthelv");
+}

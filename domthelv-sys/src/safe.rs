@@ -1,0 +1,497 @@
+//! The operations on slices. A refused call writes nothing.
+//!
+//! Temperatures are in kelvin, lengths in ångström, densities per cubic ångström, masses in kilograms; energies are densities of
+//! the reduced Helmholtz energy, per cubic ångström. Functions are small and inlined, so that only those in use are linked.
+use crate::raw;
+
+/// Why a call was refused. The first that applies is given.
+#[repr(u8)]
+#[derive(Clone, Copy, Debug, PartialEq, Eq, Hash)]
+pub enum Refusal {
+    /// A count or a list's length is outside: 1 to 8 components, lists as long as the count, pair lists its square, indexes below it.
+    Length = 1,
+    /// A number is outside its limit.
+    Limit = 2,
+    /// An m of the quantum model is not 1.
+    SegmentNumber = 3,
+    /// A Feynman-Hibbs order is above 2.
+    Order = 4,
+    /// The orders 1 and 2 meet in a pair.
+    MixedOrders = 5,
+    /// An elementary function's argument is outside its domain.
+    Domain = 6,
+    /// A result is not finite.
+    NotFinite = 7,
+    /// Two ends cannot be given: a divisor's ends enclose or touch zero, or an end is not finite.
+    NoEnds = 8,
+}
+
+impl Refusal {
+    /// The refusal of a number that the boundary gives; 0 is none, and others are never given.
+    pub fn of(number: u8) -> Option<Refusal> {
+        use Refusal::*;
+        [Length, Limit, SegmentNumber, Order, MixedOrders, Domain, NotFinite, NoEnds].into_iter().find(|r| *r as u8 == number)
+    }
+    pub fn number(self) -> u8 {
+        self as u8
+    }
+}
+
+impl std::fmt::Display for Refusal {
+    fn fmt(&self, f: &mut std::fmt::Formatter<'_>) -> std::fmt::Result {
+        let text = match self {
+            Refusal::Length => "a count or a list's length is outside",
+            Refusal::Limit => "a number is outside its limit",
+            Refusal::SegmentNumber => "an m of the quantum model is not 1",
+            Refusal::Order => "an order is above 2",
+            Refusal::MixedOrders => "orders 1 and 2 meet in a pair",
+            Refusal::Domain => "an elementary function's argument is outside its domain",
+            Refusal::NotFinite => "a result is not finite",
+            Refusal::NoEnds => "two ends cannot be given",
+        };
+        write!(f, "refused ({}): {text}", self.number())
+    }
+}
+impl std::error::Error for Refusal {}
+
+#[inline]
+fn given<T>(number: u8, value: T) -> Result<T, Refusal> {
+    match number {
+        0 => Ok(value),
+        n => Err(Refusal::of(n).expect("a number that the boundary does not give")),
+    }
+}
+
+// ---- elementary functions
+
+macro_rules! elementary {
+    ($($(#[$doc:meta])* $name:ident $raw:ident;)*) => {$(
+        $(#[$doc])*
+        #[inline]
+        pub fn $name(x: f64) -> Result<f64, Refusal> {
+            let mut out = 0.0;
+            let number = unsafe { raw::$raw(x, &mut out) };
+            given(number, out)
+        }
+    )*};
+}
+elementary! {
+    /// Correctly rounded; x from 0 up, finite.
+    sqrt domthelv_sqrt;
+    /// x positive, normal, finite.
+    ln domthelv_ln;
+    /// x above -1, at most 2^20.
+    ln_1p domthelv_ln_1p;
+    /// x from -700 to 700.
+    exp domthelv_exp;
+    /// x from -700 to 700.
+    exp_m1 domthelv_exp_m1;
+    /// x from -350 to 350.
+    tanh domthelv_tanh;
+}
+/// Base from 1/32 to 32, exponent from -192 to 192.
+#[inline]
+pub fn powf(base: f64, exponent: f64) -> Result<f64, Refusal> {
+    let mut out = 0.0;
+    let number = unsafe { raw::domthelv_powf(base, exponent, &mut out) };
+    given(number, out)
+}
+/// The whole power, by the binary digits of |n| from the lowest; 1 divided by that for a negative n.
+#[inline]
+pub fn powi(x: f64, n: i32) -> f64 {
+    unsafe { raw::domthelv_powi(x, n) }
+}
+
+// ---- what is handed in and out
+
+/// Lists of the components, each as long as the count, and pair lists of its square.
+#[derive(Clone, Copy, Debug)]
+pub struct QuantumComponents<'a> {
+    /// Segments: 1 each.
+    pub m: &'a [f64],
+    pub sigma: &'a [f64],
+    pub epsilon_k: &'a [f64],
+    pub lr: &'a [f64],
+    pub la: &'a [f64],
+    pub mass: &'a [f64],
+    /// Feynman-Hibbs orders, 0 to 2.
+    pub order: &'a [u8],
+    pub k_ij: &'a [f64],
+    pub l_ij: &'a [f64],
+}
+
+#[derive(Clone, Copy, Debug)]
+pub struct MieComponents<'a> {
+    pub m: &'a [f64],
+    pub sigma: &'a [f64],
+    pub epsilon_k: &'a [f64],
+    pub lr: &'a [f64],
+    pub la: &'a [f64],
+    pub k_ij: &'a [f64],
+    pub gamma_ij: &'a [f64],
+}
+
+/// A state: mole fractions need not sum to one.
+#[derive(Clone, Copy, Debug)]
+pub struct State<'a> {
+    pub temperature: f64,
+    pub fractions: &'a [f64],
+    pub densities: &'a [f64],
+}
+
+/// A quantum set. Entry (i, j) of a sheet stands at 8 i + j; sheets are sigma, epsilon_k, c, lambda_r, lambda_a, mass.
+#[derive(Clone, Debug)]
+pub struct QuantumSet {
+    pub count: usize,
+    pub m: [f64; 8],
+    pub sheets: [f64; 384],
+    pub orders: [u8; 64],
+}
+
+/// A set of SAFT-VR Mie: m, sigma, epsilon_k, lr, la, eight places each; sheets sigma, epsilon_k, lr, la, c, alpha.
+#[derive(Clone, Debug)]
+pub struct MieSet {
+    pub count: usize,
+    pub lists: [f64; 40],
+    pub sheets: [f64; 384],
+}
+
+/// Sheets sigma_eff, hs_diameter, epsilon_k_eff, quantum_d; counts of the searches for sigma, zero, depth, 20 where one was spent.
+#[derive(Clone, Debug)]
+pub struct Table {
+    pub values: [f64; 256],
+    pub counts: [u8; 192],
+}
+
+/// A pair's three searches: radius and last potential of each, and its count.
+#[derive(Clone, Copy, Debug, PartialEq)]
+pub struct Searches {
+    pub sigma: [f64; 2],
+    pub zero: [f64; 2],
+    pub depth: [f64; 2],
+    pub counts: [u8; 3],
+}
+
+#[derive(Clone, Copy, Debug, PartialEq)]
+pub struct Energies {
+    pub hard_sphere: f64,
+    pub dispersion: f64,
+    /// +0 where it was not wanted.
+    pub non_additive: f64,
+}
+
+/// Two ends that enclose the float result and the exact one.
+#[derive(Clone, Copy, Debug, PartialEq)]
+pub struct Ends {
+    pub low: f64,
+    pub high: f64,
+}
+
+#[derive(Clone, Copy, Debug, PartialEq)]
+pub struct EnergiesEnds {
+    pub hard_sphere: Ends,
+    pub dispersion: Ends,
+    pub non_additive: Ends,
+}
+
+// ---- quantum model (SAFT-VRQ Mie)
+
+/// The set of some components.
+#[inline]
+pub fn quantum_parameters(c: &QuantumComponents) -> Result<QuantumSet, Refusal> {
+    let mut s = QuantumSet { count: c.m.len(), m: [0.0; 8], sheets: [0.0; 384], orders: [0; 64] };
+    #[rustfmt::skip]
+    let number = unsafe {
+        raw::domthelv_vrq_parameters(
+            s.count, c.m.as_ptr(), c.m.len(), c.sigma.as_ptr(), c.sigma.len(), c.epsilon_k.as_ptr(), c.epsilon_k.len(),
+            c.lr.as_ptr(), c.lr.len(), c.la.as_ptr(), c.la.len(), c.mass.as_ptr(), c.mass.len(), c.order.as_ptr(), c.order.len(),
+            c.k_ij.as_ptr(), c.k_ij.len(), c.l_ij.as_ptr(), c.l_ij.len(), s.m.as_mut_ptr(), 8, s.sheets.as_mut_ptr(), 384,
+            s.orders.as_mut_ptr(), 64,
+        )
+    };
+    given(number, s)
+}
+
+/// From components to energies, with a table of its own.
+#[inline]
+pub fn quantum_stage(c: &QuantumComponents, s: &State, non_additive: bool) -> Result<Energies, Refusal> {
+    let mut out = [0.0; 3];
+    #[rustfmt::skip]
+    let number = unsafe {
+        raw::domthelv_vrq_stage(
+            c.m.len(), c.m.as_ptr(), c.m.len(), c.sigma.as_ptr(), c.sigma.len(), c.epsilon_k.as_ptr(), c.epsilon_k.len(),
+            c.lr.as_ptr(), c.lr.len(), c.la.as_ptr(), c.la.len(), c.mass.as_ptr(), c.mass.len(), c.order.as_ptr(), c.order.len(),
+            c.k_ij.as_ptr(), c.k_ij.len(), c.l_ij.as_ptr(), c.l_ij.len(), s.temperature, s.fractions.as_ptr(), s.fractions.len(),
+            s.densities.as_ptr(), s.densities.len(), non_additive, out.as_mut_ptr(), 3,
+        )
+    };
+    given(number, Energies { hard_sphere: out[0], dispersion: out[1], non_additive: out[2] })
+}
+
+impl QuantumSet {
+    /// The temperature table.
+    #[inline]
+    pub fn table(&self, temperature: f64) -> Result<Table, Refusal> {
+        let mut t = Table { values: [0.0; 256], counts: [0; 192] };
+        #[rustfmt::skip]
+        let number = unsafe {
+            raw::domthelv_vrq_table(
+                self.count, self.m.as_ptr(), 8, self.sheets.as_ptr(), 384, self.orders.as_ptr(), 64, temperature,
+                t.values.as_mut_ptr(), 256, t.counts.as_mut_ptr(), 192,
+            )
+        };
+        given(number, t)
+    }
+
+    /// The three searches of a pair.
+    #[inline]
+    pub fn searches(&self, i: usize, j: usize, temperature: f64) -> Result<Searches, Refusal> {
+        let (mut out, mut counts) = ([0.0; 6], [0; 3]);
+        #[rustfmt::skip]
+        let number = unsafe {
+            raw::domthelv_vrq_radii(
+                self.count, self.m.as_ptr(), 8, self.sheets.as_ptr(), 384, self.orders.as_ptr(), 64, i, j, temperature,
+                out.as_mut_ptr(), 6, counts.as_mut_ptr(), 3,
+            )
+        };
+        given(number, Searches { sigma: [out[0], out[1]], zero: [out[2], out[3]], depth: [out[4], out[5]], counts })
+    }
+
+    /// Energies from a table (256 floats) that was made or filled by hand.
+    #[inline]
+    pub fn energies(&self, s: &State, table: &[f64], non_additive: bool) -> Result<Energies, Refusal> {
+        let mut out = [0.0; 3];
+        #[rustfmt::skip]
+        let number = unsafe {
+            raw::domthelv_vrq_energies(
+                self.count, self.m.as_ptr(), 8, self.sheets.as_ptr(), 384, self.orders.as_ptr(), 64, s.temperature,
+                s.fractions.as_ptr(), s.fractions.len(), s.densities.as_ptr(), s.densities.len(), table.as_ptr(), table.len(),
+                non_additive, out.as_mut_ptr(), 3,
+            )
+        };
+        given(number, Energies { hard_sphere: out[0], dispersion: out[1], non_additive: out[2] })
+    }
+
+    /// Two ends of the energies.
+    #[inline]
+    pub fn energies_ends(&self, s: &State, table: &[f64], non_additive: bool) -> Result<EnergiesEnds, Refusal> {
+        let mut out = [0.0; 6];
+        #[rustfmt::skip]
+        let number = unsafe {
+            raw::domthelv_vrq_energies_ends(
+                self.count, self.m.as_ptr(), 8, self.sheets.as_ptr(), 384, self.orders.as_ptr(), 64, s.temperature,
+                s.fractions.as_ptr(), s.fractions.len(), s.densities.as_ptr(), s.densities.len(), table.as_ptr(), table.len(),
+                non_additive, out.as_mut_ptr(), 6,
+            )
+        };
+        let at = |k: usize| Ends { low: out[2 * k], high: out[2 * k + 1] };
+        given(number, EnergiesEnds { hard_sphere: at(0), dispersion: at(1), non_additive: at(2) })
+    }
+
+    /// Two ends of a pair's diameter from its searched radii.
+    #[inline]
+    pub fn diameter_ends(&self, i: usize, j: usize, temperature: f64, sigma_eff: f64, r0: f64) -> Result<Ends, Refusal> {
+        let mut out = [0.0; 2];
+        #[rustfmt::skip]
+        let number = unsafe {
+            raw::domthelv_vrq_diameter_ends(
+                self.count, self.m.as_ptr(), 8, self.sheets.as_ptr(), 384, self.orders.as_ptr(), 64, i, j, temperature, sigma_eff,
+                r0, out.as_mut_ptr(), 2,
+            )
+        };
+        given(number, Ends { low: out[0], high: out[1] })
+    }
+}
+
+// ---- SAFT-VR Mie
+
+/// The set of some components.
+#[inline]
+pub fn mie_parameters(c: &MieComponents) -> Result<MieSet, Refusal> {
+    let mut s = MieSet { count: c.m.len(), lists: [0.0; 40], sheets: [0.0; 384] };
+    #[rustfmt::skip]
+    let number = unsafe {
+        raw::domthelv_vr_parameters(
+            s.count, c.m.as_ptr(), c.m.len(), c.sigma.as_ptr(), c.sigma.len(), c.epsilon_k.as_ptr(), c.epsilon_k.len(),
+            c.lr.as_ptr(), c.lr.len(), c.la.as_ptr(), c.la.len(), c.k_ij.as_ptr(), c.k_ij.len(), c.gamma_ij.as_ptr(),
+            c.gamma_ij.len(), s.lists.as_mut_ptr(), 40, s.sheets.as_mut_ptr(), 384,
+        )
+    };
+    given(number, s)
+}
+
+/// From components to the dispersion, with the chain where it is wanted; the diameters are worked on the way.
+#[inline]
+pub fn mie_stage(c: &MieComponents, s: &State, chain: bool) -> Result<f64, Refusal> {
+    let mut out = 0.0;
+    #[rustfmt::skip]
+    let number = unsafe {
+        raw::domthelv_vr_stage(
+            c.m.len(), c.m.as_ptr(), c.m.len(), c.sigma.as_ptr(), c.sigma.len(), c.epsilon_k.as_ptr(), c.epsilon_k.len(),
+            c.lr.as_ptr(), c.lr.len(), c.la.as_ptr(), c.la.len(), c.k_ij.as_ptr(), c.k_ij.len(), c.gamma_ij.as_ptr(),
+            c.gamma_ij.len(), s.temperature, s.fractions.as_ptr(), s.fractions.len(), s.densities.as_ptr(), s.densities.len(), chain,
+            &mut out,
+        )
+    };
+    given(number, out)
+}
+
+impl MieSet {
+    /// The components' diameters into a list as long as the count.
+    #[inline]
+    pub fn diameters(&self, temperature: f64, out: &mut [f64]) -> Result<(), Refusal> {
+        #[rustfmt::skip]
+        let number = unsafe {
+            raw::domthelv_vr_diameters(
+                self.count, self.lists.as_ptr(), 40, self.sheets.as_ptr(), 384, temperature, out.as_mut_ptr(), out.len(),
+            )
+        };
+        given(number, ())
+    }
+
+    /// A pair's reduced r0, the lower limit of its diameter's integral.
+    #[inline]
+    pub fn radius(&self, i: usize, j: usize, temperature: f64) -> Result<f64, Refusal> {
+        let mut out = 0.0;
+        #[rustfmt::skip]
+        let number = unsafe {
+            raw::domthelv_vr_radius(self.count, self.lists.as_ptr(), 40, self.sheets.as_ptr(), 384, i, j, temperature, &mut out)
+        };
+        given(number, out)
+    }
+
+    /// Dispersion, with the chain where it is wanted, from diameters.
+    #[inline]
+    pub fn dispersion(&self, s: &State, diameters: &[f64], chain: bool) -> Result<f64, Refusal> {
+        let mut out = 0.0;
+        #[rustfmt::skip]
+        let number = unsafe {
+            raw::domthelv_vr_dispersion(
+                self.count, self.lists.as_ptr(), 40, self.sheets.as_ptr(), 384, s.temperature, s.fractions.as_ptr(),
+                s.fractions.len(), s.densities.as_ptr(), s.densities.len(), diameters.as_ptr(), diameters.len(), chain, &mut out,
+            )
+        };
+        given(number, out)
+    }
+
+    /// Two ends of the same.
+    #[inline]
+    pub fn dispersion_ends(&self, s: &State, diameters: &[f64], chain: bool) -> Result<Ends, Refusal> {
+        let mut out = [0.0; 2];
+        #[rustfmt::skip]
+        let number = unsafe {
+            raw::domthelv_vr_dispersion_ends(
+                self.count, self.lists.as_ptr(), 40, self.sheets.as_ptr(), 384, s.temperature, s.fractions.as_ptr(),
+                s.fractions.len(), s.densities.as_ptr(), s.densities.len(), diameters.as_ptr(), diameters.len(), chain,
+                out.as_mut_ptr(), 2,
+            )
+        };
+        given(number, Ends { low: out[0], high: out[1] })
+    }
+
+    /// Two ends of a pair's diameter from its reduced r0.
+    #[inline]
+    pub fn diameter_ends(&self, i: usize, j: usize, temperature: f64, r0: f64) -> Result<Ends, Refusal> {
+        let mut out = [0.0; 2];
+        #[rustfmt::skip]
+        let number = unsafe {
+            raw::domthelv_vr_diameter_ends(
+                self.count, self.lists.as_ptr(), 40, self.sheets.as_ptr(), 384, i, j, temperature, r0, out.as_mut_ptr(), 2,
+            )
+        };
+        given(number, Ends { low: out[0], high: out[1] })
+    }
+}
+
+#[cfg(test)]
+mod tests {
+    use super::*;
+
+    const ZERO: [f64; 4] = [0.0; 4];
+    fn hydrogen_and_neon(n: usize) -> QuantumComponents<'static> {
+        QuantumComponents {
+            m: &[1.0, 1.0][..n],
+            sigma: &[3.0243, 2.7778][..n],
+            epsilon_k: &[26.706, 37.501][..n],
+            lr: &[9.0, 13.0][..n],
+            la: &[6.0, 6.0][..n],
+            mass: &[3.3474472e-27, 3.35092e-26][..n],
+            order: &[1, 1][..n],
+            k_ij: &ZERO[..n * n],
+            l_ij: &ZERO[..n * n],
+        }
+    }
+    fn ethane_and_methane() -> MieComponents<'static> {
+        MieComponents {
+            m: &[1.4373, 1.0],
+            sigma: &[3.7257, 3.7412],
+            epsilon_k: &[206.12, 153.36],
+            lr: &[12.4, 12.65],
+            la: &[6.0, 6.0],
+            k_ij: &ZERO,
+            gamma_ij: &ZERO,
+        }
+    }
+    fn close(a: f64, b: f64) -> bool {
+        (a - b).abs() <= 1e-11 * b.abs()
+    }
+
+    #[test]
+    fn elementary_functions_answer_and_refuse() {
+        assert_eq!(sqrt(2.25), Ok(1.5));
+        assert_eq!(sqrt(-1.0), Err(Refusal::Domain));
+        assert_eq!(powf(32.0, 1.0), Ok(32.0));
+        assert_eq!(powf(32.0f64.next_up(), 1.0), Err(Refusal::Domain));
+        assert_eq!(ln_1p(-1.0), Err(Refusal::Domain));
+        assert_eq!(powi(2.0, 5), 32.0);
+    }
+
+    #[test]
+    fn hydrogen_and_neon_have_their_known_energies_within_their_ends() {
+        let set = quantum_parameters(&hydrogen_and_neon(2)).unwrap();
+        let table = set.table(30.0).unwrap();
+        let state = State { temperature: 30.0, fractions: &[0.5, 0.5], densities: &[0.01, 0.01] };
+        let e = set.energies(&state, &table.values, true).unwrap();
+        assert!(close(e.hard_sphere, 0.0317091953986) && close(e.dispersion, -0.0707546404806) && close(e.non_additive, 0.000543401006029));
+        assert_eq!(quantum_stage(&hydrogen_and_neon(2), &state, true), Ok(e));
+        let ends = set.energies_ends(&state, &table.values, true).unwrap();
+        for (x, ends) in [(e.hard_sphere, ends.hard_sphere), (e.dispersion, ends.dispersion), (e.non_additive, ends.non_additive)] {
+            assert!(ends.low <= x && x <= ends.high && ends.high - ends.low < 1e-9);
+        }
+        let s = set.searches(0, 1, 30.0).unwrap();
+        assert_eq!(s.sigma[0], table.values[1]);
+        let d = set.diameter_ends(0, 1, 30.0, s.sigma[0], s.zero[0]).unwrap();
+        assert!(d.low <= table.values[65] && table.values[65] <= d.high);
+    }
+
+    #[test]
+    fn ethane_and_methane_have_their_known_energies() {
+        let set = mie_parameters(&ethane_and_methane()).unwrap();
+        let mut d = [0.0; 2];
+        set.diameters(200.0, &mut d).unwrap();
+        assert!(close(d[0], 3.62927155125) && close(d[1], 3.62348866077));
+        let state = State { temperature: 200.0, fractions: &[0.4, 0.6], densities: &[0.003, 0.004] };
+        assert!(close(set.dispersion(&state, &d, false).unwrap(), -0.0206772971504));
+        assert!(close(set.dispersion(&state, &d, true).unwrap(), -0.0207175328474));
+        assert!(set.radius(0, 1, 200.0).unwrap() > 0.5);
+    }
+
+    #[test]
+    fn each_refusal_of_the_parameters_has_its_name() {
+        let right = hydrogen_and_neon(2);
+        let refused = |c: QuantumComponents| quantum_parameters(&c).unwrap_err();
+        assert_eq!(refused(QuantumComponents { sigma: &[3.0], ..right }), Refusal::Length);
+        assert_eq!(refused(QuantumComponents { sigma: &[3.0, 17.0], ..right }), Refusal::Limit);
+        assert_eq!(refused(QuantumComponents { m: &[1.0, 2.0], ..right }), Refusal::SegmentNumber);
+        assert_eq!(refused(QuantumComponents { order: &[0, 3], ..right }), Refusal::Order);
+        assert_eq!(refused(QuantumComponents { order: &[1, 2], ..right }), Refusal::MixedOrders);
+        let close = [6.0, f64::from_bits(6.0f64.to_bits() + 1)];
+        assert_eq!(refused(QuantumComponents { lr: &[close[1], 13.0], ..right }), Refusal::Domain);
+        let set = quantum_parameters(&right).unwrap();
+        assert_eq!(set.table(0.5).unwrap_err(), Refusal::Limit);
+        let state = State { temperature: 30.0, fractions: &[0.5, 0.5], densities: &[0.0, 0.0] };
+        let table = set.table(30.0).unwrap();
+        assert_eq!(set.energies(&state, &table.values, true), Err(Refusal::NotFinite));
+        assert_eq!((0..=255).filter_map(Refusal::of).map(Refusal::number).collect::<Vec<_>>(), [1, 2, 3, 4, 5, 6, 7, 8]);
+    }
+}
