@@ -24,8 +24,7 @@ use Rattle.saftvrqmie_diameter_ends.proofs.Encloses as QuantumEncloses
 use Rattle.saftvrmie_parameters.specs.declared.SaftVRMiePars.{SaftVRMiePars}
 use Rattle.saftvrmie_energies.specs.Energies as MieEnergies
 use Rattle.saftvrmie_energies_ends.specs.Operation.{dispersionEnds}
-use Rattle.saftvrmie_energies_ends.proofs.Ways as MieWays
-use Rattle.saftvrmie_energies_ends.proofs.Encloses.{dispersion-encloses}
+use Rattle.saftvrmie_energies_ends.proofs.Encloses as DispersionEncloses
 use Rattle.saftvrmie.specs.Pairs as Mie
 use Rattle.saftvrmie_diameter_ends.specs.Operations as MieDiameter
 use Rattle.saftvrmie_diameter_ends.proofs.Encloses as MieEncloses
@@ -63,9 +62,7 @@ module _ (E : Answers) (s : SaftVRMiePars) (t : Float) (x rho d : List Float) (c
       let q = MieEnergies.withinLimits (s .count) t x rho in
       let a = MieEnergies.energyRun floats (calls floats E) s t x rho d chain in
       let run = MieEnergies.energyRun enclosures (calls enclosures E) s t x rho d chain in
-      let exact = MieEnergies.energyRun exacts (calls exacts E) s t x rho d chain in
-      two-ended isSound endsIn Encloses p q finite a run exact (dispersionEnds E s t x rho d chain) refl (MieWays.run-values E s t x rho d chain)
-      (of-operation isSound endsIn Encloses p q finite a run exact (dispersionEnds E s t x rho d chain) refl (dispersion-encloses E s t x rho d chain))
+      two-ended isSound endsIn Encloses p q finite a run (MieEnergies.energyRun exacts (calls exacts E) s t x rho d chain) (dispersionEnds E s t x rho d chain) (answered-is p q a run) (DispersionEncloses.run-values E s t x rho d chain) (DispersionEncloses.dispersion-encloses E s t x rho d chain)
 
 module _ (E : Answers) (s : SaftVRMiePars) (i j : ℕ) (t r0 : Float) where
   mie-diameter : TwoEnded isSound endsIn Encloses (Mie.diameterIjBy E s i j t r0) (Mie.diameterRun enclosures E s i j t r0) (Mie.diameterRun exacts E s i j t r0) (MieDiameter.diameterEnds E s i j t r0)

@@ -1,76 +1,28 @@
--- The ways of a contribution, and of the operation test by test, over plain values. Assumes nothing.
+-- The ways of the operation, test by test, over plain values. Assumes nothing.
 use Prim.Native.Nat.{ℕ, _*_, _≤_}
 use lib.Dec.{eqb}
-use lib.Ieee.{Float, ofBits, neg}
+use lib.Ieee.{Float}
 use lib.ListN.{length}
 use mathlib.Core.List.{List}
 use mathlib.Core.Path.{_≡_}
 use mathlib.Core.Bool.{Bool, true, false, _&&_, cond}
 use borrow.Author.Tests.{eqb-true}
 use Rattle.number.specs.Ans.{Ans, held, refused, _>>=_, demand}
-use Rattle.number.specs.Answer.{answer}
-use Rattle.number.specs.Arith.{floats, decimal, zero64}
-use Rattle.number.specs.Functions.{Functions, calls, answered}
+use Rattle.number.specs.Arith.{floats, zero64}
+use Rattle.number.specs.Functions.{Functions, calls}
 use Rattle.number.specs.Side.{side, sheet}
-use Rattle.number.proofs.Walk.{via}
-use Rattle.number.specs.declared.FloatAnswer.{FloatAnswer}
-use Rattle.number.specs.declared.FloatAnswer.the-variants.{Value, Outside}
 use Rattle.elementary.specs.Port.{port}
 use Rattle.limits.specs.Limits.{countWithin}
 use Rattle.mie_parameters.proofs.Laws.{and-left, and-right, count-high}
 use Rattle.saftvrqmie_parameters.specs.declared.SaftVRQMiePars.{SaftVRQMiePars}
-use Rattle.saftvrqmie_potential.specs.Potential.{whole}
-use Rattle.saftvrqmie_energies.specs.State.{SheetsIn, sheetsOf, points, sheetOf, diagonal, nth, segmentDensity}
-use Rattle.saftvrqmie_energies.specs.HardSphere.{ZetaIn, zeta, frac1mz3, zeta23, hardSphereOf, hardSphere}
-use Rattle.saftvrqmie_energies.specs.NonAdditive.{nonAdditiveSum, densityShares, nonAdditive}
-use Rattle.saftvrqmie_energies.specs.Dispersion.{MixtureIn, segmentFractions, perturbation, alphas, first, second, third, mixture, dispersion}
+use Rattle.saftvrqmie_energies.specs.State.{SheetsIn, sheetsOf, points, sheetOf, diagonal}
+use Rattle.saftvrqmie_energies.specs.HardSphere.{hardSphere}
+use Rattle.saftvrqmie_energies.specs.NonAdditive.{nonAdditive}
+use Rattle.saftvrqmie_energies.specs.Dispersion.{dispersion}
 use Rattle.saftvrqmie_energies.specs.Energies.{EnergiesIn, contributions, allFinite, rightLengths, withinLimits, energiesBy, energies}
 
 abbrev F : Functions Float
 F = calls floats port
-
-module _ (n : ℕ) (x rho d m : ℕ → Float) (z : ZetaIn Float) (is-z : z ≡ zeta floats F n rho d m) (a : FloatAnswer) (is-a : answer a ≡ port .ln1p (floats .mul (z .z3) (neg (whole floats 1)))) where
-  pub hs-outside : a ≡ Outside → refused 6 ≡ hardSphere floats F n x rho d m
-  unfolding hardSphere answered _>>=_ decimal ofBits neg
-  hs-outside g = rw (← is-z, via answer is-a g)
-
-  pub hs-held : (l z23 r : Float) → a ≡ Value l → z23 ≡ zeta23 floats n x d m → r ≡ hardSphereOf floats F z z23 l → held r ≡ hardSphere floats F n x rho d m
-  unfolding hardSphere answered _>>=_ decimal ofBits neg
-  hs-held l z23 r g h e = rw (← is-z, via answer is-a g, ← h, e)
-
-pub non-additive-is : (n : ℕ) (rho m d : ℕ → Float) (z : ZetaIn Float) (xs : List Float) (rho-s f v : Float) → z ≡ zeta floats F n rho (diagonal d) m → rho-s ≡ segmentDensity floats n rho m → xs ≡ densityShares floats F n rho-s rho m
-    → f ≡ frac1mz3 floats (z .z3) → v ≡ nonAdditiveSum floats F n (nth floats xs) d rho-s (z .z2) f → floats .mul rho-s v ≡ nonAdditive floats F n rho m d
-unfolding nonAdditive
-non-additive-is n rho m d z xs rho-s f v is-z is-rho is-xs is-f is-v = rw (← is-z, ← is-rho, ← is-xs, ← is-f, ← is-v)
-
-module _ (s : SheetsIn Float) (x rho m : ℕ → Float) (t : Float) (xs : List Float) (is-xs : xs ≡ segmentFractions floats (s .count) x m)
-    (w : MixtureIn Float) (is-w : w ≡ mixture floats F (s .count) (s .sigma-eff) (s .hs-diameter) (nth floats xs) rho m) where
-  abbrev result : Ans Float
-  result = dispersion floats F s x rho m t
-
-  pub no-alphas : (k : ℕ) → alphas floats F s ≡ refused k → refused k ≡ result
-  unfolding dispersion _>>=_
-  no-alphas k p = rw p
-
-  module _ (l : List Float) (is-l : alphas floats F s ≡ held l) where
-    pub no-first : (k : ℕ) → first floats F s (nth floats xs) w ≡ refused k → refused k ≡ result
-    unfolding dispersion _>>=_
-    no-first k p = rw (is-l, ← is-xs, ← is-w, p)
-
-    module _ (a1 : Float) (is-a1 : first floats F s (nth floats xs) w ≡ held a1) where
-      pub no-second : (k : ℕ) → second floats F s (nth floats xs) w (nth floats l) ≡ refused k → refused k ≡ result
-      unfolding dispersion _>>=_
-      no-second k p = rw (is-l, ← is-xs, ← is-w, is-a1, p)
-
-      module _ (a2 : Float) (is-a2 : second floats F s (nth floats xs) w (nth floats l) ≡ held a2) where
-        pub no-third : (k : ℕ) → third floats F (s .count) (s .epsilon-k-eff) (nth floats xs) (w .zeta-bar) (nth floats l) ≡ refused k → refused k ≡ result
-        unfolding dispersion _>>=_
-        no-third k p = rw (is-l, ← is-xs, ← is-w, is-a1, is-a2, p)
-
-        pub dispersion-is : (a3 ns v : Float) → third floats F (s .count) (s .epsilon-k-eff) (nth floats xs) (w .zeta-bar) (nth floats l) ≡ held a3 → ns ≡ segmentDensity floats (s .count) rho m → v ≡ perturbation floats t a1 a2 a3
-            → held (floats .mul ns v) ≡ result
-        unfolding dispersion _>>=_
-        dispersion-is a3 ns v p q r = rw (is-l, ← is-xs, ← is-w, is-a1, is-a2, p, ← q, ← r)
 
 -- what the first test says
 pub record Right (n : ℕ) (x rho table : List Float) : Type 0 where

@@ -3,7 +3,7 @@ use borrow.Author.Tests.{not-true, not-false}
 use Rattle.number.proofs.Walk.{told}
 use Rattle.elementary.specs.Port.{port}
 use Rattle.saftvrmie_energies.proofs.Laws.{right-high, right-x, right-rho, right-d}
-use Rattle.saftvrmie_energies_ends.proofs.Ways.{refuses-1, refuses-2, ends-are}
+use Rattle.saftvrmie_energies_ends.proofs.Encloses.{refuses-1, refuses-2, ends-are}
 use borrow.Author.Needs.{needs}
 use Rattle.saftvrmie_energies_ends.proofs.dispersion_ends.Statement.{statement}
 use Rattle.saftvrmie_energies_ends.proofs.dispersion_ends.Tie as tie

@@ -1,12 +1,13 @@
 -- `saftvrqmie_energies::alphas_of` meets its contract. Assumes nothing.
+use mathlib.Core.Bool.{false}
 use Rattle.saftvrqmie_energies.specs.Dispersion.{alphaRow}
-use Rattle.saftvrqmie_energies.proofs.Turns.{as-refused, was-held, was-refused}
+use Rattle.saftvrqmie_energies.proofs.Turns.{left-refused, was-held, was-refused}
 use borrow.Author.Tests.{not-true, not-false}
 use Rattle.number.specs.Arith.{floats}
 use Rattle.elementary.specs.Port.{port}
 use Rattle.number.specs.Functions.{calls}
 use Prim.Native.Nat.{_≤_, _-_}
-use mathlib.Core.Path.{_≡_}
+use mathlib.Core.Path.{_≡_, refl}
 use Rattle.number.specs.Walk.{walk}
 use Rattle.number.specs.Ans.{held}
 use Rattle.number.proofs.Walk.{walk-none, walk-next, walk-stop, walk-end}
@@ -28,7 +29,7 @@ alpha-row-requires : tie.Need-alpha-row-requires Inv-loop μ-loop
 alpha-row-requires c κs = search needs
 
 returns : tie.Need-returns Inv-loop μ-loop
-returns c = as-refused _ _ (walk-stop _ _ _ _ _ _ ((c .before .before .before .loop-test) .taken) ((c .before .before .before .before .loop) .inv .1) (was-refused _ _ _ ((c .before .alpha-row) .ensures) (not-true _ ((c .if1) .taken))))
+returns c = left-refused false _ _ refl (walk-stop _ _ _ _ _ _ ((c .before .before .before .loop-test) .taken) ((c .before .before .before .before .loop) .inv .1) (was-refused _ _ _ ((c .before .alpha-row) .ensures) (not-true _ ((c .if1) .taken))))
 
 add-i : tie.Need-add-i Inv-loop μ-loop
 add-i c = search needs

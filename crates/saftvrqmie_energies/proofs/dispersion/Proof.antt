@@ -1,10 +1,10 @@
 -- `saftvrqmie_energies::dispersion` meets its contract. Assumes nothing.
-use Rattle.saftvrqmie_energies.proofs.Ways.{no-alphas, no-first, no-second, no-third, dispersion-is}
+use mathlib.Core.Path.{refl}
 use Rattle.number.specs.Answer.{answer}
 use Rattle.saftvrqmie_energies.specs.Dispersion.{alphas}
-use Rattle.saftvrqmie_energies.proofs.Turns.{was-held, was-refused}
+use Rattle.saftvrqmie_energies.proofs.Turns.{was-held, was-refused, no-alphas, no-first, no-second, no-third, dispersion-is}
 use borrow.Author.Tests.{not-true, not-false}
-use Rattle.number.specs.Arith.{decimal}
+use Rattle.number.specs.Arith.{decimal, floats}
 use lib.Ieee.{ofBits}
 use Rattle.number.proofs.Walk.{via}
 use borrow.Author.Needs.{needs}
@@ -22,7 +22,7 @@ alphas-of-requires c κs = search needs
 
 returns : tie.Need-returns
 unfolding alphas decimal ofBits
-returns c = no-alphas _ _ _ _ _ _ ((c .before .before .before .before .before .segment-fractions) .ensures) _ ((c .before .before .before .mixture) .ensures) _ (was-refused _ _ _ ((c .before .alphas-of) .ensures) (not-true _ ((c .if1) .taken)))
+returns c = no-alphas floats _ _ _ _ _ _ _ ((c .before .before .before .before .before .segment-fractions) .ensures) _ ((c .before .before .before .mixture) .ensures) _ (was-refused _ _ _ ((c .before .alphas-of) .ensures) (not-true _ ((c .if1) .taken)))
 
 first-requires : tie.Need-first-requires
 first-requires c κs = search needs
@@ -35,7 +35,7 @@ enum-told c = search needs
 
 returns-2 : tie.Need-returns-2
 unfolding alphas decimal ofBits
-returns-2 c = no-first _ _ _ _ _ _ ((c .before .before .before .before .before .before .before .before .before .segment-fractions) .ensures) _ ((c .before .before .before .before .before .before .before .mixture) .ensures) _ (was-held _ _ _ ((c .before .before .before .before .before .alphas-of) .ensures) (not-false _ ((c .before .before .before .before .if1) .left))) _ (via answer ((c .before .before .first) .ensures) ((c .enum-told) .given .1))
+returns-2 c = no-first floats _ _ _ _ _ _ _ ((c .before .before .before .before .before .before .before .before .before .segment-fractions) .ensures) _ ((c .before .before .before .before .before .before .before .mixture) .ensures) _ (was-held _ _ _ ((c .before .before .before .before .before .alphas-of) .ensures) (not-false _ ((c .before .before .before .before .if1) .left))) _ (via answer ((c .before .before .first) .ensures) ((c .enum-told) .given .1))
 
 second-requires : tie.Need-second-requires
 second-requires c κs = search needs
@@ -48,7 +48,7 @@ enum-told-2 c = search needs
 
 returns-3 : tie.Need-returns-3
 unfolding alphas decimal ofBits
-returns-3 c = no-second _ _ _ _ _ _ ((c .before .before .before .before .before .before .before .before .before .before .before .before .before .before .before .segment-fractions) .ensures) _ ((c .before .before .before .before .before .before .before .before .before .before .before .before .before .mixture) .ensures) _ (was-held _ _ _ ((c .before .before .before .before .before .before .before .before .before .before .before .alphas-of) .ensures) (not-false _ ((c .before .before .before .before .before .before .before .before .before .before .if1) .left))) _ (via answer ((c .before .before .before .before .before .before .before .before .first) .ensures) ((c .before .before .before .before .before .before .a1) .given .1)) _ (via answer ((c .before .before .second) .ensures) ((c .enum-told2) .given .1))
+returns-3 c = no-second floats _ _ _ _ _ _ _ ((c .before .before .before .before .before .before .before .before .before .before .before .before .before .before .before .segment-fractions) .ensures) _ ((c .before .before .before .before .before .before .before .before .before .before .before .before .before .mixture) .ensures) _ (was-held _ _ _ ((c .before .before .before .before .before .before .before .before .before .before .before .alphas-of) .ensures) (not-false _ ((c .before .before .before .before .before .before .before .before .before .before .if1) .left))) _ (via answer ((c .before .before .before .before .before .before .before .before .first) .ensures) ((c .before .before .before .before .before .before .a1) .given .1)) _ (via answer ((c .before .before .second) .ensures) ((c .enum-told2) .given .1))
 
 third-requires : tie.Need-third-requires
 third-requires c κs = ((c .before .before .before .before .before .before .before .before .before .before .before .before .before .before .before .before .before .before .before .before .before .before .pre) .0, (c .before .before .before .before .before .before .before .before .before .before .before .before .before .before .before .before .before .before .before .before .before .before .pre) .1)
@@ -61,7 +61,7 @@ enum-told-3 c = search needs
 
 returns-4 : tie.Need-returns-4
 unfolding alphas decimal ofBits
-returns-4 c = no-third _ _ _ _ _ _ ((c .before .before .before .before .before .before .before .before .before .before .before .before .before .before .before .before .before .before .before .before .before .segment-fractions) .ensures) _ ((c .before .before .before .before .before .before .before .before .before .before .before .before .before .before .before .before .before .before .before .mixture) .ensures) _ (was-held _ _ _ ((c .before .before .before .before .before .before .before .before .before .before .before .before .before .before .before .before .before .alphas-of) .ensures) (not-false _ ((c .before .before .before .before .before .before .before .before .before .before .before .before .before .before .before .before .if1) .left))) _ (via answer ((c .before .before .before .before .before .before .before .before .before .before .before .before .before .before .first) .ensures) ((c .before .before .before .before .before .before .before .before .before .before .before .before .a1) .given .1)) _ (via answer ((c .before .before .before .before .before .before .before .before .second) .ensures) ((c .before .before .before .before .before .before .a2) .given .1)) _ (via answer ((c .before .before .third) .ensures) ((c .enum-told3) .given .1))
+returns-4 c = no-third floats _ _ _ _ _ _ _ ((c .before .before .before .before .before .before .before .before .before .before .before .before .before .before .before .before .before .before .before .before .before .segment-fractions) .ensures) _ ((c .before .before .before .before .before .before .before .before .before .before .before .before .before .before .before .before .before .before .before .mixture) .ensures) _ (was-held _ _ _ ((c .before .before .before .before .before .before .before .before .before .before .before .before .before .before .before .before .before .alphas-of) .ensures) (not-false _ ((c .before .before .before .before .before .before .before .before .before .before .before .before .before .before .before .before .if1) .left))) _ (via answer ((c .before .before .before .before .before .before .before .before .before .before .before .before .before .before .first) .ensures) ((c .before .before .before .before .before .before .before .before .before .before .before .before .a1) .given .1)) _ (via answer ((c .before .before .before .before .before .before .before .before .second) .ensures) ((c .before .before .before .before .before .before .a2) .given .1)) _ (via answer ((c .before .before .third) .ensures) ((c .enum-told3) .given .1))
 
 segment-density-requires : tie.Need-segment-density-requires
 segment-density-requires c κs = ((c .before .before .before .before .before .before .before .before .before .before .before .before .before .before .before .before .before .before .before .before .before .before .before .before .before .before .pre) .0, (c .before .before .before .before .before .before .before .before .before .before .before .before .before .before .before .before .before .before .before .before .before .before .before .before .before .before .pre) .3)
@@ -71,7 +71,7 @@ perturbation-requires c κs = search needs
 
 returns-5 : tie.Need-returns-5
 unfolding alphas decimal ofBits
-returns-5 c = dispersion-is _ _ _ _ _ _ ((c .before .before .before .before .before .before .before .before .before .before .before .before .before .before .before .before .before .before .before .before .before .before .before .before .segment-fractions) .ensures) _ ((c .before .before .before .before .before .before .before .before .before .before .before .before .before .before .before .before .before .before .before .before .before .before .mixture) .ensures) _ (was-held _ _ _ ((c .before .before .before .before .before .before .before .before .before .before .before .before .before .before .before .before .before .before .before .before .alphas-of) .ensures) (not-false _ ((c .before .before .before .before .before .before .before .before .before .before .before .before .before .before .before .before .before .before .before .if1) .left))) _ (via answer ((c .before .before .before .before .before .before .before .before .before .before .before .before .before .before .before .before .before .first) .ensures) ((c .before .before .before .before .before .before .before .before .before .before .before .before .before .before .before .a1) .given .1)) _ (via answer ((c .before .before .before .before .before .before .before .before .before .before .before .second) .ensures) ((c .before .before .before .before .before .before .before .before .before .a2) .given .1)) _ _ _ (via answer ((c .before .before .before .before .before .third) .ensures) ((c .before .before .before .a3) .given .1)) ((c .before .segment-density) .ensures) ((c .perturbation) .ensures)
+returns-5 c = dispersion-is floats _ _ _ _ _ _ _ ((c .before .before .before .before .before .before .before .before .before .before .before .before .before .before .before .before .before .before .before .before .before .before .before .before .segment-fractions) .ensures) _ ((c .before .before .before .before .before .before .before .before .before .before .before .before .before .before .before .before .before .before .before .before .before .before .mixture) .ensures) _ (was-held _ _ _ ((c .before .before .before .before .before .before .before .before .before .before .before .before .before .before .before .before .before .before .before .before .alphas-of) .ensures) (not-false _ ((c .before .before .before .before .before .before .before .before .before .before .before .before .before .before .before .before .before .before .before .if1) .left))) _ (via answer ((c .before .before .before .before .before .before .before .before .before .before .before .before .before .before .before .before .before .first) .ensures) ((c .before .before .before .before .before .before .before .before .before .before .before .before .before .before .before .a1) .given .1)) _ (via answer ((c .before .before .before .before .before .before .before .before .before .before .before .second) .ensures) ((c .before .before .before .before .before .before .before .before .before .a2) .given .1)) _ _ _ _ (via answer ((c .before .before .before .before .before .third) .ensures) ((c .before .before .before .a3) .given .1)) ((c .before .segment-density) .ensures) ((c .perturbation) .ensures) refl
 
 pub dispersion-spec : {M : Type 1} → statement M
 dispersion-spec =

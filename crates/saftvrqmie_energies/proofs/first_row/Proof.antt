@@ -1,11 +1,12 @@
 -- `saftvrqmie_energies::first_row` meets its contract. Assumes nothing.
+use Rattle.number.specs.Answer.{answer}
 use Rattle.saftvrqmie_energies.specs.Dispersion.{mixtureIn, firstTurn, firstRow}
 use Rattle.saftvrqmie_energies.proofs.Turns.{first-held, first-outside}
 use Rattle.number.specs.Arith.{floats}
 use Rattle.elementary.specs.Port.{port}
 use Rattle.number.specs.Functions.{calls}
 use Prim.Native.Nat.{_≤_, _-_}
-use mathlib.Core.Path.{_≡_}
+use mathlib.Core.Path.{_≡_, refl, ap}
 use Rattle.number.specs.Walk.{walk}
 use Rattle.number.specs.Ans.{held}
 use Rattle.number.proofs.Walk.{walk-none, walk-next, walk-stop, walk-end}
@@ -50,7 +51,7 @@ enum-told c = search needs
 
 returns : tie.Need-returns Inv-loop μ-loop
 unfolding firstRow
-returns c = rw (← ((c .before .before .before .before .before .loop) .inv .0)) (walk-stop _ _ _ _ _ _ ((c .before .before .before .before .loop-test) .taken) ((c .before .before .before .before .before .loop) .inv .2) (first-outside _ _ _ _ _ _ _ _ ((c .before .before .before .perturbed-pair) .ensures) ((c .before .before .first-order-perturbation-ij) .ensures) ((c .enum-told) .given .1)))
+returns c = rw (← ((c .before .before .before .before .before .loop) .inv .0)) (walk-stop _ _ _ _ _ _ ((c .before .before .before .before .loop-test) .taken) ((c .before .before .before .before .before .loop) .inv .2) (first-outside floats _ _ _ _ _ _ _ _ _ ((c .before .before .before .perturbed-pair) .ensures) ((c .before .before .first-order-perturbation-ij) .ensures) _ (ap answer ((c .enum-told) .given .1))))
 
 add-d : tie.Need-add-d Inv-loop μ-loop
 add-d c = search needs
@@ -89,7 +90,7 @@ loop-less : tie.Need-loop-less Inv-loop μ-loop
 loop-less c = search needs
 
 loop-again : tie.Need-loop-again Inv-loop μ-loop
-loop-again c = ((c .before .before .before .before .before .before .before .before .before .before .loop) .inv .0, search needs, walk-next _ _ _ _ _ ((c .before .before .before .before .before .before .before .before .before .before .loop) .inv .2) (first-held _ _ _ _ _ _ _ _ ((c .before .before .before .before .before .before .before .before .perturbed-pair) .ensures) ((c .before .before .before .before .before .before .before .first-order-perturbation-ij) .ensures) _ _ ((c .before .before .before .before .before .v) .given .1) ((c .lead) .ensures)))
+loop-again c = ((c .before .before .before .before .before .before .before .before .before .before .loop) .inv .0, search needs, walk-next _ _ _ _ _ ((c .before .before .before .before .before .before .before .before .before .before .loop) .inv .2) (first-held floats _ _ _ _ _ _ _ _ _ ((c .before .before .before .before .before .before .before .before .perturbed-pair) .ensures) ((c .before .before .before .before .before .before .before .first-order-perturbation-ij) .ensures) _ _ _ (ap answer ((c .before .before .before .before .before .v) .given .1)) ((c .lead) .ensures) refl))
 
 returns-2 : tie.Need-returns-2 Inv-loop μ-loop
 unfolding firstRow

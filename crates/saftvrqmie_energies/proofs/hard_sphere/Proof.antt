@@ -1,7 +1,9 @@
 -- `saftvrqmie_energies::hard_sphere` meets its contract. Assumes nothing.
-use Rattle.saftvrqmie_energies.proofs.Ways.{hs-outside, hs-held}
-use Rattle.number.specs.Arith.{decimal}
-use lib.Ieee.{ofBits}
+use Rattle.number.specs.Answer.{answer}
+use mathlib.Core.Path.{refl, ap}
+use Rattle.saftvrqmie_energies.proofs.Turns.{hs-outside, hs-held, called}
+use Rattle.number.specs.Arith.{decimal, floats}
+use lib.Ieee.{ofBits, neg}
 use borrow.Author.Needs.{needs}
 use Rattle.saftvrqmie_energies.proofs.hard_sphere.Statement.{statement}
 use Rattle.saftvrqmie_energies.proofs.hard_sphere.Tie as tie
@@ -19,8 +21,8 @@ enum-told : tie.Need-enum-told
 enum-told c = search needs
 
 returns : tie.Need-returns
-unfolding decimal ofBits
-returns c = hs-outside _ _ _ _ _ _ ((c .before .before .before .before .zeta) .ensures) _ ((c .before .before .ln-1p) .ensures) ((c .enum-told) .given .1)
+unfolding decimal ofBits neg
+returns c = hs-outside floats _ _ _ _ _ _ _ ((c .before .before .before .before .zeta) .ensures) _ refl _ (called _ _ ((c .before .before .ln-1p) .ensures)) _ (ap answer ((c .enum-told) .given .1))
 
 zeta-23-requires : tie.Need-zeta-23-requires
 zeta-23-requires c κs = search needs
@@ -29,8 +31,8 @@ hard-sphere-of-requires : tie.Need-hard-sphere-of-requires
 hard-sphere-of-requires c κs = search needs
 
 returns-2 : tie.Need-returns-2
-unfolding decimal ofBits
-returns-2 c = hs-held _ _ _ _ _ _ ((c .before .before .before .before .before .before .before .zeta) .ensures) _ ((c .before .before .before .before .before .ln-1p) .ensures) _ _ _ ((c .before .before .before .l) .given .1) ((c .before .zeta-23) .ensures) ((c .hard-sphere-of) .ensures)
+unfolding decimal ofBits neg
+returns-2 c = hs-held floats _ _ _ _ _ _ _ ((c .before .before .before .before .before .before .before .zeta) .ensures) _ refl _ (called _ _ ((c .before .before .before .before .before .ln-1p) .ensures)) _ _ _ (ap answer ((c .before .before .before .l) .given .1)) ((c .before .zeta-23) .ensures) ((c .hard-sphere-of) .ensures)
 
 pub hard-sphere-spec : {M : Type 1} → statement M
 hard-sphere-spec =

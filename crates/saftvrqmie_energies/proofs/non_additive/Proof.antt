@@ -1,5 +1,7 @@
 -- `saftvrqmie_energies::non_additive` meets its contract. Assumes nothing.
-use Rattle.saftvrqmie_energies.proofs.Ways.{non-additive-is}
+use Rattle.number.specs.Arith.{floats}
+use mathlib.Core.Path.{refl}
+use Rattle.saftvrqmie_energies.proofs.Turns.{non-additive-is}
 use borrow.Author.Needs.{needs}
 use Rattle.saftvrqmie_energies.proofs.non_additive.Statement.{statement}
 use Rattle.saftvrqmie_energies.proofs.non_additive.Tie as tie
@@ -20,7 +22,7 @@ non-additive-sum-requires : tie.Need-non-additive-sum-requires
 non-additive-sum-requires c κs = search needs
 
 returns : tie.Need-returns
-returns c = non-additive-is _ _ _ _ _ _ _ _ _ ((c .before .before .before .before .before .zeta) .ensures) ((c .before .before .before .segment-density) .ensures) ((c .before .before .density-shares) .ensures) ((c .before .before .before .before .frac-1mz3) .ensures) ((c .non-additive-sum) .ensures)
+returns c = non-additive-is floats _ _ _ _ _ _ _ _ _ _ _ _ _ ((c .before .before .before .before .before .zeta) .ensures) ((c .before .before .before .segment-density) .ensures) ((c .before .before .density-shares) .ensures) ((c .before .before .before .before .frac-1mz3) .ensures) ((c .non-additive-sum) .ensures) refl refl refl
 
 pub non-additive-spec : {M : Type 1} → statement M
 non-additive-spec =

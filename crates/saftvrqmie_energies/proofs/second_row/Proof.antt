@@ -1,4 +1,5 @@
 -- `saftvrqmie_energies::second_row` meets its contract. Assumes nothing.
+use Rattle.number.specs.Answer.{answer}
 use Rattle.saftvrqmie_energies.specs.Dispersion.{mixtureIn, secondTurn, secondRow}
 use Rattle.saftvrqmie_energies.proofs.Turns.{second-held, second-outside}
 use Rattle.number.specs.Arith.{floats, decimal}
@@ -6,7 +7,7 @@ use lib.Ieee.{ofBits}
 use Rattle.elementary.specs.Port.{port}
 use Rattle.number.specs.Functions.{calls}
 use Prim.Native.Nat.{_≤_, _-_}
-use mathlib.Core.Path.{_≡_}
+use mathlib.Core.Path.{_≡_, refl, ap}
 use Rattle.number.specs.Walk.{walk}
 use Rattle.number.specs.Ans.{held}
 use Rattle.number.proofs.Walk.{walk-none, walk-next, walk-stop, walk-end}
@@ -51,7 +52,7 @@ enum-told c = search needs
 
 returns : tie.Need-returns Inv-loop μ-loop
 unfolding secondRow
-returns c = rw (← ((c .before .before .before .before .before .loop) .inv .0)) (walk-stop _ _ _ _ _ _ ((c .before .before .before .before .loop-test) .taken) ((c .before .before .before .before .before .loop) .inv .2) (second-outside _ _ _ _ _ _ _ _ ((c .before .before .before .perturbed-pair) .ensures) _ ((c .before .before .second-order-perturbation-ij) .ensures) ((c .enum-told) .given .1)))
+returns c = rw (← ((c .before .before .before .before .before .loop) .inv .0)) (walk-stop _ _ _ _ _ _ ((c .before .before .before .before .loop-test) .taken) ((c .before .before .before .before .before .loop) .inv .2) (second-outside floats _ _ _ _ _ _ _ _ _ ((c .before .before .before .perturbed-pair) .ensures) _ ((c .before .before .second-order-perturbation-ij) .ensures) _ (ap answer ((c .enum-told) .given .1))))
 
 add-d : tie.Need-add-d Inv-loop μ-loop
 add-d c = search needs
@@ -100,7 +101,7 @@ loop-less c = search needs
 
 loop-again : tie.Need-loop-again Inv-loop μ-loop
 unfolding decimal ofBits
-loop-again c = ((c .before .before .before .before .before .before .before .before .before .before .before .before .loop) .inv .0, search needs, walk-next _ _ _ _ _ ((c .before .before .before .before .before .before .before .before .before .before .before .before .loop) .inv .2) (second-held _ _ _ _ _ _ _ _ ((c .before .before .before .before .before .before .before .before .before .before .perturbed-pair) .ensures) _ ((c .before .before .before .before .before .before .before .before .before .second-order-perturbation-ij) .ensures) _ _ _ ((c .before .before .before .before .before .before .before .v) .given .1) ((c .lead) .ensures) ((c .before .before .before .chi) .ensures)))
+loop-again c = ((c .before .before .before .before .before .before .before .before .before .before .before .before .loop) .inv .0, search needs, walk-next _ _ _ _ _ ((c .before .before .before .before .before .before .before .before .before .before .before .before .loop) .inv .2) (second-held floats _ _ _ _ _ _ _ _ _ ((c .before .before .before .before .before .before .before .before .before .before .perturbed-pair) .ensures) _ ((c .before .before .before .before .before .before .before .before .before .second-order-perturbation-ij) .ensures) _ _ _ _ _ (ap answer ((c .before .before .before .before .before .before .before .v) .given .1)) ((c .lead) .ensures) ((c .before .before .before .chi) .ensures) refl refl))
 
 returns-2 : tie.Need-returns-2 Inv-loop μ-loop
 unfolding secondRow

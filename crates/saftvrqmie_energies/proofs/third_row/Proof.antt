@@ -1,11 +1,12 @@
 -- `saftvrqmie_energies::third_row` meets its contract. Assumes nothing.
+use Rattle.number.specs.Answer.{answer}
 use Rattle.saftvrqmie_energies.specs.Dispersion.{thirdTurn, thirdRow}
 use Rattle.saftvrqmie_energies.proofs.Turns.{third-held, third-outside}
 use Rattle.number.specs.Arith.{floats}
 use Rattle.elementary.specs.Port.{port}
 use Rattle.number.specs.Functions.{calls}
 use Prim.Native.Nat.{_≤_, _-_}
-use mathlib.Core.Path.{_≡_}
+use mathlib.Core.Path.{_≡_, refl, ap}
 use Rattle.number.specs.Walk.{walk}
 use Rattle.number.specs.Ans.{held}
 use Rattle.number.proofs.Walk.{walk-none, walk-next, walk-stop, walk-end}
@@ -57,7 +58,7 @@ enum-told c = search needs
 
 returns : tie.Need-returns Inv-loop μ-loop
 unfolding thirdRow
-returns c = walk-stop _ _ _ _ _ _ ((c .before .before .before .before .before .loop-test) .taken) ((c .before .before .before .before .before .before .loop) .inv .1) (third-outside _ _ _ _ _ _ _ _ _ ((c .before .before .third-order-perturbation-ij) .ensures) ((c .enum-told) .given .1))
+returns c = walk-stop _ _ _ _ _ _ ((c .before .before .before .before .before .loop-test) .taken) ((c .before .before .before .before .before .before .loop) .inv .1) (third-outside floats _ _ _ _ _ _ _ _ _ _ _ refl ((c .before .before .third-order-perturbation-ij) .ensures) _ (ap answer ((c .enum-told) .given .1)))
 
 mul-a3 : tie.Need-mul-a3 Inv-loop μ-loop
 mul-a3 c = search needs
@@ -78,7 +79,7 @@ loop-less : tie.Need-loop-less Inv-loop μ-loop
 loop-less c = search needs
 
 loop-again : tie.Need-loop-again Inv-loop μ-loop
-loop-again c = (search needs, walk-next _ _ _ _ _ ((c .before .before .before .before .before .before .before .before .before .loop) .inv .1) (third-held _ _ _ _ _ _ _ _ _ ((c .before .before .before .before .before .third-order-perturbation-ij) .ensures) _ ((c .before .before .before .v) .given .1)))
+loop-again c = (search needs, walk-next _ _ _ _ _ ((c .before .before .before .before .before .before .before .before .before .loop) .inv .1) (third-held floats _ _ _ _ _ _ _ _ _ _ _ refl ((c .before .before .before .before .before .third-order-perturbation-ij) .ensures) _ _ _ (ap answer ((c .before .before .before .v) .given .1)) refl refl))
 
 returns-2 : tie.Need-returns-2 Inv-loop μ-loop
 unfolding thirdRow

@@ -1,6 +1,7 @@
 -- `saftvrqmie_energies_ends::alpha_row` meets its contract. Assumes nothing.
+use Rattle.enclosure.specs.Answer.{answer}
 use Prim.Native.Nat.{_≤_, _-_}
-use mathlib.Core.Path.{_≡_}
+use mathlib.Core.Path.{_≡_, ap}
 use Rattle.enclosure.specs.Enclosure.{enclosures}
 use Rattle.number.specs.Walk.{walk}
 use Rattle.number.specs.Ans.{held}
@@ -10,7 +11,7 @@ use Rattle.number.specs.Functions.{calls}
 use native.Mathlib.Omega.{arith}
 use Rattle.saftvrqmie_energies.specs.State.{sheetsOf, heldOr6}
 use Rattle.saftvrqmie_energies.specs.Dispersion.{alphaTurn, alphaRow}
-use Rattle.saftvrqmie_energies_ends.proofs.Turns.{alpha-held, alpha-outside}
+use Rattle.saftvrqmie_energies.proofs.Turns.{alpha-held, alpha-outside}
 use borrow.Author.Needs.{needs}
 use Rattle.saftvrqmie_energies_ends.proofs.alpha_row.Statement.{statement}
 use Rattle.saftvrqmie_energies_ends.proofs.alpha_row.Tie as tie
@@ -56,7 +57,7 @@ enum-told c = search needs
 
 returns : tie.Need-returns Inv-loop μ-loop
 unfolding alphaRow heldOr6
-returns c = rw (← ((c .before .before .before .before .before .before .before .loop) .inv .0)) (walk-stop _ _ _ _ _ _ ((c .before .before .before .before .before .before .loop-test) .taken) ((c .before .before .before .before .before .before .before .loop) .inv .2) (alpha-outside _ _ _ _ _ _ _ _ ((c .before .before .before .before .before .pair-at) .ensures) ((c .before .before .before .before .entry-of) .ensures) ((c .before .before .before .entry-of2) .ensures) ((c .before .before .alpha-ij) .ensures) ((c .enum-told) .given .1)))
+returns c = rw (← ((c .before .before .before .before .before .before .before .loop) .inv .0)) (walk-stop _ _ _ _ _ _ ((c .before .before .before .before .before .before .loop-test) .taken) ((c .before .before .before .before .before .before .before .loop) .inv .2) (alpha-outside enclosures _ _ _ _ _ _ _ _ _ ((c .before .before .before .before .before .pair-at) .ensures) ((c .before .before .before .before .entry-of) .ensures) ((c .before .before .before .entry-of2) .ensures) ((c .before .before .alpha-ij) .ensures) _ (ap answer ((c .enum-told) .given .1))))
 
 mul-alphas : tie.Need-mul-alphas Inv-loop μ-loop
 mul-alphas c = search needs
@@ -86,7 +87,7 @@ loop-less : tie.Need-loop-less Inv-loop μ-loop
 loop-less c = omega (arith, (c .before .before .before .before .before .before .before .loop-test) .taken)
 
 loop-again : tie.Need-loop-again Inv-loop μ-loop
-loop-again c = ((c .before .before .before .before .before .before .before .before .loop) .inv .0, omega (arith, (c .before .before .before .before .before .before .before .loop-test) .taken), walk-next _ _ _ _ _ ((c .before .before .before .before .before .before .before .before .loop) .inv .2) (alpha-held _ _ _ _ _ _ _ _ ((c .before .before .before .before .before .before .pair-at) .ensures) ((c .before .before .before .before .before .entry-of) .ensures) ((c .before .before .before .before .entry-of2) .ensures) ((c .before .before .before .alpha-ij) .ensures) _ ((c .before .a) .given .1)))
+loop-again c = ((c .before .before .before .before .before .before .before .before .loop) .inv .0, omega (arith, (c .before .before .before .before .before .before .before .loop-test) .taken), walk-next _ _ _ _ _ ((c .before .before .before .before .before .before .before .before .loop) .inv .2) (alpha-held enclosures _ _ _ _ _ _ _ _ _ ((c .before .before .before .before .before .before .pair-at) .ensures) ((c .before .before .before .before .before .entry-of) .ensures) ((c .before .before .before .before .entry-of2) .ensures) ((c .before .before .before .alpha-ij) .ensures) _ (ap answer ((c .before .a) .given .1))))
 
 returns-2 : tie.Need-returns-2 Inv-loop μ-loop
 unfolding alphaRow heldOr6

@@ -1,5 +1,4 @@
 -- `saftvrqmie_energies_ends::alphas_of` meets its contract. Assumes nothing.
-use Rattle.saftvrqmie_energies_ends.proofs.Turns.{left-refused}
 use Prim.Native.Nat.{_≤_, _-_}
 use mathlib.Core.Path.{_≡_}
 use Rattle.saftvrqmie_potential.specs.Potential.{whole}
@@ -17,7 +16,7 @@ use Rattle.saftvrqmie_energies.specs.Dispersion.{alphaRow, alphas}
 use Rattle.number.specs.Side.{sheet}
 use lib.ListN.{replicate}
 use borrow.Author.Tests.{not-true, not-false}
-use Rattle.saftvrqmie_energies.proofs.Turns.{was-held, was-refused}
+use Rattle.saftvrqmie_energies.proofs.Turns.{left-refused, was-held, was-refused}
 use borrow.Author.Needs.{needs}
 use Rattle.saftvrqmie_energies_ends.proofs.alphas_of.Statement.{statement}
 use Rattle.saftvrqmie_energies_ends.proofs.alphas_of.Tie as tie

@@ -1,6 +1,7 @@
 -- `saftvrqmie_energies_ends::first_row` meets its contract. Assumes nothing.
+use Rattle.enclosure.specs.Answer.{answer}
 use Prim.Native.Nat.{_≤_, _-_}
-use mathlib.Core.Path.{_≡_}
+use mathlib.Core.Path.{_≡_, ap}
 use Rattle.enclosure.specs.Enclosure.{enclosures}
 use Rattle.number.specs.Walk.{walk}
 use Rattle.number.specs.Ans.{held}
@@ -11,7 +12,7 @@ use native.Mathlib.Omega.{arith}
 use Rattle.saftvrqmie_energies.specs.State.{nth, sheetsOf}
 use Rattle.saftvrqmie_energies.specs.Dispersion.{firstTurn, firstRow}
 use Rattle.saftvrqmie_energies_ends.specs.Parts.{mixtureIn}
-use Rattle.saftvrqmie_energies_ends.proofs.Turns.{first-held, first-outside}
+use Rattle.saftvrqmie_energies.proofs.Turns.{first-held, first-outside}
 use borrow.Author.Needs.{needs}
 use Rattle.saftvrqmie_energies_ends.proofs.first_row.Statement.{statement}
 use Rattle.saftvrqmie_energies_ends.proofs.first_row.Tie as tie
@@ -52,7 +53,7 @@ enum-told c = search needs
 
 returns : tie.Need-returns Inv-loop μ-loop
 unfolding firstRow
-returns c = rw (← ((c .before .before .before .before .before .loop) .inv .0)) (walk-stop _ _ _ _ _ _ ((c .before .before .before .before .loop-test) .taken) ((c .before .before .before .before .before .loop) .inv .2) (first-outside _ _ _ _ _ _ _ _ ((c .before .before .before .perturbed-pair) .ensures) ((c .before .before .first-order-perturbation-ij) .ensures) ((c .enum-told) .given .1)))
+returns c = rw (← ((c .before .before .before .before .before .loop) .inv .0)) (walk-stop _ _ _ _ _ _ ((c .before .before .before .before .loop-test) .taken) ((c .before .before .before .before .before .loop) .inv .2) (first-outside enclosures _ _ _ _ _ _ _ _ _ ((c .before .before .before .perturbed-pair) .ensures) ((c .before .before .first-order-perturbation-ij) .ensures) _ (ap answer ((c .enum-told) .given .1))))
 
 entry-of-requires : tie.Need-entry-of-requires Inv-loop μ-loop
 entry-of-requires c κs = search needs
@@ -82,7 +83,7 @@ loop-less : tie.Need-loop-less Inv-loop μ-loop
 loop-less c = omega (arith, (c .before .before .before .before .before .before .before .before .before .before .loop-test) .taken)
 
 loop-again : tie.Need-loop-again Inv-loop μ-loop
-loop-again c = ((c .before .before .before .before .before .before .before .before .before .before .before .loop) .inv .0, omega (arith, (c .before .before .before .before .before .before .before .before .before .before .loop-test) .taken), walk-next _ _ _ _ _ ((c .before .before .before .before .before .before .before .before .before .before .before .loop) .inv .2) (first-held _ _ _ _ _ _ _ _ ((c .before .before .before .before .before .before .before .before .before .perturbed-pair) .ensures) ((c .before .before .before .before .before .before .before .before .first-order-perturbation-ij) .ensures) _ _ _ ((c .before .before .before .before .before .before .v) .given .1) (rw ((c .before .before .before .before .entry-of) .ensures, (c .before .before .before .at-8) .ensures, (c .before .before .at-82) .ensures) at ((c .before .lead) .ensures)) ((c .plus-product) .ensures)))
+loop-again c = ((c .before .before .before .before .before .before .before .before .before .before .before .loop) .inv .0, omega (arith, (c .before .before .before .before .before .before .before .before .before .before .loop-test) .taken), walk-next _ _ _ _ _ ((c .before .before .before .before .before .before .before .before .before .before .before .loop) .inv .2) (first-held enclosures _ _ _ _ _ _ _ _ _ ((c .before .before .before .before .before .before .before .before .before .perturbed-pair) .ensures) ((c .before .before .before .before .before .before .before .before .first-order-perturbation-ij) .ensures) _ _ _ (ap answer ((c .before .before .before .before .before .before .v) .given .1)) (rw ((c .before .before .before .before .entry-of) .ensures, (c .before .before .before .at-8) .ensures, (c .before .before .at-82) .ensures) at ((c .before .lead) .ensures)) ((c .plus-product) .ensures)))
 
 returns-2 : tie.Need-returns-2 Inv-loop μ-loop
 unfolding firstRow

@@ -1,5 +1,6 @@
 -- `saftvrqmie_energies_ends::non_additive` meets its contract. Assumes nothing.
-use Rattle.saftvrqmie_energies_ends.proofs.Turns.{non-additive-is}
+use Rattle.enclosure.specs.Enclosure.{enclosures}
+use Rattle.saftvrqmie_energies.proofs.Turns.{non-additive-is}
 use borrow.Author.Needs.{needs}
 use Rattle.saftvrqmie_energies_ends.proofs.non_additive.Statement.{statement}
 use Rattle.saftvrqmie_energies_ends.proofs.non_additive.Tie as tie
@@ -29,7 +30,7 @@ after-requires-2 : tie.Need-after-requires-2
 after-requires-2 c κs = search needs
 
 returns : tie.Need-returns
-returns c = non-additive-is _ _ _ _ _ _ _ _ _ _ _ _ ((c .before .before .before .before .before .before .before .zeta) .ensures) ((c .before .before .before .before .before .segment-density) .ensures) ((c .before .before .before .before .density-shares) .ensures) ((c .before .before .before .before .before .before .frac-1mz3) .ensures) ((c .before .before .before .non-additive-sum) .ensures) ((c .before .before .mul) .ensures) ((c .before .after) .ensures) ((c .after2) .ensures)
+returns c = non-additive-is enclosures _ _ _ _ _ _ _ _ _ _ _ _ _ ((c .before .before .before .before .before .before .before .zeta) .ensures) ((c .before .before .before .before .before .segment-density) .ensures) ((c .before .before .before .before .density-shares) .ensures) ((c .before .before .before .before .before .before .frac-1mz3) .ensures) ((c .before .before .before .non-additive-sum) .ensures) ((c .before .before .mul) .ensures) ((c .before .after) .ensures) ((c .after2) .ensures)
 
 pub non-additive-spec : {M : Type 1} → statement M
 non-additive-spec =

@@ -1,6 +1,7 @@
 -- `saftvrqmie_energies_ends::second_row` meets its contract. Assumes nothing.
+use Rattle.enclosure.specs.Answer.{answer}
 use Prim.Native.Nat.{_≤_, _-_}
-use mathlib.Core.Path.{_≡_}
+use mathlib.Core.Path.{_≡_, ap}
 use Rattle.enclosure.specs.Enclosure.{enclosures, point}
 use Rattle.number.specs.Walk.{walk}
 use Rattle.number.specs.Ans.{held}
@@ -13,7 +14,7 @@ use native.Mathlib.Omega.{arith}
 use Rattle.saftvrqmie_energies.specs.State.{nth, sheetsOf}
 use Rattle.saftvrqmie_energies.specs.Dispersion.{secondTurn, secondRow}
 use Rattle.saftvrqmie_energies_ends.specs.Parts.{mixtureIn}
-use Rattle.saftvrqmie_energies_ends.proofs.Turns.{second-held, second-outside}
+use Rattle.saftvrqmie_energies.proofs.Turns.{second-held, second-outside}
 use borrow.Author.Needs.{needs}
 use Rattle.saftvrqmie_energies_ends.proofs.second_row.Statement.{statement}
 use Rattle.saftvrqmie_energies_ends.proofs.second_row.Tie as tie
@@ -57,7 +58,7 @@ enum-told c = search needs
 
 returns : tie.Need-returns Inv-loop μ-loop
 unfolding secondRow
-returns c = rw (← ((c .before .before .before .before .before .loop) .inv .0)) (walk-stop _ _ _ _ _ _ ((c .before .before .before .before .loop-test) .taken) ((c .before .before .before .before .before .loop) .inv .2) (second-outside _ _ _ _ _ _ _ _ ((c .before .before .before .perturbed-pair) .ensures) (nth enclosures ((c .before .before .before .before .before .before .before .before .args) .alphas)) ((c .before .before .second-order-perturbation-ij) .ensures) ((c .enum-told) .given .1)))
+returns c = rw (← ((c .before .before .before .before .before .loop) .inv .0)) (walk-stop _ _ _ _ _ _ ((c .before .before .before .before .loop-test) .taken) ((c .before .before .before .before .before .loop) .inv .2) (second-outside enclosures _ _ _ _ _ _ _ _ _ ((c .before .before .before .perturbed-pair) .ensures) (nth enclosures ((c .before .before .before .before .before .before .before .before .args) .alphas)) ((c .before .before .second-order-perturbation-ij) .ensures) _ (ap answer ((c .enum-told) .given .1))))
 
 entry-of-requires : tie.Need-entry-of-requires Inv-loop μ-loop
 entry-of-requires c κs = search needs
@@ -100,7 +101,7 @@ loop-less c = omega (arith, (c .before .before .before .before .before .before .
 
 loop-again : tie.Need-loop-again Inv-loop μ-loop
 unfolding decimal ofBits
-loop-again c = ((c .before .before .before .before .before .before .before .before .before .before .before .before .before .before .before .loop) .inv .0, omega (arith, (c .before .before .before .before .before .before .before .before .before .before .before .before .before .before .loop-test) .taken), walk-next _ _ _ _ _ ((c .before .before .before .before .before .before .before .before .before .before .before .before .before .before .before .loop) .inv .2) (second-held _ _ _ _ _ _ _ _ ((c .before .before .before .before .before .before .before .before .before .before .before .before .before .perturbed-pair) .ensures) _ ((c .before .before .before .before .before .before .before .before .before .before .before .before .second-order-perturbation-ij) .ensures) _ _ _ _ _ ((c .before .before .before .before .before .before .before .before .before .before .v) .given .1) (rw ((c .before .before .before .before .before .before .before .before .entry-of) .ensures, (c .before .before .before .before .before .at-8) .ensures, (c .before .before .before .before .at-82) .ensures) at ((c .before .before .before .lead) .ensures)) (rw ((c .before .before .before .before .before .before .before .at-64) .ensures) at ((c .before .before .before .before .before .before .chi) .ensures)) (rw ((c .before .before .add) .ensures, (c .before .before .before .before .before .before .before .before .before .before .before .before .before .before .before .before .point) .ensures) at ((c .before .mul) .ensures)) ((c .plus-product) .ensures)))
+loop-again c = ((c .before .before .before .before .before .before .before .before .before .before .before .before .before .before .before .loop) .inv .0, omega (arith, (c .before .before .before .before .before .before .before .before .before .before .before .before .before .before .loop-test) .taken), walk-next _ _ _ _ _ ((c .before .before .before .before .before .before .before .before .before .before .before .before .before .before .before .loop) .inv .2) (second-held enclosures _ _ _ _ _ _ _ _ _ ((c .before .before .before .before .before .before .before .before .before .before .before .before .before .perturbed-pair) .ensures) _ ((c .before .before .before .before .before .before .before .before .before .before .before .before .second-order-perturbation-ij) .ensures) _ _ _ _ _ (ap answer ((c .before .before .before .before .before .before .before .before .before .before .v) .given .1)) (rw ((c .before .before .before .before .before .before .before .before .entry-of) .ensures, (c .before .before .before .before .before .at-8) .ensures, (c .before .before .before .before .at-82) .ensures) at ((c .before .before .before .lead) .ensures)) (rw ((c .before .before .before .before .before .before .before .at-64) .ensures) at ((c .before .before .before .before .before .before .chi) .ensures)) (rw ((c .before .before .add) .ensures, (c .before .before .before .before .before .before .before .before .before .before .before .before .before .before .before .before .point) .ensures) at ((c .before .mul) .ensures)) ((c .plus-product) .ensures)))
 
 returns-2 : tie.Need-returns-2 Inv-loop μ-loop
 unfolding secondRow

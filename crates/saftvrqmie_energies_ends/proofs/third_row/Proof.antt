@@ -1,6 +1,7 @@
 -- `saftvrqmie_energies_ends::third_row` meets its contract. Assumes nothing.
+use Rattle.enclosure.specs.Answer.{answer}
 use Prim.Native.Nat.{_≤_, _-_}
-use mathlib.Core.Path.{_≡_}
+use mathlib.Core.Path.{_≡_, ap}
 use Rattle.enclosure.specs.Enclosure.{enclosures}
 use Rattle.number.specs.Walk.{walk}
 use Rattle.number.specs.Ans.{held}
@@ -10,7 +11,7 @@ use Rattle.number.specs.Functions.{calls}
 use native.Mathlib.Omega.{arith}
 use Rattle.saftvrqmie_energies.specs.State.{nth, sheetOf}
 use Rattle.saftvrqmie_energies.specs.Dispersion.{thirdTurn, thirdRow}
-use Rattle.saftvrqmie_energies_ends.proofs.Turns.{third-held, third-outside}
+use Rattle.saftvrqmie_energies.proofs.Turns.{third-held, third-outside}
 use borrow.Author.Needs.{needs}
 use Rattle.saftvrqmie_energies_ends.proofs.third_row.Statement.{statement}
 use Rattle.saftvrqmie_energies_ends.proofs.third_row.Tie as tie
@@ -48,7 +49,7 @@ enum-told c = search needs
 
 returns : tie.Need-returns Inv-loop μ-loop
 unfolding thirdRow
-returns c = walk-stop _ _ _ _ _ _ ((c .before .before .before .before .before .loop-test) .taken) ((c .before .before .before .before .before .before .loop) .inv .1) (third-outside _ _ _ _ _ _ _ _ _ _ ((c .before .before .before .before .entry-of) .ensures) (rw ((c .before .before .before .at-64) .ensures) at ((c .before .before .third-order-perturbation-ij) .ensures)) ((c .enum-told) .given .1))
+returns c = walk-stop _ _ _ _ _ _ ((c .before .before .before .before .before .loop-test) .taken) ((c .before .before .before .before .before .before .loop) .inv .1) (third-outside enclosures _ _ _ _ _ _ _ _ _ _ _ ((c .before .before .before .before .entry-of) .ensures) (rw ((c .before .before .before .at-64) .ensures) at ((c .before .before .third-order-perturbation-ij) .ensures)) _ (ap answer ((c .enum-told) .given .1)))
 
 at-8-requires : tie.Need-at-8-requires Inv-loop μ-loop
 at-8-requires c κs = search needs
@@ -69,7 +70,7 @@ loop-less : tie.Need-loop-less Inv-loop μ-loop
 loop-less c = omega (arith, (c .before .before .before .before .before .before .before .before .before .before .loop-test) .taken)
 
 loop-again : tie.Need-loop-again Inv-loop μ-loop
-loop-again c = (omega (arith, (c .before .before .before .before .before .before .before .before .before .before .loop-test) .taken), walk-next _ _ _ _ _ ((c .before .before .before .before .before .before .before .before .before .before .before .loop) .inv .1) (third-held _ _ _ _ _ _ _ _ _ _ ((c .before .before .before .before .before .before .before .before .before .entry-of) .ensures) (rw ((c .before .before .before .before .before .before .before .before .at-64) .ensures) at ((c .before .before .before .before .before .before .before .third-order-perturbation-ij) .ensures)) _ _ _ ((c .before .before .before .before .before .v) .given .1) (rw ((c .before .before .before .at-8) .ensures, (c .before .before .at-82) .ensures) at ((c .before .mul) .ensures)) ((c .plus-product) .ensures)))
+loop-again c = (omega (arith, (c .before .before .before .before .before .before .before .before .before .before .loop-test) .taken), walk-next _ _ _ _ _ ((c .before .before .before .before .before .before .before .before .before .before .before .loop) .inv .1) (third-held enclosures _ _ _ _ _ _ _ _ _ _ _ ((c .before .before .before .before .before .before .before .before .before .entry-of) .ensures) (rw ((c .before .before .before .before .before .before .before .before .at-64) .ensures) at ((c .before .before .before .before .before .before .before .third-order-perturbation-ij) .ensures)) _ _ _ (ap answer ((c .before .before .before .before .before .v) .given .1)) (rw ((c .before .before .before .at-8) .ensures, (c .before .before .at-82) .ensures) at ((c .before .mul) .ensures)) ((c .plus-product) .ensures)))
 
 returns-2 : tie.Need-returns-2 Inv-loop μ-loop
 unfolding thirdRow
