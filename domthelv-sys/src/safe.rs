@@ -465,15 +465,21 @@ mod tests {
     }
 
     #[test]
-    fn ethane_and_methane_have_their_known_energies() {
+    fn ethane_and_methane_have_their_known_energies_within_their_ends() {
         let set = mie_parameters(&ethane_and_methane()).unwrap();
         let mut d = [0.0; 2];
         set.diameters(200.0, &mut d).unwrap();
         assert!(close(d[0], 3.62927155125) && close(d[1], 3.62348866077));
         let state = State { temperature: 200.0, fractions: &[0.4, 0.6], densities: &[0.003, 0.004] };
-        assert!(close(set.dispersion(&state, &d, false).unwrap(), -0.0206772971504));
-        assert!(close(set.dispersion(&state, &d, true).unwrap(), -0.0207175328474));
-        assert!(set.radius(0, 1, 200.0).unwrap() > 0.5);
+        for (chain, known) in [(false, -0.0206772971504), (true, -0.0207175328474)] {
+            let x = set.dispersion(&state, &d, chain).unwrap();
+            let ends = set.dispersion_ends(&state, &d, chain).unwrap();
+            assert!(close(x, known) && ends.low <= x && x <= ends.high && ends.high - ends.low < 1e-9);
+            assert_eq!(mie_stage(&ethane_and_methane(), &state, chain), Ok(x));
+        }
+        let r0 = set.radius(0, 0, 200.0).unwrap();
+        let ends = set.diameter_ends(0, 0, 200.0, r0).unwrap();
+        assert!(ends.low <= d[0] && d[0] <= ends.high);
     }
 
     #[test]
