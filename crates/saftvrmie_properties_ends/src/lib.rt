@@ -116,7 +116,7 @@ fn k3(z: Enclosure, z3: Enclosure, frac: Enclosure) -> Enclosure
 }
 
 // k0 to k3 of `Properties::new`.
-pub fn k_values(zeta_x: Enclosure) -> KEnclosuresAnswer
+fn k_values(zeta_x: Enclosure) -> KEnclosuresAnswer
     ensures { λ r. ⌜ kAnswer r ≡ kOf enclosures (calls enclosures port) «zeta_x» ⌝ }
 {
     let z = zeta_x;
@@ -209,14 +209,14 @@ pub fn d_ij(d: &[f64], i: usize, j: usize) -> Enclosure
     enclosure::mul(enclosure::add(a, b), half)
 }
 
-pub fn d3_ij(d: &[f64], i: usize, j: usize) -> Enclosure
+fn d3_ij(d: &[f64], i: usize, j: usize) -> Enclosure
     requires { ⌜ (i < length (now d)) × (j < length (now d)) ⌝ }
     ensures { λ r. ⌜ r ≡ d3Ij enclosures (points (now (d .entry))) i j ⌝ }
 {
     enclosure::pow_up(d_ij(d, i, j), 3)
 }
 
-pub fn s3_ij(sheets: &[f64; 384], i: usize, j: usize) -> Enclosure
+fn s3_ij(sheets: &[f64; 384], i: usize, j: usize) -> Enclosure
     requires { ⌜ (i < side) × (j < side) ⌝ }
     ensures { λ r. ⌜ r ≡ s3Ij enclosures (pairs (now (sheets .entry))) i j ⌝ }
 {
@@ -240,7 +240,7 @@ fn zeta_pair(sum: Enclosure, xi: Enclosure, xj: Enclosure, cube: Enclosure) -> E
 }
 
 // Row i of zeta_x's sum: d³ of the pairs.
-pub fn zeta_row(n: usize, xs: [Enclosure; 8], d: &[f64], i: usize, start: Enclosure) -> Enclosure
+fn zeta_row(n: usize, xs: [Enclosure; 8], d: &[f64], i: usize, start: Enclosure) -> Enclosure
     requires { ⌜ (n ≤ side) × (i < n) × (length (now d) ≡ n) ⌝ }
     ensures { λ r. ⌜ r ≡ zetaRow enclosures n (nth enclosures xs) (d3Ij enclosures (points (now (d .entry)))) i start ⌝ }
 {
@@ -256,7 +256,7 @@ pub fn zeta_row(n: usize, xs: [Enclosure; 8], d: &[f64], i: usize, start: Enclos
     s
 }
 
-pub fn zeta_sum(n: usize, xs: [Enclosure; 8], d: &[f64]) -> Enclosure
+fn zeta_sum(n: usize, xs: [Enclosure; 8], d: &[f64]) -> Enclosure
     requires { ⌜ (n ≤ side) × (length (now d) ≡ n) ⌝ }
     ensures { λ r. ⌜ r ≡ zetaSum enclosures n (nth enclosures xs) (d3Ij enclosures (points (now (d .entry)))) ⌝ }
 {
@@ -268,7 +268,7 @@ pub fn zeta_sum(n: usize, xs: [Enclosure; 8], d: &[f64]) -> Enclosure
 }
 
 // Row i of zeta_x_bar's sum: sigma³ of the pairs.
-pub fn zeta_bar_row(
+fn zeta_bar_row(
     n: usize,
     xs: [Enclosure; 8],
     sheets: &[f64; 384],
@@ -290,7 +290,7 @@ pub fn zeta_bar_row(
     s
 }
 
-pub fn zeta_bar_sum(n: usize, xs: [Enclosure; 8], sheets: &[f64; 384]) -> Enclosure
+fn zeta_bar_sum(n: usize, xs: [Enclosure; 8], sheets: &[f64; 384]) -> Enclosure
     requires { ⌜ n ≤ side ⌝ }
     ensures { λ r. ⌜ r ≡ zetaSum enclosures n (nth enclosures xs) (s3Ij enclosures (pairs (now (sheets .entry)))) ⌝ }
 {
@@ -314,7 +314,7 @@ fn after_row(d: &[f64], i: usize, start: Enclosure) -> Enclosure
     s
 }
 
-pub fn after_lower(n: usize, d: &[f64], x: Enclosure) -> Enclosure
+fn after_lower(n: usize, d: &[f64], x: Enclosure) -> Enclosure
     requires { ⌜ (n ≤ side) × (length (now d) ≡ n) ⌝ }
     ensures { λ r. ⌜ r ≡ afterLower enclosures n (d3Ij enclosures (points (now (d .entry)))) x ⌝ }
 {
