@@ -135,6 +135,7 @@ fn row_within(n: usize, k: &[f64], i: usize) -> bool
     ok
 }
 
+// Of a list as long as the count's square, tested likewise.
 pub fn pairs_within(n: usize, k: &[f64]) -> bool
     requires { ⌜ (n ≤ side) × (length (now k) ≡ n * n) ⌝ }
     ensures { λ r. ⌜ r ≡ pairsWithin n (square n (now (k .entry))) ⌝ }
@@ -146,6 +147,7 @@ pub fn pairs_within(n: usize, k: &[f64]) -> bool
     ok
 }
 
+// Of a list as long as the count, as above.
 pub fn all_one(n: usize, m: &[f64]) -> bool
     requires { ⌜ length (now m) ≡ n ⌝ }
     ensures { λ r. ⌜ r ≡ allOne n (at (now (m .entry))) ⌝ }

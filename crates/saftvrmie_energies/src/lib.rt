@@ -94,6 +94,7 @@ fn d3_ij(d: &[f64], i: usize, j: usize) -> f64
     number::pow_up(d_ij(d, i, j), 3)
 }
 
+// The two-ended energies read pairs too. Indexes are turns of loops over a count that was tested.
 pub fn pair_at(s: &[f64; 384], i: usize, j: usize) -> PairParameters
     requires { ⌜ (i < side) × (j < side) ⌝ }
     ensures { λ r. ⌜ r ≡ pairAt (now (s .entry)) i j ⌝ }
@@ -109,7 +110,7 @@ pub fn pair_at(s: &[f64; 384], i: usize, j: usize) -> PairParameters
     }
 }
 
-// sigma, epsilon_k, lr and la of the component lists; c and alpha of the sheets' diagonal.
+// sigma, epsilon_k, lr and la of the component lists; c and alpha of the sheets' diagonal. The index is such a turn.
 pub fn pure_at(
     sigma: &[f64; 8],
     epsilon_k: &[f64; 8],
@@ -468,6 +469,7 @@ pub fn right_lists(n: usize, x: usize, rho: usize, d: usize) -> bool
     limits::count_within(n) & (x == n) & (rho == n) & (d == n)
 }
 
+// The lists are as long as the count: both operations refuse others with 1 before they ask.
 pub fn within_limits(n: usize, temperature: f64, x: &[f64], rho: &[f64]) -> bool
     requires { ⌜ (length (now x) ≡ n) × (length (now rho) ≡ n) ⌝ }
     ensures { λ r. ⌜ r ≡ withinLimits n temperature (now (x .entry)) (now (rho .entry)) ⌝ }

@@ -149,7 +149,7 @@ fn plus_product(sum: Enclosure, x: Enclosure, y: Enclosure) -> Enclosure
     enclosure::add(sum, enclosure::mul(x, y))
 }
 
-// Entry i of an array; beyond it is not read.
+// Entry i of an array; i is a turn of a loop over the count, beyond it is not read.
 pub fn at_8(xs: [Enclosure; 8], i: usize) -> Enclosure
     requires { ⌜ i < side ⌝ }
     ensures { λ r. ⌜ r ≡ nth enclosures xs i ⌝ }
@@ -157,6 +157,7 @@ pub fn at_8(xs: [Enclosure; 8], i: usize) -> Enclosure
     xs[i]
 }
 
+// This and the sums below take lists as long as the count: the operation has refused others with 1.
 pub fn total(n: usize, v: &[f64]) -> Enclosure
     requires { ⌜ length (now v) ≡ n ⌝ }
     ensures { λ r. ⌜ r ≡ total enclosures n (points (now (v .entry))) ⌝ }
@@ -199,6 +200,7 @@ pub fn xs_of(n: usize, x: &[f64], m: &[f64; 8], mean: Enclosure) -> [Enclosure; 
 
 // ---- sums over pairs
 
+// Indexes are turns of loops over the count.
 pub fn d_ij(d: &[f64], i: usize, j: usize) -> Enclosure
     requires { ⌜ (i < length (now d)) × (j < length (now d)) ⌝ }
     ensures { λ r. ⌜ r ≡ dIj enclosures (points (now (d .entry))) i j ⌝ }
@@ -335,6 +337,7 @@ fn volume(rho: Enclosure) -> Enclosure
     enclosure::mul(rho, c)
 }
 
+// Of lists as long as the count, as above.
 pub fn properties_of(
     n: usize,
     m: &[f64; 8],
