@@ -120,6 +120,24 @@ pub struct State {
     pub densities: Vec<f64>,
 }
 
+/// The lists as a text takes them: each of the texts has a type of its own.
+macro_rules! lists_for {
+    ($text:ident, $l:expr) => {
+        $text::Lists {
+            m: &$l.m,
+            sigma: &$l.sigma,
+            epsilon_k: &$l.epsilon_k,
+            lr: &$l.lr,
+            la: &$l.la,
+            mass: &$l.mass,
+            order: &$l.order,
+            k_ij: &$l.k_ij,
+            l_ij: &$l.l_ij,
+        }
+    };
+}
+pub(crate) use lists_for;
+
 // ---- refusals by limits
 
 fn lengths(right: bool) -> Result<(), u8> {
@@ -194,17 +212,7 @@ pub fn vrq_parameters(l: &Lists, out: [usize; 3]) -> Result<QuantumSet, u8> {
             && pairs_right(n, &l.l_ij),
     )?;
     start();
-    let p = vrq::parameters(&vrq::Lists {
-        m: &l.m,
-        sigma: &l.sigma,
-        epsilon_k: &l.epsilon_k,
-        lr: &l.lr,
-        la: &l.la,
-        mass: &l.mass,
-        order: &l.order,
-        k_ij: &l.k_ij,
-        l_ij: &l.l_ij,
-    })?;
+    let p = vrq::parameters(&lists_for!(vrq, l))?;
     inside()?;
     let (sheets, orders) = vrq::flat(&p);
     Ok(QuantumSet { count: n, m: in_places(&l.m), sheets: sheets.to_vec(), orders: orders.to_vec() })

@@ -1,6 +1,6 @@
 //! The oracle tried on itself: the renamed text with the platform's functions gives the bits of the unchanged text,
 //! and both give the values worked out for a few fluids.
-use crate::oracle::same;
+use crate::oracle::{lists_for, same};
 use crate::random::Random;
 use crate::states;
 use crate::tally::Tally;
@@ -12,17 +12,7 @@ macro_rules! all_values {
         use $text::saftvrmie::parameters::r0;
         use $text::saftvrqmie::eos::driver as vrq;
         let (l, v, s, mut all) = ($l, $v, $s, vec![]);
-        let quantum = vrq::parameters(&vrq::Lists {
-            m: &l.m,
-            sigma: &l.sigma,
-            epsilon_k: &l.epsilon_k,
-            lr: &l.lr,
-            la: &l.la,
-            mass: &l.mass,
-            order: &l.order,
-            k_ij: &l.k_ij,
-            l_ij: &l.l_ij,
-        });
+        let quantum = vrq::parameters(&lists_for!(vrq, l));
         match quantum {
             Err(number) => all.push(number as f64),
             Ok(p) => {

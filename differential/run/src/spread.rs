@@ -1,6 +1,6 @@
 //! How far the platform's functions, and the slopes as num_dual has them, lead away from the port's: relative, value by value,
 //! at packing fractions from 0.01 to 0.5 and where both sides have a finite value.
-use crate::oracle::{self, PORT};
+use crate::oracle::{self, PORT, lists_for};
 use crate::random::Random;
 use crate::states::{self, Kind};
 use plain::saftvrmie::eos as vr;
@@ -41,18 +41,7 @@ fn quantum(g: &mut Random, kind: Kind, rows: &mut Spreads) -> Option<()> {
     let l = states::lists_of(g, true, kind);
     let n = l.count;
     let set = oracle::vrq_parameters(&l, [8, 384, 64]).ok()?;
-    let lists = vrq::Lists {
-        m: &l.m,
-        sigma: &l.sigma,
-        epsilon_k: &l.epsilon_k,
-        lr: &l.lr,
-        la: &l.la,
-        mass: &l.mass,
-        order: &l.order,
-        k_ij: &l.k_ij,
-        l_ij: &l.l_ij,
-    };
-    let own = vrq::parameters(&lists).ok()?;
+    let own = vrq::parameters(&lists_for!(vrq, l)).ok()?;
     let sheets = vrq::flat(&own).0;
     for (s, name) in
         ["quantum sigma_ij", "quantum epsilon_k_ij", "quantum c_ij", "quantum lambda_r_ij", "quantum lambda_a_ij", "quantum mass_ij"]
