@@ -22,6 +22,7 @@ use Rattle.saftvrmie.specs.Pairs as Mie
 use Rattle.saftvrmie_diameter_ends.specs.Operations as MieDiameter
 use Rattle.demand_three.specs.TwoEnded.{TwoEnded}
 
+-- no operation on the way gives 8
 abbrev pub isSound : Enclosure → Bool
 isSound b = b .ends .sound
 

@@ -1,4 +1,4 @@
--- The operations behind the boundary, with the lists that a call lends: lengths of the set's lists and of `out` are 1, before anything else.
+-- The operations behind the boundary, with the lists that a call lends (include/domthelv.h): 1 for the length of an `out` that is no list of the operation itself, then 1 and 4 for the set's lists, then the operation's own refusals in their order.
 use Prim.Native.Nat.{ℕ, _*_}
 use lib.Dec.{eqb}
 use lib.Ieee.{Float}
@@ -45,7 +45,7 @@ vrqParameters x l =
 unfoldable pub vrqTable : ℕ → List Float → List Float → List ℕ → Float → Lent → Ans Lent
 vrqTable n m sheets orders t l = quantumSet n m sheets orders >>= λ s. temperatureTable s t l
 
--- 'radius and last potential of sigma, zero, depth'; 'counts as in the table'
+-- 'radius and last potential of sigma, zero, depth', and the three counts
 unfoldable pub radiiWritten : SearchesIn Float → Lent → Lent
 radiiWritten r l =
     record {

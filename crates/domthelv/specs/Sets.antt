@@ -28,17 +28,18 @@ taken n d from = copied n d from (replicate n zero64)
 unfoldable pub placed : ℕ → List Float → ℕ → List Float → List Float
 placed n d to l = turns n (λ i s. set s (to + i) (at d i)) l
 
--- 'An order byte above 2 in a set is 4'
+-- 4: an order byte of a set is above 2, which no order of the enum is
 unfoldable pub ordersWithin : List ℕ → Bool
 ordersWithin l = every sheet (λ e. leb (getD l e 0) 2)
 
+-- orders from bytes, and bytes from orders
 unfoldable pub ordersRead : List ℕ → List OrderRecord
 ordersRead l = turns sheet (λ e s. set s e (record { order = orderOf (getD l e 0) })) (replicate sheet unused)
 
 unfoldable pub ordersWritten : List OrderRecord → List ℕ → List ℕ
 ordersWritten o l = turns sheet (λ e s. set s e (orderNumber (getD o e unused .order))) l
 
--- a quantum set: 'count, m (8 places), sheets (384), orders (64 bytes, 0 to 2)'
+-- a quantum set: its count, m (8), sheets (384) and orders (64 bytes, 0 to 2)
 unfoldable pub quantumLengths : List Float → List Float → List ℕ → Bool
 quantumLengths m sheets orders = eqb (length m) side && eqb (length sheets) (6 * sheet) && eqb (length orders) sheet
 
@@ -48,7 +49,7 @@ quantumSet n m sheets orders =
     demand 4 (ordersWithin orders) >>= λ _.
     held (record { count = n; m = taken side m 0; sheets = taken (6 * sheet) sheets 0; orders = ordersRead orders })
 
--- a set of SAFT-VR Mie: 'count, lists (40 places: m, sigma, epsilon_k, lr, la, eight each), sheets (384)'
+-- a set of SAFT-VR Mie: its count, lists (40: m, sigma, epsilon_k, lr, la, 8 each) and sheets (384)
 unfoldable pub mieLengths : List Float → List Float → Bool
 mieLengths lists sheets = eqb (length lists) (5 * side) && eqb (length sheets) (6 * sheet)
 

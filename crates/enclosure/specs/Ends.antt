@@ -15,6 +15,7 @@ use Rattle.enclosure.specs.Exact.{Exact}
 unfoldable pub orNotFinite : Float → Ans Float
 orNotFinite v = cond (finite v) (held v) (refused 7)
 
+-- the two ends of an enclosure
 abbrev pub endsIn : Enclosure → Ends
 endsIn b = record { lower = b .ends .lower; upper = b .ends .upper }
 

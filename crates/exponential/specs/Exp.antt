@@ -6,7 +6,7 @@ use lib.Ieee.{Float, binary64, ofBits, toBits, le, neg}
 use Rattle.number.specs.Ans.{Ans, held, refused}
 use Rattle.exponential.specs.Raise.{raiseOf}
 
--- '`exp` and `exp_m1`: −700 to 700. Ends belong, NaN never'
+-- '`exp` and `exp_m1`: −700 to 700. .. Ends belong, NaN never'
 unfoldable pub expInside : Float → Bool
 expInside x = le (neg (ofBits binary64 0x4085_e000_0000_0000)) x && le x (ofBits binary64 0x4085_e000_0000_0000)
 

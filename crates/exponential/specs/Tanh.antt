@@ -9,7 +9,7 @@ use Rattle.exponential.specs.Raise.{significandOf}
 use Rattle.exponential.specs.Exp.{exponentAt}
 use Rattle.exponential.specs.ExpM1.{fieldOf}
 
--- '`tanh`: −350 to 350. Ends belong, NaN never'
+-- '`tanh`: −350 to 350. .. Ends belong, NaN never'
 unfoldable pub tanhInside : Float → Bool
 tanhInside x = le (neg (ofBits binary64 0x4075_e000_0000_0000)) x && le x (ofBits binary64 0x4075_e000_0000_0000)
 

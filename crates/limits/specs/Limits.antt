@@ -14,6 +14,7 @@ use Rattle.limits.specs.declared.Component.{Component}
 abbrev pub square : ℕ → List Float → ℕ → ℕ → Float
 square n l i j = at l (n * i + j)
 
+-- component i of the four lists
 abbrev pub components : List Float → List Float → List Float → List Float → ℕ → Component
 components sigma epsilon-k lr la i = record { sigma = at sigma i; «epsilon_k» = at epsilon-k i; lr = at lr i; la = at la i }
 

@@ -7,10 +7,12 @@ use Rattle.mie_parameters.specs.declared.ParameterAnswer.the-variants.{H
 use Rattle.mie_parameters.specs.declared.NumberAnswer.{NumberAnswer}
 use Rattle.mie_parameters.specs.declared.NumberAnswer.the-variants as One
 
+-- the state where the answer holds, else the number
 abbrev pub outcome : {S : Type 0} → ParameterAnswer → S → Ans S
 outcome Held s = held s
 outcome (Refused n) s = refused n
 
+-- a refusal's number, 0 where the answer holds
 abbrev pub numberOf : ParameterAnswer → ℕ
 numberOf Held = 0
 numberOf (Refused n) = n

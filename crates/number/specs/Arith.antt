@@ -33,15 +33,18 @@ unfoldable pub decimal : Bool → ℕ → ℕ → Float
 unfolding Ieee.round
 decimal s digits places = Ieee.round binary64 s digits (10 ^ places)
 
+-- the f64 of a pattern of 64 bits
 abbrev pub bits : ℕ → Float
 bits n = Ieee.ofBits binary64 n
 
+-- +0 and 1.0
 abbrev pub zero64 : Float
 zero64 = bits 0
 
 abbrev pub one64 : Float
 one64 = bits 0x3ff0_0000_0000_0000
 
+-- the float run: each operation rounded; an input or answer is itself; unused work does not count
 abbrev pub floats : Arith
 floats =
     record {

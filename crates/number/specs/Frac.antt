@@ -12,6 +12,7 @@ pub data Frac : Type 0 where
 abbrev pub Pos : Frac → Type 0
 Pos (frac p n d) = 0 < d
 
+-- at most, and less: by cross products
 abbrev pub leF : Frac → Frac → Type 0
 leF (frac p n d) (frac q m c) = p * c + m * d ≤ q * d + n * c
 

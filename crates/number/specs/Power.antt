@@ -10,6 +10,7 @@ digits zero n = []
 digits (suc k) n = cond (eqb n 0) [] (eqb (n % 2) 1 ∷ digits k (n / 2))
 
 module _ {N : Type 0} (mul : N → N → N) where
+  -- from the digits that are left, the current square and the product so far
   unfoldable pub powDigits : List Bool → N → N → N
   powDigits [] sq acc = acc
   powDigits (d ∷ []) sq acc = cond d (mul acc sq) acc

@@ -19,6 +19,7 @@ positiveRoot n =
     let f = (size n + 969) / 2 in
     ofBits binary64 (f * 2 ^ 52 + (wholeRoot 54 (n * 2 ^ 1076 / 2 ^ (2 * f)) + 1) / 2)
 
+-- `sqrt`: 6 outside
 unfoldable pub root : Float → Ans Float
 root nan = refused 6
 root (inf s) = refused 6

@@ -25,12 +25,14 @@ unfoldable pub diameterAt : List Float → Float → ℕ → Ans Float
 diameterAt sheets t i =
     hsDiameter floats (calls floats port) (diagonal sheets 3 i) (diagonal sheets 2 i) (diagonal sheets 4 i) (diagonal sheets 1 i) (diagonal sheets 0 i) t
 
+-- component i, and all of them in order, in eight places
 unfoldable pub diameterTurn : List Float → Float → ℕ → List Float → Ans (List Float)
 diameterTurn sheets t i l = diameterAt sheets t i >>= λ d. held (set l i d)
 
 unfoldable pub worked : ℕ → List Float → Float → Ans (List Float)
 worked n sheets t = walk n (diameterTurn sheets t) (replicate side zero64)
 
+-- 7: a diameter is not finite
 unfoldable pub allFinite : ℕ → List Float → Bool
 allFinite n l = every n (λ i. finite (at l i))
 

@@ -1,4 +1,4 @@
--- The code's structs as the formulas' records, and the number or values of each case of the answers; a real power of x0 by the logarithm of x0.
+-- The code's structs as the formulas' records, and the number or values of each case of the answers.
 use lib.Ieee.{Float}
 use Rattle.number.specs.Ans.{Ans, held, refused}
 use Rattle.dual.specs.Dual.{DualOf}

@@ -61,7 +61,7 @@ module _ (A : Arith) where
   unfoldable pub fluidDual : Num → Num → FluidIn (DualOf Num)
   fluidDual zeta-x rho = let z = zetaDual zeta-x rho in fluidOf (duals A) (rhoDual rho) z (kHs (duals A) z)
 
-  -- g1 from the slope of a1; pref' is d3 * eps_k * 2.0 * PI
+  -- `g1` from the slope of a1; pref is that of `linkPref`
   unfoldable pub g1Of : OrdersIn (DualOf Num) → PairIn Num → Num → Num
   g1Of o p pref = o .a1 .eps ⊗ whole 3 ⊘ pref ⊖ (o .five .at-la .re ⊗ p .la ⊖ o .five .at-lr .re ⊗ p .lr) ⊗ p .c
 
@@ -71,6 +71,7 @@ module _ (A : Arith) where
       o .a2 .eps ⊗ whole 3 ⊘ pref ⊘ p .epsilon-k
       ⊖ (o .five .at-2lr .re ⊗ p .lr ⊖ o .five .at-lalr .re ⊗ (p .la ⊕ p .lr) ⊕ o .five .at-2la .re ⊗ p .la) ⊗ k-hs ⊗ pow (p .c) 2
 
+  -- the pref of `g1` and `g2_mca`: d3 * eps_k * 2.0 * PI
   unfoldable pub linkPref : Num → Num → Num → Num
   linkPref pi d3 eps-k = d3 ⊗ eps-k ⊗ whole 2 ⊗ pi
 
@@ -83,6 +84,7 @@ module _ (A : Arith) where
     unfoldable pub gHs : KIn Num → Num → Ans Num
     gHs k x0 = F .exp (k .k0 ⊕ k .k1 ⊗ x0 ⊕ k .k2 ⊗ pow x0 2 ⊕ k .k3 ⊗ pow x0 3)
 
+    -- `gamma`
     unfoldable pub gammaOf : Num → Num → Num → Ans Num
     gammaOf zeta-x-bar beta-eps alpha =
         F .expm1 beta-eps >>= λ e.

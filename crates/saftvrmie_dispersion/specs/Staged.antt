@@ -11,6 +11,7 @@ use Rattle.saftvrmie_dispersion.specs.Terms.{FiveIn}
 abbrev pub powerBy : Log → Float → Float
 powerBy l y = powerOf l (exponentOf y)
 
+-- 3.0 - lambda, 4.0 - lambda, 2.0 * lambda
 abbrev pub threeLess : Float → Float
 threeLess y = floats .sub (decimal false 3 0) y
 

@@ -32,7 +32,6 @@ pub record FluidIn (N : Type 0) : Type 0 where
   -- (-zeta_x + 1.0).powi(-3)
   pub b3 : N
 
--- (zeta_x - 1.0).powi(4) / ((zeta_x + zeta_x.powi(2) - zeta_x.powi(3)) * 4.0 + zeta_x.powi(4) + 1.0)
 module _ (D : Arith) where
   open Arith D using (Num, add as _⊕_, sub as _⊖_, mul as _⊗_, div as _⊘_, neg as ⊖_, pow, powDown, lit)
 
@@ -41,11 +40,13 @@ module _ (D : Arith) where
   infixl 70 _⊗_
   infixl 70 _⊘_
   infix 80 ⊖_
+  -- `k_hs`: (zeta_x - 1.0).powi(4) / ((zeta_x + zeta_x.powi(2) - zeta_x.powi(3)) * 4.0 + zeta_x.powi(4) + 1.0)
   unfoldable pub kHs : Num → Num
   kHs zeta-x =
       pow (zeta-x ⊖ lit (decimal false 1 0)) 4
       ⊘ ((zeta-x ⊕ pow zeta-x 2 ⊖ pow zeta-x 3) ⊗ lit (decimal false 4 0) ⊕ pow zeta-x 4 ⊕ lit (decimal false 1 0))
 
+  -- from the segment density, zeta_x and k_hs
   unfoldable pub fluidOf : Num → Num → Num → FluidIn Num
   fluidOf rho zeta-x k-hs =
       record {
@@ -122,7 +123,7 @@ module _ (A D : Arith) (plain : A .Num → D .Num) where
   unfoldable pub a1sBOf : FluidIn Num → A .Num → A .Num → A .Num → A .Num → Num
   a1sBOf w lambda p p3 p4 = plain p ⊗ (a1s (w .zeta-x) lambda ⊕ bOf w (iOf (plain p3) lambda) (jOf (plain p4) (plain p3) lambda))
 
-  -- `a1s_b_ij`. x0 is a plain number in either run (01: 'x0 has slope 0'). Its real powers, `x0-powf`, are worked plain and enter by `plain` (01: 'a real power of x0 has slope +0').
+  -- `a1s_b_ij`. x0 is a plain number in either run (01: 'x0 has slope 0'). Its real powers, `x0-powf`, are worked plain and enter by `plain` (01: 'a plain number, and a real power of x0, has slope +0').
   unfoldable pub a1sB : (A .Num → Ans (A .Num)) → FluidIn Num → A .Num → Ans Num
   a1sB x0-powf w lambda =
       x0-powf lambda >>= λ p.

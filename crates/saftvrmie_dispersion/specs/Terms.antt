@@ -92,6 +92,7 @@ module _ (A : Arith) where
       (alpha ⊗ lit (at phi 1) ⊕ alpha2 ⊗ lit (at phi 2) ⊕ alpha3 ⊗ lit (at phi 3) ⊕ lit (at phi 0))
       ⊘ (alpha ⊗ lit (at phi 4) ⊕ alpha2 ⊗ lit (at phi 5) ⊕ alpha3 ⊗ lit (at phi 6) ⊕ one)
 
+  -- zeta_x_bar, `zx5` and `zx8`
   unfoldable pub barOf : Num → BarIn Num
   barOf zeta-x-bar = record { zeta-x-bar = zeta-x-bar; zx5 = pow zeta-x-bar 5; zx8 = pow zeta-x-bar 8 }
 
@@ -148,9 +149,11 @@ module _ (A D : Arith) (plain : A .Num → D .Num) where
   unfoldable pub prefOf : A .Num → Num → A .Num → A .Num → A .Num → Num
   prefOf pi rho d3 eps-k c = rho ⊗ plain d3 ⊗ plain eps-k ⊗ lit (decimal false 2 0) ⊗ plain pi ⊗ plain c
 
+  -- `a1_ii`, `a1_ij`
   unfoldable pub a1Of : Num → FiveIn Num → Num
   a1Of pref s = pref ⊗ (s .at-la ⊖ s .at-lr)
 
+  -- `a2_ii`, `a2_ij`
   unfoldable pub a2Of : Num → A .Num → A .Num → Num → FiveIn Num → Num
   a2Of pref eps-k c k-hs s = pref ⊗ plain eps-k ⊗ plain c ⊗ k-hs ⊗ lit (decimal false 5 1) ⊗ (s .at-2la ⊖ s .at-lalr ⊗ lit (decimal false 2 0) ⊕ s .at-2lr)
 

@@ -33,7 +33,7 @@ module _ (A : Arith) (F : Functions (A .Num)) where
   abbrev pub noSums : SumsIn Num
   noSums = record { a1 = lit zero64; a2 = lit zero64; a3 = lit zero64; a-chain = lit zero64 }
 
-  -- the pairs of a row, and its component
+  -- the pair (i, j) of a row
   unfoldable pub pairTurn : (ℕ → Num) → (ℕ → Num) → (ℕ → ℕ → PairIn Num) → FluidIn Num → BarIn Num → ℕ → ℕ → SumsIn Num → Ans (SumsIn Num)
   pairTurn xs d pair w bar i j s = termsOf A F w bar (pair i j) (dIj A d i j) >>= λ t. held (addPair A (xs i) (xs j) t s)
 
@@ -51,6 +51,7 @@ module _ (A : Arith) (F : Functions (A .Num)) where
     chainRow v k p link i s = chainPure A F v bar k p (d i) link (xs i) s >>= λ t. pairRow i t
 
     module _ (pure : ℕ → PairIn Num) where
+      -- all components in order, each before its pairs
       unfoldable pub dispRows : Ans (SumsIn Num)
       dispRows = walk n (λ i. dispRow (pure i) i) noSums
 
@@ -58,6 +59,7 @@ module _ (A : Arith) (F : Functions (A .Num)) where
       chainRows v k link = walk n (λ i. chainRow v k (pure i) (link i) i) noSums
 
   module _ (n : ℕ) (s : StateIn Num) where
+    -- `t_inv`
     abbrev pub tInv : Num
     tInv = lit (decimal false 1 0) ⊘ s .temperature
 
@@ -68,9 +70,11 @@ module _ (A : Arith) (F : Functions (A .Num)) where
     abbrev pub xsAt : ℕ → Num
     xsAt = nth A (xsOf A n (s .fraction) (s .m) meanAt)
 
+    -- what only the chain reads of component i
     abbrev pub linkAt : ℕ → LinkIn Num
     linkAt i = record { m = s .m i; fraction = s .fraction i; t-inv = tInv }
 
+    -- `Properties::new`
     abbrev pub propertiesAt : Ans (PropertiesIn Num)
     propertiesAt = properties A F n xsAt (s .density) (s .diameter) (s .m) (s .pair)
 

@@ -41,6 +41,7 @@ module _ (A : Arith) where
   abbrev pub nth : List Num → ℕ → Num
   nth l i = getD l i (lit nan)
 
+  -- `d_ij`, `d3_ij`, and sigma_ij.powi(3)
   unfoldable pub dIj : (ℕ → Num) → ℕ → ℕ → Num
   dIj d i j = (d i ⊕ d j) ⊗ lit (decimal false 5 1)
 
@@ -56,6 +57,7 @@ module _ (A : Arith) where
     unfoldable pub zetaTurn : ℕ → ℕ → Num → Num
     zetaTurn i k s = s ⊕ xs i ⊗ xs (i + 1 + k) ⊗ cube i (i + 1 + k) ⊗ lit (decimal false 2 0)
 
+    -- component i, then its pairs
     unfoldable pub zetaRow : ℕ → Num → Num
     zetaRow i s = turns (n - (i + 1)) (zetaTurn i) (s ⊕ pow (xs i) 2 ⊗ cube i i)
 

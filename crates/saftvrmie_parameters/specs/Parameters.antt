@@ -80,6 +80,7 @@ storePair s e p =
     set (set (set (set (set (set s e (p .sigma)) (1 * sheet + e) (p .«epsilon_k»)) (2 * sheet + e) (p .lr)) (3 * sheet + e) (p .la)) (4 * sheet + e) (p .c)) (5 * sheet + e) (p .alpha)
 
 module _ (n : ℕ) (c : ℕ → Component) (k gamma : ℕ → ℕ → Float) where
+  -- pair (i, j) into its entry; pairs row by row
   unfoldable pub sheetsTurn : ℕ → ℕ → List Float → Ans (List Float)
   sheetsTurn i j s = pairParameters (c i) (c j) (k i j) (gamma i j) >>= λ p. held (storePair s (cell i j) p)
 
@@ -106,6 +107,7 @@ saftVRMiePars l =
       sheets = s;
     })
 
+-- a component list of a refused set
 abbrev pub blank : List Float
 blank = replicate side zero64
 
@@ -113,6 +115,7 @@ blank = replicate side zero64
 abbrev pub emptySet : SaftVRMiePars
 emptySet = record { count = 0; m = blank; sigma = blank; «epsilon_k» = blank; lr = blank; la = blank; sheets = replicate (6 * sheet) zero64 }
 
+-- held or a number, with the set beside it
 unfoldable pub given : Ans SaftVRMiePars → ParameterSet
 given (held s) = record { answer = Held; set = s }
 given (refused n) = record { answer = Refused n; set = emptySet }

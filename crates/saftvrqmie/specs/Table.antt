@@ -48,6 +48,7 @@ store s e p =
       numbers = set (set (set (s .numbers) e (p .sigma-count)) (1 * sheet + e) (p .zero-count)) (2 * sheet + e) (p .depth-count);
     }
 
+-- pair (i, j), row i, and all ordered pairs row by row
 unfoldable pub workTurn : List Float → List OrderRecord → Float → ℕ → ℕ → Lent → Ans Lent
 workTurn s orders t i j x = pairProperties floats (calls floats port) (pairIn (pairAt s orders t (cell i j))) >>= λ p. held (store x (cell i j) p)
 
@@ -61,6 +62,7 @@ workPairs n s orders t x = walk n (workRow n s orders t) x
 abbrev pub blank : Lent
 blank = record { values = replicate (4 * sheet) zero64; numbers = replicate (3 * sheet) 0 }
 
+-- unused places are +0, so that all 256 can be tested
 unfoldable pub allFinite : List Float → Bool
 allFinite l = every (4 * sheet) (λ k. finite (at l k))
 

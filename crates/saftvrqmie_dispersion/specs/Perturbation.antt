@@ -136,6 +136,7 @@ module _ (A : Arith) where
     unfoldable pub factors4 : FactorsIn Num
     factors4 = record { afac = g .qa2 ⊗ g .qa2; rfac = g .qr2 ⊗ g .qr2; arfac = ⊖ g .qr2 ⊗ g .qa2 ⊗ two }
 
+    -- afac, rfac and arfac at turn q
     unfoldable pub factors : FeynmanHibbsOrder → ℕ → FactorsIn Num
     factors order q =
         cond (eqb q 0) factors0
@@ -160,6 +161,7 @@ module _ (A : Arith) where
         combine (p .lr) >>= λ int-r.
         held (int-a ⊖ int-r)
 
+    -- the quantum corrections of first and of second order
     unfoldable pub firstQ1 : Num → Ans Num
     firstQ1 v =
         combine (p .la ⊕ two) >>= λ int-qa.
@@ -196,7 +198,7 @@ module _ (A : Arith) where
         walk (orderNumber (p .order) * 2 + 1) (secondTurn g) (whole A 0) >>= λ a2.
         held (secondClosed p g a2)
 
-  -- combine_sutherland_and_b of a pair
+  -- combine_sutherland_and_b of a pair, and both perturbations by it
   unfoldable pub combineOf : Functions Num → DispersionIn Num → Num → Ans Num
   combineOf F p = combineSutherlandAndB A F (p .epsilon-k) (p .zeta) (p .x0) (p .x0-eff)
 

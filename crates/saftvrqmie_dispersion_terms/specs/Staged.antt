@@ -26,5 +26,6 @@ termsOf epsilon-k zeta x0 x0-eff =
     demand 6 (baseInside x0-eff) >>= λ _.
     held (record { «epsilon_k» = epsilon-k; zeta = zeta; «factor_i» = factorI floats zeta; «factor_j» = factorJ floats zeta; x0 = logOf x0; «x0_eff» = logOf x0-eff })
 
+-- `combine_sutherland_and_b` at an exponent
 unfoldable pub combineAt : PairTerms → Float → Ans Float
 combineAt w lambda = combine floats lambda (w .«epsilon_k») (w .zeta) (w .«factor_i») (w .«factor_j») (powfAt (w .x0)) (powfAt (w .«x0_eff»))

@@ -14,6 +14,7 @@ module _ (A : Arith) where
   infixl 70 _⊗_
   infixl 70 _⊘_
   infix 80 ⊖_
+  -- a whole number of the source, as a point
   abbrev pub whole : ℕ → Num
   whole n = lit (decimal false n 0)
 
@@ -21,6 +22,7 @@ module _ (A : Arith) where
   unfoldable pub lamSum : ℕ → Num → Num → Num → Num → Num
   lamSum i l0 l1 l2 l3 = l0 ⊗ lit (lam i 0) ⊕ l1 ⊗ lit (lam i 1) ⊕ l2 ⊗ lit (lam i 2) ⊕ l3 ⊗ lit (lam i 3)
 
+  -- `eta_eff`
   unfoldable pub etaEff : Num → Num → Num
   etaEff lambda zeta =
       let l0 = whole 1 in
@@ -74,7 +76,7 @@ module _ (A : Arith) where
       power-eff (whole 3 ⊖ lambda) >>= λ p3.
       held (jlambdaOf lambda p4 p3)
 
-  -- divided by the packing fraction, as in the Rust
+  -- `b`: eq. 33 of Lafitte et al. 2013, divided by the packing fraction, as the Rust says
   unfoldable pub b : Num → Num → Num → Num → (Num → Ans Num) → (Num → Ans Num) → Ans Num
   b lambda epsilon-k fi fj power power-eff =
       ilambda lambda power-eff >>= λ i.
@@ -82,6 +84,7 @@ module _ (A : Arith) where
       power lambda >>= λ p.
       held (bOf epsilon-k fi fj i j p)
 
+  -- `combine_sutherland_and_b` from the two factors of `b` and the powers of both ratios
   unfoldable pub combine : Num → Num → Num → Num → Num → (Num → Ans Num) → (Num → Ans Num) → Ans Num
   combine lambda epsilon-k zeta fi fj power power-eff =
       sutherland lambda epsilon-k zeta power >>= λ int-as.

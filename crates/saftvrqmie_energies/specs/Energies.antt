@@ -22,6 +22,7 @@ use Rattle.saftvrqmie_energies.specs.declared.QuantumEnergies.{QuantumEn
 use Rattle.saftvrqmie_energies.specs.declared.EnergiesAnswer.{EnergiesAnswer}
 use Rattle.saftvrqmie_energies.specs.declared.EnergiesAnswer.the-variants.{Energies, Refused}
 
+-- the three contributions, in the numbers N
 pub record EnergiesIn (N : Type 0) : Type 0 where
   pub hard-sphere : N
   pub dispersion : N
@@ -47,6 +48,7 @@ abbrev pub contributionsOf : (A : Arith) → Functions (A .Num) → SaftVRQMiePa
 contributionsOf A F s t x rho table wanted =
     contributions A F (sheetsOf A (s .count) (s .sheets) (s .orders) t table) (points A x) (points A rho) (points A (s .m)) (A .lit t) wanted
 
+-- 7: a contribution is not finite
 unfoldable pub allFinite : EnergiesIn Float → Bool
 allFinite e = finite (e .hard-sphere) && finite (e .dispersion) && finite (e .non-additive)
 

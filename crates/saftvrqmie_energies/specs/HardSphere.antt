@@ -10,6 +10,7 @@ use Rattle.saftvrqmie_potential.specs.Potential.{whole, recip}
 use Rattle.saftvrqmie_energies.specs.declared.Zetas.{Zetas}
 use Rattle.saftvrqmie_energies.specs.declared.Zeta23.{Zeta23}
 
+-- zeta[0] to zeta[3]
 pub record ZetaIn (N : Type 0) : Type 0 where
   pub z0 : N
   pub z1 : N
@@ -19,6 +20,7 @@ pub record ZetaIn (N : Type 0) : Type 0 where
 abbrev pub zetaIn : Zetas → ZetaIn Float
 zetaIn z = record { z0 = z .z0; z1 = z .z1; z2 = z .z2; z3 = z .z3 }
 
+-- the two sums of `zeta_23`
 pub record Zeta23In (N : Type 0) : Type 0 where
   pub y0 : N
   pub y1 : N
@@ -66,7 +68,7 @@ module _ (A : Arith) where
       let f = frac1mz3 (z .z3) in
       (z .z1 ⊗ z .z2 ⊗ f ⊗ whole A 3 ⊕ pow (z .z2) 2 ⊗ pow f 2 ⊗ z23 ⊕ (z .z2 ⊗ pow z23 2 ⊖ z .z0) ⊗ l) ⊗ whole A 6 ⊘ F .pi
 
-  -- n, mole fractions, partial densities, diameters, m
+  -- `helmholtz_energy_density`: n, mole fractions, partial densities, diameters, m
   unfoldable pub hardSphere : Functions Num → ℕ → (ℕ → Num) → (ℕ → Num) → (ℕ → Num) → (ℕ → Num) → Ans Num
   hardSphere F n x rho d m =
       let z = zeta F n rho d m in

@@ -47,7 +47,7 @@ module _ (A : Arith) where
     unfoldable pub densityShares : Num → (ℕ → Num) → (ℕ → Num) → List Num
     densityShares rho-s rho m = filled A n (λ i. rho i ⊗ m i ⊘ rho-s)
 
-    -- from partial densities and m; zeta[0] and zeta[1] are worked, though nothing uses them
+    -- from partial densities, m and the pairs' diameters; zeta[0] and zeta[1] are worked, though nothing uses them
     unfoldable pub nonAdditive : (ℕ → Num) → (ℕ → Num) → (ℕ → Num) → Num
     nonAdditive rho m d =
         let z = zeta A F n rho (diagonal d) m in

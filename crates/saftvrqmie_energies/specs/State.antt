@@ -21,7 +21,7 @@ pub record SheetsIn (N : Type 0) : Type 0 where
   pub epsilon-k-eff : ℕ → N
   pub quantum-d : ℕ → N
 
--- a test's answer with the state beside it: held, or 6
+-- a test's answer with the state beside it, for the contracts of helpers alone: held, or 6
 unfoldable pub heldOr6 : {S : Type 0} → Bool → S → Ans S
 heldOr6 true s = held s
 heldOr6 false s = refused 6
@@ -35,7 +35,7 @@ module _ (A : Arith) where
 
   infixl 60 _⊕_
   infixl 70 _⊗_
-  -- 'Inputs are single points'
+  -- 'Inputs .. are single points'
   abbrev pub points : List Float → ℕ → Num
   points l i = lit (at l i)
 

@@ -102,6 +102,7 @@ storePair s e p =
     set (set (set (set (set (set s e (p .sigma)) (1 * sheet + e) (p .«epsilon_k»)) (2 * sheet + e) (p .c)) (3 * sheet + e) (p .lr)) (4 * sheet + e) (p .la)) (5 * sheet + e) (p .mass)
 
 module _ (n : ℕ) (c : ℕ → Component) (mass : ℕ → Float) (k l : ℕ → ℕ → Float) where
+  -- pair (i, j) into its entry; pairs row by row
   unfoldable pub sheetsTurn : ℕ → ℕ → List Float → Ans (List Float)
   sheetsTurn i j s = pairParameters (c i) (c j) (mass i) (mass j) (k i j) (l i j) >>= λ p. held (storePair s (cell i j) p)
 
@@ -112,12 +113,15 @@ module _ (n : ℕ) (c : ℕ → Component) (mass : ℕ → Float) (k l : ℕ →
   unfoldable pub sheetsOf : Ans (List Float)
   sheetsOf = walk n sheetsRow (replicate (6 * sheet) zero64)
 
+-- `FeynmanHibbsOrder::try_from`; where it is used the number is at most 2
 abbrev pub orderOf : ℕ → FeynmanHibbsOrder
 orderOf n = cond (eqb n 0) FH0 (cond (eqb n 1) FH1 FH2)
 
+-- 'FH0 if unused'
 abbrev pub unused : OrderRecord
 unused = record { order = FH0 }
 
+-- fh_ij: the larger order of the two
 unfoldable pub ordersTurn : List ℕ → ℕ → ℕ → List OrderRecord → List OrderRecord
 ordersTurn fh i j s = set s (cell i j) (record { order = orderOf (max (getD fh i 0) (getD fh j 0)) })
 
@@ -141,6 +145,7 @@ saftVRQMiePars l =
 abbrev pub emptySet : SaftVRQMiePars
 emptySet = record { count = 0; m = replicate side zero64; sheets = replicate (6 * sheet) zero64; orders = replicate sheet unused }
 
+-- held or a number, with the set beside it
 unfoldable pub given : Ans SaftVRQMiePars → ParameterSet
 given (held s) = record { answer = Held; set = s }
 given (refused n) = record { answer = Refused n; set = emptySet }

@@ -62,6 +62,7 @@ module _ (A : Arith) where
   infixl 70 _⊗_
   infixl 70 _⊘_
   infix 80 ⊖_
+  -- a whole number of the source, as a point; and x.recip()
   abbrev pub whole : ℕ → Num
   whole n = lit (decimal false n 0)
 
@@ -156,6 +157,7 @@ module _ (A : Arith) where
           F .powf (p .sigma) (p .la) >>= λ sa.
           held (f rr sr ra sa)
 
+      -- u, u_r and u_rr of the Mie potential
       unfoldable pub mie : Ans (PotentialIn Num)
       mie =
           line (p .lr) (p .la) uMie >>= λ u.
@@ -163,6 +165,7 @@ module _ (A : Arith) where
           line (p .lr ⊕ whole 2) (p .la ⊕ whole 2) (urrMie (p .lr) (p .la)) >>= λ u-rr.
           held (record { u = u; u-r = u-r; u-rr = u-rr })
 
+      -- the correction of first order
       unfoldable pub addFirst : PotentialIn Num → Ans (PotentialIn Num)
       addFirst v =
           line (p .lr ⊕ whole 2) (p .la ⊕ whole 2) (uFirst q1r q1a) >>= λ x.
@@ -170,6 +173,7 @@ module _ (A : Arith) where
           line (p .lr ⊕ whole 4) (p .la ⊕ whole 4) (urrFirst (p .lr) (p .la) q1r q1a) >>= λ z.
           held (corrected d v x y z)
 
+      -- the correction of second order; d.powi(2) is worked for each of the three
       unfoldable pub addSecond : PotentialIn Num → Ans (PotentialIn Num)
       addSecond v =
           line (p .lr ⊕ whole 4) (p .la ⊕ whole 4) (uSecond q2r q2a) >>= λ x.
@@ -177,6 +181,7 @@ module _ (A : Arith) where
           line (p .lr ⊕ whole 6) (p .la ⊕ whole 6) (urrSecond (p .lr) (p .la) q2r q2a) >>= λ z.
           held (corrected (pow d 2) v x y z)
 
+      -- `qmie_potential_ij` at the radius r
       unfoldable pub potential : Ans (PotentialIn Num)
       potential =
           mie >>= λ v.

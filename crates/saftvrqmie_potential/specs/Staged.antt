@@ -59,6 +59,7 @@ termOf s l =
       e6 = exponentOf (plus l (whole floats 6));
     }
 
+-- what all radii of a pair share
 abbrev pub sharedValues : Pair → Shared
 sharedValues p =
     let d = quantumD floats (calls floats port) (p .mass) (p .temperature) in

@@ -1,4 +1,4 @@
--- `TemperatureDependentProperties::new` of saftvrqmie/eos/mod.rs at one pair: both searched radii, diameter, well depth and D, with the counts of the three searches.
+-- `TemperatureDependentProperties::new` of saftvrqmie/eos/mod.rs at one pair: sigma_eff, diameter, well depth and D, with the counts of the three searches.
 use Prim.Native.Nat.{ℕ}
 use lib.Ieee.{Float}
 use Rattle.number.specs.Ans.{Ans, held, refused, _>>=_}

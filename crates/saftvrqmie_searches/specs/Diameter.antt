@@ -93,9 +93,10 @@ module _ (A : Arith) where
         let f-u = ⊖ e ⊕ lit (decimal false 1 0) in
         held (after (v .u-r) (after (v .u-rr) (d-hs ⊕ width ⊗ f-u ⊗ entry F weights k)))
 
+    -- by the potential U: the sum starts at r0
     unfoldable pub diameterBy : Ans Num
     diameterBy = walk 21 nodeTurn r0
 
-  -- from the searched radii sigma_eff and r0
+  -- `hs_diameter_ij` from the searched radii sigma_eff and r0
   unfoldable pub diameter : Functions Num → PairIn Num → Num → Num → Ans Num
   diameter F p sigma-eff r0 = diameterBy F (potential A F p) (p .temperature) sigma-eff r0

@@ -54,7 +54,7 @@ module _ (A : Arith) where
   clamped dr =
       cond (lt (decimal false 5 1) (absolute (val dr))) (dr ⊗ lit (Ieee.div binary64 (decimal false 5 1) (absolute (val dr)))) dr
 
-  -- A search by the potential U: what is tested, and the next radius from the radius, its potential and the tested value. The radius stands after all three parts of the potential.
+  -- A search by the potential U: what is tested, and the next radius from the radius, its potential and the tested value. The radius stands after both derivatives; u is kept beside it, as the last potential.
   module _ (U : Num → Ans (PotentialIn Num)) (tested : PotentialIn Num → Ans Num) (moved : Num → PotentialIn Num → Num → Num) where
     -- at most n evaluations more from the radius r; u is the last potential
     unfoldable pub searchFrom : ℕ → Num → Num → Ans (Counted Num)
@@ -89,6 +89,7 @@ module _ (A : Arith) where
   zeroTested F temperature v = F .ln (lit epsilon) >>= λ l. held (zeroValue temperature l v)
 
   module _ (U : Num → Ans (PotentialIn Num)) where
+    -- the searches by a potential U: the sigma search tests u, the depth search u_r, the zero search f
     unfoldable pub sigmaSearch : Num → Ans (Counted Num)
     sigmaSearch sigma = searched U (λ v. held (v .u)) sigmaStep sigma
 
@@ -98,7 +99,7 @@ module _ (A : Arith) where
     unfoldable pub zeroSearch : Functions Num → Num → Num → Ans (Counted Num)
     zeroSearch F temperature sigma-eff = searched U (zeroTested F temperature) (zeroStep temperature) (sigma-eff ⊗ lit (decimal false 7 1))
 
-  -- the three searches as one, with the logarithm l of EPSILON at hand: what is tested, and the step
+  -- the three searches as one, with the logarithm l of EPSILON at hand, for the contracts of helpers alone: what is tested, and the step
   abbrev pub testedBy : SearchKind → Num → Num → PotentialIn Num → Num
   testedBy Sigma temperature l v = v .u
   testedBy Zero temperature l v = zeroValue temperature l v

@@ -32,6 +32,7 @@ timesLow neg k = mulF (sgn neg k 1) (cond neg ln2High ln2Low)
 abbrev pub timesHigh : Bool → ℕ → Frac
 timesHigh neg k = mulF (sgn neg k 1) (cond neg ln2Low ln2High)
 
+-- 'z = (w−1)/(w+1)'
 abbrev pub zOf : Frac → Frac
 zOf w = divF (subF w (natF 1)) (addF w (natF 1))
 
@@ -60,7 +61,7 @@ expTail t = overF (mulF (natF 2) (powF (absF t) 30)) (factorial 30)
 abbrev pub rest : Frac → Bool → ℕ → Frac → Frac
 rest v neg k l = subF v (mulF (sgn neg k 1) l)
 
--- 'exp v: v = kM + t with −M/2 ≤ t < M/2; over the t that the bracket allows' (v - k l for every value l of ln 2 in its bracket) '.., times 2^k': e is in the bracket of exp v
+-- 'exp v: v = kM + t with .. −M/2 ≤ t < M/2; over the t that the bracket allows' (v - k l for every value l of ln 2 in its bracket) '.., times 2^k': e is in the bracket of exp v
 pub record ExpValue (v e : Frac) : Type 0 where
   pub neg : Bool
   pub k : ℕ
