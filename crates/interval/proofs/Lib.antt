@@ -1,3 +1,4 @@
 pub mod Points
 pub mod Encloses
+pub mod Near
 pub mod Example

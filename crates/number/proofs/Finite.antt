@@ -25,19 +25,19 @@ module _ (f : Format) where
   none zero d B x D h k = h
   none (suc G) d B x D h k = absurd (lt-irrefl 0 (lt-of-lt-of-le (mul-pos (zero-lt-suc G) D) (omega arith)))
 
-  abbrev B : ℕ
+  abbrev pub B : ℕ
   B = 2 ^ low f * 2 ^ suc (emax f)
 
-  B-pos : 0 < B
+  pub B-pos : 0 < B
   B-pos = mul-pos (pow-pos (low f)) (pow-pos (suc (emax f)))
 
-  upper : (G : ℕ) (w : Float) → T (fits f w) → T (finite w) → leF (sgn false G (2 ^ low f)) (valF w) → G < B
+  pub upper : (G : ℕ) (w : Float) → T (fits f w) → T (finite w) → leF (sgn false G (2 ^ low f)) (valF w) → G < B
   upper G nan p t h = absurd t
   upper G (inf s) p t h = absurd t
   upper G (fin false m e) p t h = small G (m * up e) (down e) _ B (down-pos e) (known f false m e p .exact) (known f false m e p .under) (omega arith)
   upper G (fin true m e) p t h = none G (down e) B (m * up e * 2 ^ low f) (down-pos e) B-pos (omega arith)
 
-  lower : (G : ℕ) (w : Float) → T (fits f w) → T (finite w) → leF (valF w) (sgn true G (2 ^ low f)) → G < B
+  pub lower : (G : ℕ) (w : Float) → T (fits f w) → T (finite w) → leF (valF w) (sgn true G (2 ^ low f)) → G < B
   lower G nan p t h = absurd t
   lower G (inf s) p t h = absurd t
   lower G (fin true m e) p t h = small G (m * up e) (down e) _ B (down-pos e) (known f true m e p .exact) (known f true m e p .under) (omega arith)
@@ -47,7 +47,7 @@ module _ (f : Format) where
   in-range false G u w p t q v h k = upper G w q v k
   in-range true G u w p t q v h k = lower G u p t h
 
-  round-finite : (s : Bool) (a c : ℕ) → grid f a c < B → T (finite (round f s a c))
+  pub round-finite : (s : Bool) (a c : ℕ) → grid f a c < B → T (finite (round f s a c))
   round-finite s a c h =
       subst (λ (z : Float). T (finite z)) (sym (round-is f s a c))
       (has-finite (units f s (kept (prec f) (a * 2 ^ low f) c) (drop (prec f) (a * 2 ^ low f) c)) s (grid f a c) (2 ^ low f)

@@ -3,12 +3,12 @@ use mathlib.Core.Path.{subst}
 use mathlib.Core.Logic.{_⊎_, inl, inr}
 use mathlib.Core.Bool.{Bool, true, false}
 use Prim.Native.Nat.{ℕ, _+_, _-_, _*_, _≤_, _<_}
-use native.Mathlib.Nat.{le-of-lt, lt-of-not-le, mul-comm, mul-assoc, mul-left-comm, add-mul, mul-add, mul-le-mul-right, mul-lt-mul-of-pos-right, le-of-mul-le-mul-right, lt-of-mul-lt-mul-right, mul-pos, add-sub-of-le, zero-lt-suc}
+use native.Mathlib.Nat.{lt-of-not-le, mul-comm, mul-assoc, mul-left-comm, add-mul, mul-add, mul-le-mul-right, mul-lt-mul-of-pos-right, le-of-mul-le-mul-right, lt-of-mul-lt-mul-right, mul-pos, add-sub-of-le, zero-lt-suc}
 use native.Mathlib.Decide.{decLe}
 use native.Mathlib.Omega.{arith}
 use lib.Ieee.{Float, nan, inf, fin, up, down}
 use lib.Ieee.Fits.{down-pos}
-use Rattle.number.specs.Frac.{Frac, frac, Pos, leF, ltF, negF, addF, mulF, sgn, valF}
+use Rattle.number.specs.Frac.{Frac, frac, Pos, leF, ltF, zeroF, negF, addF, mulF, sgn, valF}
 
 -- products multiplied out and in one order; `omega` does the rest
 pub ruleset ring = (add-mul, mul-add, mul-assoc, mul-comm, mul-left-comm)
@@ -95,11 +95,21 @@ Keeps y = (x x' : Frac) → leF x x' → leF (mulF x y) (mulF x' y)
 abbrev pub Turns : Frac → Type 0
 Turns y = (x x' : Frac) → leF x x' → leF (mulF x' y) (mulF x y)
 
-pub mul-sign : (y : Frac) → Keeps y ⊎ Turns y
-mul-sign (frac q m c) = go (decLe m q)
+pub keeps-of : (y : Frac) → leF zeroF y → Keeps y
+keeps-of (frac q m c) h x x' k = subst (λ (z : ℕ). leF (mulF x (frac z m c)) (mulF x' (frac z m c))) (add-sub-of-le (le-of h)) (mul-up x x' m (q - m) c k)
   where
-    go : Dec (m ≤ q) → Keeps (frac q m c) ⊎ Turns (frac q m c)
-    go (yes l) = inl (λ x x' h. subst (λ (z : ℕ). leF (mulF x (frac z m c)) (mulF x' (frac z m c))) (add-sub-of-le l) (mul-up x x' m (q - m) c h))
-    go (no l) =
-        let l' : q ≤ m = le-of-lt (lt-of-not-le l) in
-        inr (λ x x' h. subst (λ (z : ℕ). leF (mulF x' (frac q z c)) (mulF x (frac q z c))) (add-sub-of-le l') (mul-down x x' q (m - q) c h))
+    le-of : leF zeroF (frac q m c) → m ≤ q
+    le-of h = omega arith
+
+pub turns-of : (y : Frac) → leF y zeroF → Turns y
+turns-of (frac q m c) h x x' k = subst (λ (z : ℕ). leF (mulF x' (frac q z c)) (mulF x (frac q z c))) (add-sub-of-le (le-of h)) (mul-down x x' q (m - q) c k)
+  where
+    le-of : leF (frac q m c) zeroF → q ≤ m
+    le-of h = omega arith
+
+pub mul-sign : (y : Frac) → Keeps y ⊎ Turns y
+mul-sign y = go (le-or-lt zeroF y)
+  where
+    go : leF zeroF y ⊎ ltF y zeroF → Keeps y ⊎ Turns y
+    go (inl h) = inl (keeps-of y h)
+    go (inr h) = inr (turns-of y (lt-leF y zeroF h))

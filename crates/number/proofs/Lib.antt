@@ -15,3 +15,5 @@ pub mod Rel
 pub mod Absolute
 pub mod Signed
 pub mod Order
+pub mod Extended
+pub mod Inside

@@ -17,7 +17,7 @@ use Rattle.number.proofs.Bits.{plain}
 use Rattle.number.proofs.Rank.{mag, place, rank, mag-inf, bits64, rank-lt, lt-rank, le-rank, rank-read}
 
 -- ---- the cases of the two steps
-is-lt : (a b : ℕ) → a < b → ltb a b ≡ true
+pub is-lt : (a b : ℕ) → a < b → ltb a b ≡ true
 is-lt a b h = is-true (ltb a b) (lt→ltb a b h)
 
 is-ge : (a b : ℕ) → b ≤ a → ltb a b ≡ false

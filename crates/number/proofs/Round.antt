@@ -29,7 +29,7 @@ no-more : (a c d x : ℕ) → 0 < d → a * d + x ≤ 0 → a * 1 ≤ 0 * c
 no-more zero c d x D h = omega arith
 no-more (suc a) c d x D h = absurd (lt-irrefl 0 (lt-of-lt-of-le (mul-pos (zero-lt-suc a) D) (omega arith)))
 
-zero-rounds : (f : Format) (a c d x : ℕ) → 0 < c → 0 < d → a * d + x ≤ 0 → grid f a c ≤ 0
+pub zero-rounds : (f : Format) (a c d x : ℕ) → 0 < c → 0 < d → a * d + x ≤ 0 → grid f a c ≤ 0
 zero-rounds f a c d x C D h = le-trans (grid-le f a c 0 1 C (zero-lt-suc 0) (no-more a c d x D h)) (le-of-eq (grid-zero f))
 
 same-den : (s t : Bool) (g h L : ℕ) → leF (sgn s g 1) (sgn t h 1) → leF (sgn s g L) (sgn t h L)

@@ -8,3 +8,4 @@ pub mod Functions
 pub mod Walk
 pub mod Side
 pub mod Lists
+pub mod Inside

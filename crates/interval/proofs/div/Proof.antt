@@ -1,18 +1,60 @@
 -- `interval::div` meets its contract. Assumes nothing.
-use Rattle.interval.specs.Interval.{divI, oneSign}
-use lib.Ieee.{ofBits}
+use Rattle.interval.proofs.Near.{by-chosen, one-sound, one-sign, outward-same, above-tests, below-tests, goes-up, goes-down}
+use mathlib.Core.Path.{sym, _∙_}
+use mathlib.Core.Bool.{true, _&&_}
+use lib.Ieee.{lt, ofBits}
+use Rattle.number.specs.Arith.{zero64}
+use Rattle.interval.specs.Interval.{oneSign, divI}
 use borrow.Author.Needs.{needs}
 use Rattle.interval.proofs.div.Statement.{statement}
 use Rattle.interval.proofs.div.Tie as tie
 
-around-requires : tie.Need-around-requires
-around-requires c κs = search needs
+chosen-requires : tie.Need-chosen-requires
+chosen-requires c κs = search needs
+
+chosen-requires-2 : tie.Need-chosen-requires-2
+chosen-requires-2 c κs = search needs
+
+above-requires : tie.Need-above-requires
+above-requires c κs = search needs
+
+rising-requires : tie.Need-rising-requires
+unfolding ofBits
+rising-requires c κs = goes-up true _ _ _ (by-chosen true _ _ _ _ _ _ ((c .before .before .before .before .before .before .before .before .if1) .taken) ((c .before .before .before .before .before .before .chosen) .ensures) ((c .before .before .before .chosen2) .ensures) (above-tests _ _ (sym ((c .before .above) .ensures) ∙ (c .if2) .taken))) (sym ((c .before .above) .ensures) ∙ (c .if2) .taken)
 
 returns : tie.Need-returns
 unfolding divI oneSign ofBits
-returns c =
-    rw
-    (c .around .ensures)
+returns c = (c .rising) .ensures ∙ outward-same _ _ _ _ (one-sound ((c .before .before .before .before .before .before .before .before .before .before .before .before .before .before .before .before .args) .x .sound && (c .before .before .before .before .before .before .before .before .before .before .before .before .before .before .before .before .args) .y .sound) (lt zero64 ((c .before .before .before .before .before .before .before .before .before .before .before .before .before .before .before .before .args) .y .lower)) (lt ((c .before .before .before .before .before .before .before .before .before .before .before .before .before .before .before .before .args) .y .upper) zero64) (one-sign true _ _ _ _ ((c .before .before .before .before .before .before .before .before .before .if1) .taken))) ∙ (by-chosen _ _ _ _ _ _ _ ((c .before .before .before .before .before .before .before .before .before .if1) .taken) ((c .before .before .before .before .before .before .before .chosen) .ensures) ((c .before .before .before .before .chosen2) .ensures) (above-tests _ _ (sym ((c .before .before .above) .ensures) ∙ (c .before .if2) .taken))) .is
+
+below-requires : tie.Need-below-requires
+below-requires c κs = search needs
+
+falling-requires : tie.Need-falling-requires
+unfolding ofBits
+falling-requires c κs = goes-down true _ _ _ (by-chosen true _ _ _ _ _ _ ((c .before .before .before .before .before .before .before .before .before .before .if1) .taken) ((c .before .before .before .before .before .before .before .before .chosen) .ensures) ((c .before .before .before .before .before .chosen2) .ensures) (below-tests _ _ (sym ((c .before .below) .ensures) ∙ (c .if3) .taken))) (sym ((c .before .below) .ensures) ∙ (c .if3) .taken)
+
+returns-2 : tie.Need-returns-2
+unfolding divI oneSign ofBits
+returns-2 c = (c .falling) .ensures ∙ outward-same _ _ _ _ (one-sound ((c .before .before .before .before .before .before .before .before .before .before .before .before .before .before .before .before .before .before .args) .x .sound && (c .before .before .before .before .before .before .before .before .before .before .before .before .before .before .before .before .before .before .args) .y .sound) (lt zero64 ((c .before .before .before .before .before .before .before .before .before .before .before .before .before .before .before .before .before .before .args) .y .lower)) (lt ((c .before .before .before .before .before .before .before .before .before .before .before .before .before .before .before .before .before .before .args) .y .upper) zero64) (one-sign true _ _ _ _ ((c .before .before .before .before .before .before .before .before .before .before .before .if1) .taken))) ∙ (by-chosen _ _ _ _ _ _ _ ((c .before .before .before .before .before .before .before .before .before .before .before .if1) .taken) ((c .before .before .before .before .before .before .before .before .before .chosen) .ensures) ((c .before .before .before .before .before .before .chosen2) .ensures) (below-tests _ _ (sym ((c .before .before .below) .ensures) ∙ (c .before .if3) .taken))) .is
+
+corners-requires : tie.Need-corners-requires
+corners-requires c κs = search needs
+
+returns-3 : tie.Need-returns-3
+unfolding divI oneSign ofBits
+returns-3 c = (c .corners) .ensures
 
 pub div-spec : {M : Type 1} → statement M
-div-spec = tie.close (tie.spec around-requires returns)
+div-spec =
+    tie.close
+    (tie.spec
+    chosen-requires
+    chosen-requires-2
+    above-requires
+    rising-requires
+    returns
+    below-requires
+    falling-requires
+    returns-2
+    corners-requires
+    returns-3)

@@ -1,67 +1,27 @@
 -- `interval::pow_up` meets its contract. Assumes nothing.
-use Rattle.interval.specs.Interval.{powI}
 use borrow.Author.Needs.{needs}
-use mathlib.Core.Path.{_≡_, _∙_}
-use mathlib.Core.Logic.{⊎-elim}
-use borrow.Author.Tests.{eq-eqb, ne-eqb}
-use Rattle.number.specs.Arith.{one64}
-use Rattle.interval.specs.Interval.{mulI, point}
-use Rattle.number.proofs.Power.{Turn, start, done, times, turn-more, turn-last}
 use Rattle.interval.proofs.pow_up.Statement.{statement}
 use Rattle.interval.proofs.pow_up.Tie as tie
 
-abbrev Inv-loop : tie.InvT-loop
-Inv-loop n acc₀ sq₀ left₀ acc sq left = Turn mulI (point one64) sq₀ n acc sq left
+second-requires : tie.Need-second-requires
+second-requires c κs = search needs
 
-abbrev μ-loop : tie.MeasureT-loop
-μ-loop n acc₀ sq₀ left₀ acc sq left = left
+returns : tie.Need-returns
+returns c = rw (c .before .if1 .taken) (c .second .ensures)
 
-point-requires : tie.Need-point-requires Inv-loop μ-loop
-point-requires c κs = tt
+third-requires : tie.Need-third-requires
+third-requires c κs = search needs
 
-loop-holds : tie.Need-loop-holds Inv-loop μ-loop
-loop-holds c = rw (c .point .ensures) (start mulI _ _ _ (c .before .fits .n .fits))
+returns-2 : tie.Need-returns-2
+returns-2 c = rw (c .before .if2 .taken) (c .third .ensures)
 
-mul-requires : tie.Need-mul-requires Inv-loop μ-loop
-mul-requires c κs = tt
+any-power-requires : tie.Need-any-power-requires
+any-power-requires c κs = search needs
 
-mul-requires-2 : tie.Need-mul-requires-2 Inv-loop μ-loop
-mul-requires-2 c κs = tt
-
-acc-is : (c : tie.Joined1 Inv-loop μ-loop) → c .if1 .acc ≡ times mulI (c .before .before .loop .left) (c .before .before .loop .sq) (c .before .before .loop .acc)
-acc-is c =
-    ⊎-elim (λ w. rw (eq-eqb _ _ (w .0 .taken)) (w .2 ∙ w .1 .ensures)) (λ w. rw (ne-eqb _ _ (w .0 .left)) (w .1)) (c .if1 .came)
-
-loop-less : tie.Need-loop-less Inv-loop μ-loop
-loop-less c = search needs
-
-loop-again : tie.Need-loop-again Inv-loop μ-loop
-loop-again c =
-    rw (acc-is (c .before .before), c .mul2 .ensures)
-    (turn-more mulI _ _ _ _ _ _ (c .before .if2 .taken) (c .before .before .before .before .loop .inv))
-
-loop-less-2 : tie.Need-loop-less-2 Inv-loop μ-loop
-loop-less-2 c = search needs
-
-loop-again-2 : tie.Need-loop-again-2 Inv-loop μ-loop
-loop-again-2 c = rw (acc-is (c .before)) (turn-last mulI _ _ _ _ _ _ (search needs) (c .if2 .left) (c .before .before .before .loop .inv))
-
-returns : tie.Need-returns Inv-loop μ-loop
-unfolding powI
-returns c = done mulI _ _ _ _ _ _ (c .loop-test .left) (c .before .loop .inv)
+returns-3 : tie.Need-returns-3
+returns-3 c = search needs
 
 pub pow-up-spec : {M : Type 1} → statement M
 pow-up-spec =
     tie.close
-    (tie.spec
-    Inv-loop
-    μ-loop
-    point-requires
-    loop-holds
-    mul-requires
-    mul-requires-2
-    loop-less
-    loop-again
-    loop-less-2
-    loop-again-2
-    returns)
+    (tie.spec second-requires returns third-requires returns-2 any-power-requires returns-3)
