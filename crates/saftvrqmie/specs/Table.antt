@@ -4,7 +4,7 @@ use lib.Dec.{eqb}
 use lib.Ieee.{Float}
 use lib.Ieee.Scale.{finite}
 use lib.ListN.{getD, length, set, replicate}
-use mathlib.Core.List.{List}
+use mathlib.Core.List.{List, []}
 use mathlib.Core.Bool.{Bool, _&&_}
 use Rattle.number.specs.Ans.{Ans, held, _>>=_, demand}
 use Rattle.number.specs.Arith.{floats, zero64}
@@ -78,3 +78,7 @@ temperatureTable s t l =
     workPairs (s .count) (s .sheets) (s .orders) t blank >>= λ w.
     demand 7 (allFinite (w .values)) >>= λ _.
     held w
+
+-- a set by what the table reads of it
+abbrev pub pairsOf : ℕ → List Float → List OrderRecord → SaftVRQMiePars
+pairsOf n sheets orders = record { count = n; m = []; sheets = sheets; orders = orders }

@@ -9,7 +9,7 @@ ghost use Rattle.elementary.specs.Port.{port};
 ghost use Rattle.mie_parameters.specs.Answer.{outcome, verdict, kept, numberAnswer};
 ghost use Rattle.saftvrqmie_potential.specs.Potential.{pairIn};
 ghost use Rattle.saftvrqmie_properties.specs.Properties.{propertiesIn};
-ghost use Rattle.saftvrqmie.specs.Table.{Lent, pairAt, store, workRow, workPairs, allFinite, rightLists, temperatureTable};
+ghost use Rattle.saftvrqmie.specs.Table.{Lent, pairAt, store, workRow, workPairs, allFinite, rightLists, temperatureTable, pairsOf};
 ghost use Rattle.saftvrqmie.specs.Pairs.{searchesAnswer, pairSearches, searches, diameterIj};
 use mie_parameters::NumberAnswer;
 use mie_parameters::ParameterAnswer;
@@ -178,27 +178,26 @@ fn right_lists(n: usize, a: usize, b: usize) -> bool
     limits::count_within(n) & (a == FIFTH) & (b == FOURTH)
 }
 
-// The temperature table of a set and the counts of its searches. 1, 2, 6, 7.
-pub fn temperature_dependent_properties(
-    set: SaftVRQMiePars,
+// The table of a set's count, sheets and orders: it reads no m. 1, 2, 6, 7.
+pub fn table_of(
+    n: usize,
+    sheets: &[f64; 384],
+    orders: [OrderRecord; 64],
     temperature: f64,
     table: &mut [f64],
     counts: &mut [u8],
 ) -> ParameterAnswer
-    ensures { λ r. ⌜ (r ≡ verdict (temperatureTable set temperature (record { values = now (table .entry); numbers = now (counts .entry) }))) × (now (table .exit) ≡ kept (record { values = now (table .entry); numbers = now (counts .entry) }) (temperatureTable set temperature (record { values = now (table .entry); numbers = now (counts .entry) })) .values) × (now (counts .exit) ≡ kept (record { values = now (table .entry); numbers = now (counts .entry) }) (temperatureTable set temperature (record { values = now (table .entry); numbers = now (counts .entry) })) .numbers) ⌝ }
+    ensures { λ r. ⌜ (r ≡ verdict (temperatureTable (pairsOf n (now (sheets .entry)) orders) temperature (record { values = now (table .entry); numbers = now (counts .entry) }))) × (now (table .exit) ≡ kept (record { values = now (table .entry); numbers = now (counts .entry) }) (temperatureTable (pairsOf n (now (sheets .entry)) orders) temperature (record { values = now (table .entry); numbers = now (counts .entry) })) .values) × (now (counts .exit) ≡ kept (record { values = now (table .entry); numbers = now (counts .entry) }) (temperatureTable (pairsOf n (now (sheets .entry)) orders) temperature (record { values = now (table .entry); numbers = now (counts .entry) })) .numbers) ⌝ }
 {
-    let n = set.count;
     if !right_lists(n, table.len(), counts.len()) {
         return ParameterAnswer::Refused(1);
     }
     if !limits::temperature_within(temperature) {
         return ParameterAnswer::Refused(2);
     }
-    let sheets = set.sheets;
-    let orders = set.orders;
     let mut values = [0.0; 256];
     let mut numbers = [0u8; 192];
-    let worked = work_pairs(n, &sheets, orders, temperature, &mut values, &mut numbers);
+    let worked = work_pairs(n, sheets, orders, temperature, &mut values, &mut numbers);
     let ParameterAnswer::Held = worked else {
         return worked;
     };
@@ -208,6 +207,20 @@ pub fn temperature_dependent_properties(
     write_table(table, &values);
     write_numbers(counts, &numbers);
     ParameterAnswer::Held
+}
+
+// The temperature table of a set and the counts of its searches. 1, 2, 6, 7.
+pub fn temperature_dependent_properties(
+    set: SaftVRQMiePars,
+    temperature: f64,
+    table: &mut [f64],
+    counts: &mut [u8],
+) -> ParameterAnswer
+    ensures { λ r. ⌜ (r ≡ verdict (temperatureTable set temperature (record { values = now (table .entry); numbers = now (counts .entry) }))) × (now (table .exit) ≡ kept (record { values = now (table .entry); numbers = now (counts .entry) }) (temperatureTable set temperature (record { values = now (table .entry); numbers = now (counts .entry) })) .values) × (now (counts .exit) ≡ kept (record { values = now (table .entry); numbers = now (counts .entry) }) (temperatureTable set temperature (record { values = now (table .entry); numbers = now (counts .entry) })) .numbers) ⌝ }
+{
+    let sheets = set.sheets;
+    let orders = set.orders;
+    table_of(set.count, &sheets, orders, temperature, table, counts)
 }
 
 fn pair_searches(pair: Pair) -> SearchesAnswer

@@ -24,22 +24,20 @@ use saftvrqmie_parameters::SaftVRQMiePars;
 use saftvrqmie_potential_ends::PairShared;
 use saftvrqmie_potential_ends::PairSharedAnswer;
 use saftvrqmie_potential_ends::PotentialEnclosuresAnswer;
-use saftvrqmie_searches::W_K21;
-use saftvrqmie_searches::X_K21;
 
 // Entries of the rule, as points; k is the turn of a loop over its 21 nodes, and beyond them there is no entry.
 fn abscissa(k: usize) -> Enclosure
     requires { ⌜ k < 21 ⌝ }
     ensures { λ r. ⌜ r ≡ entry (calls enclosures port) abscissas k ⌝ }
 {
-    enclosure::point(X_K21[k])
+    enclosure::point(saftvrqmie_searches::abscissa(k))
 }
 
 fn weight(k: usize) -> Enclosure
     requires { ⌜ k < 21 ⌝ }
     ensures { λ r. ⌜ r ≡ entry (calls enclosures port) weights k ⌝ }
 {
-    enclosure::point(W_K21[k])
+    enclosure::point(saftvrqmie_searches::weight(k))
 }
 
 // One node's part, added. Both derivatives are worked on the way.

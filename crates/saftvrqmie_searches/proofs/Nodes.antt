@@ -1,11 +1,11 @@
 -- Laws of the 21-node rule: its tables, one node, a pair without a potential. Assumes nothing.
-use Prim.Native.Nat.{ℕ, zero, suc, _<_}
+use Prim.Native.Nat.{ℕ, zero, suc, _≤_}
 use native.Mathlib.Omega.{arith}
 use native.Mathlib.Nat.{not-suc-le-zero, le-of-suc-le-suc}
-use lib.Ieee.{Float, nan}
+use lib.Ieee.{Float}
 use lib.ListN.{getD, length}
-use mathlib.Core.Path.{_≡_, refl, sym, _∙_}
-use mathlib.Core.List.{List, [], _∷_, map}
+use mathlib.Core.Path.{_≡_, refl, sym, ap, _∙_}
+use mathlib.Core.List.{List, [], _∷_}
 use mathlib.Core.Bool.{false}
 use Rattle.number.specs.Ans.{Ans, held, refused, _>>=_}
 use Rattle.number.specs.Arith.{floats, decimal}
@@ -18,22 +18,19 @@ use Rattle.saftvrqmie_potential.specs.declared.Shared.{Shared}
 use Rattle.saftvrqmie_searches.proofs.Loops.{once, none}
 use Rattle.saftvrqmie_searches.specs.Diameter.{Decimal, above, abscissas, weights, entry, nodeTurn, diameterBy}
 
--- ---- the tables: in floats each entry is its decimal, rounded once
-abbrev rounded : Decimal → Float
-rounded e = decimal (e .minus) (e .digits) 33
+-- ---- the tables: an entry at a place that is told, and none beyond
+module _ (l : List Decimal) where
+  pub entry-at : (j k : ℕ) → j ≡ k → entry (calls floats port) l k ≡ entry (calls floats port) l j
+  entry-at j k e = ap (λ (z : ℕ). entry (calls floats port) l z) (sym e)
 
-entry-is : (l : List Decimal) (k : ℕ) → k < length l → getD (map rounded l) k nan ≡ rounded (getD l k (above 0))
-entry-is [] k h = absurd (not-suc-le-zero h)
-entry-is (e ∷ l) zero h = refl
-entry-is (e ∷ l) (suc k) h = entry-is l k (le-of-suc-le-suc h)
+none-beyond : (l : List Decimal) (k : ℕ) → length l ≤ k → getD l k (above 0) ≡ above 0
+none-beyond [] k h = refl
+none-beyond (e ∷ l) zero h = absurd (not-suc-le-zero h)
+none-beyond (e ∷ l) (suc k) h = none-beyond l k (le-of-suc-le-suc h)
 
-pub abscissa-is : (k : ℕ) → k < 21 → getD (map rounded abscissas) k nan ≡ entry (calls floats port) abscissas k
+pub entry-beyond : (l : List Decimal) (k : ℕ) → length l ≤ k → decimal false 0 33 ≡ entry (calls floats port) l k
 unfolding entry
-abscissa-is k h = entry-is abscissas k h
-
-pub weight-is : (k : ℕ) → k < 21 → getD (map rounded weights) k nan ≡ entry (calls floats port) weights k
-unfolding entry
-weight-is k h = entry-is weights k h
+entry-beyond l k h = rw (none-beyond l k h)
 
 -- ---- one node, of which only u is read
 by-u : {S : Type 0} (a : Ans (PotentialIn Float)) (g : Float → Ans S) → (a >>= λ v. g (v .u)) ≡ (a >>= (λ v. held (v .u)) >>= g)
