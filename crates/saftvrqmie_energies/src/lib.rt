@@ -633,7 +633,53 @@ fn wanted_part(n: usize, rho: &[f64], m: &[f64; 8], table: &[f64], wanted: bool)
     non_additive(n, rho, m, table)
 }
 
-// Hard sphere, dispersion and, if wanted, non-additive. 1, 2, 6, 7.
+// Hard sphere, dispersion and, if wanted, non-additive, over a set's parts. 1, 2, 6, 7.
+pub fn energies_of(
+    n: usize,
+    m: &[f64; 8],
+    sheets: &[f64; 384],
+    orders: [OrderRecord; 64],
+    temperature: f64,
+    fractions: &[f64],
+    densities: &[f64],
+    table: &[f64],
+    non_additive: bool,
+) -> EnergiesAnswer
+    ensures { λ r. ⌜ energiesAnswer r ≡ energies (record { count = n; m = now (m .entry); sheets = now (sheets .entry); orders = orders }) temperature (now (fractions .entry)) (now (densities .entry)) (now (table .entry)) «non_additive» ⌝ }
+{
+    if !right_lengths(n, fractions, densities, table) {
+        return EnergiesAnswer::Refused(1);
+    }
+    if !within_limits(n, temperature, fractions, densities) {
+        return EnergiesAnswer::Refused(2);
+    }
+    let FloatAnswer::Value(h) = hard_sphere(n, fractions, densities, table, m) else {
+        return EnergiesAnswer::Refused(6);
+    };
+    let FloatAnswer::Value(d) = dispersion(
+        n,
+        m,
+        sheets,
+        orders,
+        temperature,
+        fractions,
+        densities,
+        table,
+    ) else {
+        return EnergiesAnswer::Refused(6);
+    };
+    let a = wanted_part(n, densities, m, table, non_additive);
+    let e = QuantumEnergies {
+        hard_sphere: h,
+        dispersion: d,
+        non_additive: a,
+    };
+    if !all_finite(e) {
+        return EnergiesAnswer::Refused(7);
+    }
+    EnergiesAnswer::Energies(e)
+}
+
 pub fn helmholtz_energy_densities(
     set: SaftVRQMiePars,
     temperature: f64,
@@ -644,21 +690,11 @@ pub fn helmholtz_energy_densities(
 ) -> EnergiesAnswer
     ensures { λ r. ⌜ energiesAnswer r ≡ energies set temperature (now (fractions .entry)) (now (densities .entry)) (now (table .entry)) «non_additive» ⌝ }
 {
-    let n = set.count;
-    if !right_lengths(n, fractions, densities, table) {
-        return EnergiesAnswer::Refused(1);
-    }
-    if !within_limits(n, temperature, fractions, densities) {
-        return EnergiesAnswer::Refused(2);
-    }
     let m = set.m;
     let sheets = set.sheets;
     let orders = set.orders;
-    let FloatAnswer::Value(h) = hard_sphere(n, fractions, densities, table, &m) else {
-        return EnergiesAnswer::Refused(6);
-    };
-    let FloatAnswer::Value(d) = dispersion(
-        n,
+    energies_of(
+        set.count,
         &m,
         &sheets,
         orders,
@@ -666,17 +702,6 @@ pub fn helmholtz_energy_densities(
         fractions,
         densities,
         table,
-    ) else {
-        return EnergiesAnswer::Refused(6);
-    };
-    let a = wanted_part(n, densities, &m, table, non_additive);
-    let e = QuantumEnergies {
-        hard_sphere: h,
-        dispersion: d,
-        non_additive: a,
-    };
-    if !all_finite(e) {
-        return EnergiesAnswer::Refused(7);
-    }
-    EnergiesAnswer::Energies(e)
+        non_additive,
+    )
 }
