@@ -12,10 +12,11 @@ use Rattle.number.specs.Ans.{Ans, held, refused, _>>=_, demand}
 use Rattle.mie_parameters.specs.declared.ParameterAnswer.{ParameterAnswer}
 use Rattle.mie_parameters.specs.Answer.{numberOf, verdict, kept}
 use Rattle.saftvrqmie_parameters.specs.Parameters as Quantum
+use Rattle.saftvrqmie_parameters.specs.declared.OrderRecord.{OrderRecord}
 use Rattle.saftvrqmie_parameters.specs.declared.SaftVRQMiePars.{SaftVRQMiePars}
 use Rattle.saftvrmie_parameters.specs.Parameters as Mie
 use Rattle.saftvrmie_parameters.specs.declared.SaftVRMiePars.{SaftVRMiePars}
-use Rattle.saftvrqmie.specs.Table.{Lent, temperatureTable}
+use Rattle.saftvrqmie.specs.Table.{Lent, temperatureTable, pairsOf}
 use Rattle.saftvrqmie.specs.Pairs.{SearchesIn, searches}
 use Rattle.saftvrqmie_energies.specs.Energies.{EnergiesIn, energies}
 use Rattle.elementary.specs.Port.{port}
@@ -93,6 +94,10 @@ module _ (n : ℕ) (m sheets : List Float) (orders : List ℕ) (t : Float) (l : 
   pub table-is : (s : SaftVRQMiePars) → quantumSet n m sheets orders ≡ held s → vrqTable n m sheets orders t l ≡ temperatureTable s t l
   unfolding vrqTable _>>=_
   table-is s p = rw p
+
+  pub table-of : (x y : List Float) (o : List OrderRecord) → quantumSet n m sheets orders ≡ held (record { count = n; m = x; sheets = y; orders = o }) → vrqTable n m sheets orders t l ≡ temperatureTable (pairsOf n y o) t l
+  unfolding temperatureTable
+  table-of x y o p = table-is (record { count = n; m = x; sheets = y; orders = o }) p
 
   module _ (i j : ℕ) where
     pub radii-1 : radiiLengths l ≡ false → vrqRadii n m sheets orders i j t l ≡ refused 1

@@ -7,7 +7,7 @@ use mathlib.Core.List.{List}
 use mathlib.Core.Path.{_≡_}
 use mathlib.Core.Bool.{true, false, _&&_}
 use borrow.Author.Tests.{eqb-true}
-use Rattle.number.specs.Ans.{refused, _>>=_, demand}
+use Rattle.number.specs.Ans.{held, refused, _>>=_, demand}
 use Rattle.number.specs.Side.{side, sheet}
 use Rattle.mie_parameters.specs.declared.ParameterAnswer.the-variants.{Held}
 use Rattle.mie_parameters.proofs.Laws.{and-left, and-right}
@@ -49,19 +49,30 @@ mie-lengths lists sheets p =
     record { places = eqb-true (length lists) (5 * side) (and-left a b p); flat = eqb-true (length sheets) (6 * sheet) (and-right a b p) }
 
 module _ (n : ℕ) (m sheets : List Float) (orders : List ℕ) where
-  pub set-1 : (g : QuantumGiven.ParameterSet) → quantumLengths m sheets orders ≡ false → g ≡ Quantum.given (refused 1) → g ≡ Quantum.given (quantumSet n m sheets orders)
+  pub refuses-1 : quantumLengths m sheets orders ≡ false → quantumSet n m sheets orders ≡ refused 1
   unfolding quantumSet demand _>>=_
-  set-1 g p e = rw p e
+  refuses-1 p = rw p
+
+  pub set-1 : (g : QuantumGiven.ParameterSet) → quantumLengths m sheets orders ≡ false → g ≡ Quantum.given (refused 1) → g ≡ Quantum.given (quantumSet n m sheets orders)
+  set-1 g p e = rw (refuses-1 p) e
 
   module _ (p : quantumLengths m sheets orders ≡ true) where
-    pub set-4 : (g : QuantumGiven.ParameterSet) → ordersWithin orders ≡ false → g ≡ Quantum.given (refused 4) → g ≡ Quantum.given (quantumSet n m sheets orders)
+    pub refuses-4 : ordersWithin orders ≡ false → quantumSet n m sheets orders ≡ refused 4
     unfolding quantumSet demand _>>=_
-    set-4 g q e = rw (p, q) e
+    refuses-4 q = rw (p, q)
+
+    pub holds : (x y : List Float) (o : List OrderRecord) → ordersWithin orders ≡ true → x ≡ taken side m 0 → y ≡ taken (6 * sheet) sheets 0 → o ≡ ordersRead orders
+        → quantumSet n m sheets orders ≡ held (record { count = n; m = x; sheets = y; orders = o })
+    unfolding quantumSet demand _>>=_
+    holds x y o q d e f = rw (p, q, d, e, f)
+
+    pub set-4 : (g : QuantumGiven.ParameterSet) → ordersWithin orders ≡ false → g ≡ Quantum.given (refused 4) → g ≡ Quantum.given (quantumSet n m sheets orders)
+    set-4 g q e = rw (refuses-4 q) e
 
     pub set-is : (x y : List Float) (o : List OrderRecord) → ordersWithin orders ≡ true → x ≡ taken side m 0 → y ≡ taken (6 * sheet) sheets 0 → o ≡ ordersRead orders
         → record { answer = Held; set = record { count = n; m = x; sheets = y; orders = o } } ≡ Quantum.given (quantumSet n m sheets orders)
-    unfolding quantumSet demand _>>=_ Quantum.given
-    set-is x y o q d e f = rw (p, q, d, e, f)
+    unfolding Quantum.given
+    set-is x y o q d e f = rw (holds x y o q d e f)
 
 module _ (n : ℕ) (lists sheets : List Float) where
   pub mie-1 : (g : MieGiven.ParameterSet) → mieLengths lists sheets ≡ false → g ≡ Mie.given (refused 1) → g ≡ Mie.given (mieSet n lists sheets)

@@ -281,12 +281,16 @@ pub extern "C" fn domthelv_vrq_table(
 ) -> u8
     ensures { λ r. ⌜ (r ≡ status (vrqTable count (now (m .entry)) (now (sheets .entry)) (now (orders .entry)) temperature (record { values = now (table .entry); numbers = now (counts .entry) }))) × (now (table .exit) ≡ stored (record { values = now (table .entry); numbers = now (counts .entry) }) (vrqTable count (now (m .entry)) (now (sheets .entry)) (now (orders .entry)) temperature (record { values = now (table .entry); numbers = now (counts .entry) })) .values) × (now (counts .exit) ≡ stored (record { values = now (table .entry); numbers = now (counts .entry) }) (vrqTable count (now (m .entry)) (now (sheets .entry)) (now (orders .entry)) temperature (record { values = now (table .entry); numbers = now (counts .entry) })) .numbers) ⌝ }
 {
-    let read = quantum_set(count, m, sheets, orders);
-    let answer = read.answer;
-    let ParameterAnswer::Held = answer else {
-        return mie_parameters::number(answer);
-    };
-    let worked = saftvrqmie::temperature_dependent_properties(read.set, temperature, table, counts);
+    if !quantum_lengths(m, sheets, orders) {
+        return 1;
+    }
+    if !orders_within(orders) {
+        return 4;
+    }
+    let mut flat = [0.0; 384];
+    copy(6 * SHEET, sheets, 0, &mut flat);
+    let records = orders_read(orders);
+    let worked = saftvrqmie::table_of(count, &flat, records, temperature, table, counts);
     mie_parameters::number(worked)
 }
 
@@ -375,13 +379,22 @@ pub extern "C" fn domthelv_vrq_energies(
     if out.len() != 3 {
         return 1;
     }
-    let read = quantum_set(count, m, sheets, orders);
-    let answer = read.answer;
-    let ParameterAnswer::Held = answer else {
-        return mie_parameters::number(answer);
-    };
-    let worked = saftvrqmie_energies::helmholtz_energy_densities(
-        read.set,
+    if !quantum_lengths(m, sheets, orders) {
+        return 1;
+    }
+    if !orders_within(orders) {
+        return 4;
+    }
+    let mut places = [0.0; 8];
+    copy(SIDE, m, 0, &mut places);
+    let mut flat = [0.0; 384];
+    copy(6 * SHEET, sheets, 0, &mut flat);
+    let records = orders_read(orders);
+    let worked = saftvrqmie_energies::energies_of(
+        count,
+        &places,
+        &flat,
+        records,
         temperature,
         fractions,
         densities,
