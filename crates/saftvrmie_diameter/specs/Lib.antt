@@ -1,2 +1,3 @@
 pub mod Diameter
 pub mod Answer
+pub mod Staged

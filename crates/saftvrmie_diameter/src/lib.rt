@@ -1,27 +1,26 @@
 // The temperature-dependent diameter of SAFT-VR Mie (saftvrmie/parameters.rs): lower limit by Halley's method, 10-node rule.
 ghost use mathlib.Core.Path.{_≡_};
+ghost use mathlib.Core.Bool.{true};
 ghost use Prim.Native.Nat.{_<_};
 ghost use Rattle.number.specs.Answer.{answer};
 ghost use Rattle.number.specs.Arith.{floats};
 ghost use Rattle.number.specs.Functions.{calls};
 ghost use Rattle.elementary.specs.Port.{port};
 ghost use Rattle.saftvrmie_diameter.specs.Answer.{halleyAnswer};
-ghost use Rattle.saftvrmie_diameter.specs.Diameter.{positions, weights, entry, cEpsT, halleyStep, halley, lowerLimit, betaUMie, nodeTurn, diameterFrom, hsDiameter};
+ghost use Rattle.saftvrmie_diameter.specs.Diameter.{positions, weights, entry, cEpsT, halleyStep, halley, lowerLimit, diameterFrom, hsDiameter};
+ghost use Rattle.saftvrmie_diameter.specs.Staged.{exponentsInside, exponentsOf, inverseAt, betaUAt, nodeAdded, twoNodes};
+use binary_log::Log;
 use number::FloatAnswer;
+use power::FixedExponent;
 
-// 10-point Gauss-Legendre quadrature: positions and weights.
-pub const GLQ10: [[f64; 2]; 10] = [
-    [-0.1488743389816312, 0.2955242247147529],
-    [0.1488743389816312, 0.2955242247147529],
-    [-0.4333953941292472, 0.2692667193099963],
-    [0.4333953941292472, 0.2692667193099963],
-    [-0.6794095682990244, 0.219086362515982],
-    [0.6794095682990244, 0.219086362515982],
-    [-0.8650633666889845, 0.1494513491505806],
-    [0.8650633666889845, 0.1494513491505806],
-    [-0.9739065285171717, 0.0666713443086881],
-    [0.9739065285171717, 0.0666713443086881],
-];
+// ln of f64::EPSILON.
+const LN_EPSILON: f64 = -36.04365338911715;
+
+// A pair's exponents in fixed point: its powers at one radius share the radius' logarithm.
+pub struct Exponents {
+    pub lr: FixedExponent,
+    pub la: FixedExponent,
+}
 
 // What one evaluation gives: the function and the step.
 pub enum HalleyAnswer {
@@ -29,18 +28,41 @@ pub enum HalleyAnswer {
     Outside,
 }
 
-fn position(k: usize) -> f64
+// 10-point Gauss-Legendre quadrature (GLQ10): positions, and weights below. A match, since a const array would be rebuilt at every call. The index is the turn of a loop over the 10 nodes, and beyond them there is no entry; so for the weights.
+pub fn position(k: usize) -> f64
     requires { ⌜ k < 10 ⌝ }
     ensures { λ r. ⌜ r ≡ entry (calls floats port) positions k ⌝ }
 {
-    GLQ10[k][0]
+    match k {
+        0 => -0.1488743389816312,
+        1 => 0.1488743389816312,
+        2 => -0.4333953941292472,
+        3 => 0.4333953941292472,
+        4 => -0.6794095682990244,
+        5 => 0.6794095682990244,
+        6 => -0.8650633666889845,
+        7 => 0.8650633666889845,
+        8 => -0.9739065285171717,
+        _ => 0.9739065285171717,
+    }
 }
 
-fn weight(k: usize) -> f64
+pub fn weight(k: usize) -> f64
     requires { ⌜ k < 10 ⌝ }
     ensures { λ r. ⌜ r ≡ entry (calls floats port) weights k ⌝ }
 {
-    GLQ10[k][1]
+    match k {
+        0 => 0.2955242247147529,
+        1 => 0.2955242247147529,
+        2 => 0.2692667193099963,
+        3 => 0.2692667193099963,
+        4 => 0.219086362515982,
+        5 => 0.219086362515982,
+        6 => 0.1494513491505806,
+        7 => 0.1494513491505806,
+        8 => 0.0666713443086881,
+        _ => 0.0666713443086881,
+    }
 }
 
 // inverse_temperature * c_ij * epsilon_k_ij
@@ -50,26 +72,40 @@ pub fn c_eps_t(temperature: f64, c: f64, epsilon_k: f64) -> f64
     1.0 / temperature * c * epsilon_k
 }
 
+// Outside, no radius has its two powers.
+fn exponents_inside(la: f64, lr: f64) -> bool
+    ensures { λ r. ⌜ r ≡ exponentsInside la lr ⌝ }
+{
+    power::exponent_inside(lr) & power::exponent_inside(la)
+}
+
+fn exponents_of(la: f64, lr: f64) -> Exponents
+    ensures { λ r. ⌜ r ≡ exponentsOf la lr ⌝ }
+{
+    Exponents {
+        lr: power::exponent(lr),
+        la: power::exponent(la),
+    }
+}
+
 // `mie_potential_halley`, and the step.
-fn halley_step(la: f64, lr: f64, c_eps_t: f64, r: f64) -> HalleyAnswer
+fn halley_step(la: f64, lr: f64, e: Exponents, c_eps_t: f64, r: f64) -> HalleyAnswer
+    requires { ⌜ (exponentsInside la lr ≡ true) × (e ≡ exponentsOf la lr) ⌝ }
     ensures { λ a. ⌜ halleyAnswer a ≡ halleyStep floats (calls floats port) la lr «c_eps_t» r ⌝ }
 {
     let ri = 1.0 / r;
-    let FloatAnswer::Value(plr) = elementary::powf(ri, lr) else {
+    if !binary_log::base_inside(ri) {
         return HalleyAnswer::Outside;
-    };
-    let FloatAnswer::Value(pla) = elementary::powf(ri, la) else {
-        return HalleyAnswer::Outside;
-    };
-    let FloatAnswer::Value(l) = elementary::ln(2.220446049250313e-16) else {
-        return HalleyAnswer::Outside;
-    };
+    }
+    let log = binary_log::log_base(ri);
+    let plr = power::raise(log, e.lr);
+    let pla = power::raise(log, e.la);
     let u = plr - pla;
     let dplr = plr * (-lr) * ri;
     let dpla = pla * (-la) * ri;
     let du = dplr - dpla;
     let d2u = (dplr * (-lr - 1.0) - dpla * (-la - 1.0)) * ri;
-    let f = -c_eps_t * u - l;
+    let f = -c_eps_t * u - LN_EPSILON;
     let df = -c_eps_t * du;
     let d2f = -c_eps_t * d2u;
     let u_du = f / df;
@@ -78,13 +114,14 @@ fn halley_step(la: f64, lr: f64, c_eps_t: f64, r: f64) -> HalleyAnswer
 }
 
 // At most 4 steps; a negative function value returns the radius as it is.
-fn halley(la: f64, lr: f64, c_eps_t: f64, start: f64) -> FloatAnswer
+fn halley(la: f64, lr: f64, e: Exponents, c_eps_t: f64, start: f64) -> FloatAnswer
+    requires { ⌜ (exponentsInside la lr ≡ true) × (e ≡ exponentsOf la lr) ⌝ }
     ensures { λ a. ⌜ answer a ≡ halley floats (calls floats port) la lr «c_eps_t» 4 start ⌝ }
 {
     let mut r = start;
     let mut left: u8 = 4;
     while 0 < left {
-        let HalleyAnswer::At(f, dr) = halley_step(la, lr, c_eps_t, r) else {
+        let HalleyAnswer::At(f, dr) = halley_step(la, lr, e, c_eps_t, r) else {
             return FloatAnswer::Outside;
         };
         if f < 0.0 {
@@ -100,54 +137,77 @@ fn halley(la: f64, lr: f64, c_eps_t: f64, start: f64) -> FloatAnswer
 pub fn lower_integratal_limit(la: f64, lr: f64, c_eps_t: f64) -> FloatAnswer
     ensures { λ a. ⌜ answer a ≡ lowerLimit floats (calls floats port) la lr «c_eps_t» ⌝ }
 {
-    let FloatAnswer::Value(l) = elementary::ln(2.220446049250313e-16) else {
-        return FloatAnswer::Outside;
-    };
-    let FloatAnswer::Value(k) = elementary::ln(-(1.0 / c_eps_t) * l) else {
+    let FloatAnswer::Value(k) = elementary::ln(-(1.0 / c_eps_t) * LN_EPSILON) else {
         return FloatAnswer::Outside;
     };
     let FloatAnswer::Value(r) = elementary::exp(-k / lr) else {
         return FloatAnswer::Outside;
     };
-    halley(la, lr, c_eps_t, r)
+    if !exponents_inside(la, lr) {
+        return FloatAnswer::Outside;
+    }
+    halley(la, lr, exponents_of(la, lr), c_eps_t, r)
 }
 
-fn beta_u_mie(la: f64, lr: f64, c_eps_t: f64, r: f64) -> FloatAnswer
-    ensures { λ a. ⌜ answer a ≡ betaUMie floats (calls floats port) la lr «c_eps_t» r ⌝ }
-{
-    let ri = 1.0 / r * 1.0;
-    let FloatAnswer::Value(plr) = elementary::powf(ri, lr) else {
-        return FloatAnswer::Outside;
-    };
-    let FloatAnswer::Value(pla) = elementary::powf(ri, la) else {
-        return FloatAnswer::Outside;
-    };
-    FloatAnswer::Value((plr - pla) * c_eps_t)
-}
-
-fn node(la: f64, lr: f64, c_eps_t: f64, r0: f64, k: usize, d: f64) -> FloatAnswer
+// The inverse radius of node k.
+fn inverse_at(r0: f64, k: usize) -> f64
     requires { ⌜ k < 10 ⌝ }
-    ensures { λ a. ⌜ answer a ≡ nodeTurn floats (calls floats port) la lr «c_eps_t» r0 k d ⌝ }
+    ensures { λ r. ⌜ r ≡ inverseAt r0 k ⌝ }
 {
     let width = (-r0 + 1.0) * 0.5;
-    let x = position(k);
-    let w = weight(k);
-    let FloatAnswer::Value(u) = beta_u_mie(la, lr, c_eps_t, width * x + width + r0) else {
+    1.0 / (width * position(k) + width + r0) * 1.0
+}
+
+// `beta_u_mie`, from the logarithm of the inverse radius.
+fn beta_u_mie(e: Exponents, c_eps_t: f64, log: Log) -> f64
+    ensures { λ r. ⌜ r ≡ betaUAt e «c_eps_t» log ⌝ }
+{
+    (power::raise(log, e.lr) - power::raise(log, e.la)) * c_eps_t
+}
+
+// Node k's part, added.
+fn add_node(r0: f64, k: usize, e: f64, d: f64) -> f64
+    requires { ⌜ k < 10 ⌝ }
+    ensures { λ r. ⌜ r ≡ nodeAdded r0 k e d ⌝ }
+{
+    d + (-r0 + 1.0) * 0.5 * (-e) * weight(k)
+}
+
+// The nodes 2k and 2k + 1, whose work goes side by side: all that cannot refuse comes first.
+fn two_nodes(la: f64, lr: f64, e: Exponents, c_eps_t: f64, r0: f64, k: usize, d: f64) -> FloatAnswer
+    requires { ⌜ (exponentsInside la lr ≡ true) × (e ≡ exponentsOf la lr) × (k < 5) ⌝ }
+    ensures { λ a. ⌜ answer a ≡ twoNodes floats (calls floats port) la lr «c_eps_t» r0 k d ⌝ }
+{
+    let ri = inverse_at(r0, 2 * k);
+    let rj = inverse_at(r0, 2 * k + 1);
+    let u = beta_u_mie(e, c_eps_t, binary_log::log_base(ri));
+    let v = beta_u_mie(e, c_eps_t, binary_log::log_base(rj));
+    if !binary_log::base_inside(ri) {
+        return FloatAnswer::Outside;
+    }
+    let FloatAnswer::Value(x) = elementary::exp_m1(-u) else {
         return FloatAnswer::Outside;
     };
-    let FloatAnswer::Value(e) = elementary::exp_m1(-u) else {
+    if !binary_log::base_inside(rj) {
+        return FloatAnswer::Outside;
+    }
+    let FloatAnswer::Value(y) = elementary::exp_m1(-v) else {
         return FloatAnswer::Outside;
     };
-    FloatAnswer::Value(d + width * (-e) * w)
+    FloatAnswer::Value(add_node(r0, 2 * k + 1, y, add_node(r0, 2 * k, x, d)))
 }
 
 // A pair's diameter from its reduced lower limit.
 pub fn diameter_from(la: f64, lr: f64, c_eps_t: f64, sigma: f64, r0: f64) -> FloatAnswer
     ensures { λ a. ⌜ answer a ≡ diameterFrom floats (calls floats port) la lr «c_eps_t» sigma r0 ⌝ }
 {
+    if !exponents_inside(la, lr) {
+        return FloatAnswer::Outside;
+    }
+    let e = exponents_of(la, lr);
     let mut d = r0;
-    for k in 0usize..10usize {
-        let FloatAnswer::Value(next) = node(la, lr, c_eps_t, r0, k, d) else {
+    for k in 0usize..5usize {
+        let FloatAnswer::Value(next) = two_nodes(la, lr, e, c_eps_t, r0, k, d) else {
             return FloatAnswer::Outside;
         };
         d = next;

@@ -14,7 +14,6 @@ use enclosure::EnclosureAnswer;
 use enclosure::EndsAnswer;
 use number::SHEET;
 use number::SIDE;
-use saftvrmie_diameter::GLQ10;
 use saftvrmie_parameters::SaftVRMiePars;
 
 // Entries of the rule, as points; k is the turn of a loop over its 10 nodes, and beyond them there is no entry.
@@ -22,14 +21,14 @@ fn position(k: usize) -> Enclosure
     requires { ⌜ k < 10 ⌝ }
     ensures { λ r. ⌜ r ≡ entry (calls enclosures port) positions k ⌝ }
 {
-    enclosure::point(GLQ10[k][0])
+    enclosure::point(saftvrmie_diameter::position(k))
 }
 
 fn weight(k: usize) -> Enclosure
     requires { ⌜ k < 10 ⌝ }
     ensures { λ r. ⌜ r ≡ entry (calls enclosures port) weights k ⌝ }
 {
-    enclosure::point(GLQ10[k][1])
+    enclosure::point(saftvrmie_diameter::weight(k))
 }
 
 // inverse_temperature * c_ij * epsilon_k_ij

@@ -1,55 +1,18 @@
 -- `saftvrmie_diameter::beta_u_mie` meets its contract. Assumes nothing.
-use Rattle.saftvrmie_diameter.specs.Diameter.{betaUMie}
-use lib.Ieee.{ofBits}
-use Rattle.number.specs.Arith.{decimal}
-use Rattle.number.specs.Ans.{_>>=_}
-use Rattle.number.specs.Answer.{answer}
-use Rattle.number.specs.Functions.{answered₂}
-use Rattle.number.proofs.Walk.{via}
+use Rattle.saftvrmie_diameter.specs.Staged.{betaUAt}
 use borrow.Author.Needs.{needs}
 use Rattle.saftvrmie_diameter.proofs.beta_u_mie.Statement.{statement}
 use Rattle.saftvrmie_diameter.proofs.beta_u_mie.Tie as tie
 
-powf-requires : tie.Need-powf-requires
-powf-requires c κs = search needs
+raise-requires : tie.Need-raise-requires
+raise-requires c κs = search needs
 
-enum-known-plr : tie.Need-enum-known-plr
-enum-known-plr c = search needs
-
-enum-told : tie.Need-enum-told
-enum-told c = search needs
+raise-requires-2 : tie.Need-raise-requires-2
+raise-requires-2 c κs = search needs
 
 returns : tie.Need-returns
-unfolding betaUMie answered₂ _>>=_ decimal ofBits
-returns c = rw (via answer ((c .before .before .powf) .ensures) ((c .enum-told) .given .1))
-
-powf-requires-2 : tie.Need-powf-requires-2
-powf-requires-2 c κs = search needs
-
-enum-known-pla : tie.Need-enum-known-pla
-enum-known-pla c = search needs
-
-enum-told-2 : tie.Need-enum-told-2
-enum-told-2 c = search needs
-
-returns-2 : tie.Need-returns-2
-unfolding betaUMie answered₂ _>>=_ decimal ofBits
-returns-2 c = rw (via answer ((c .before .before .before .before .before .before .powf) .ensures) ((c .before .before .before .before .plr) .given .1), via answer ((c .before .before .powf2) .ensures) ((c .enum-told2) .given .1))
-
-returns-3 : tie.Need-returns-3
-unfolding betaUMie answered₂ _>>=_ decimal ofBits
-returns-3 c = rw (via answer ((c .before .before .before .before .before .before .before .powf) .ensures) ((c .before .before .before .before .before .plr) .given .1), via answer ((c .before .before .before .powf2) .ensures) ((c .before .pla) .given .1))
+unfolding betaUAt
+returns c = rw ((c .raise2) .ensures, (c .before .raise) .ensures)
 
 pub beta-u-mie-spec : {M : Type 1} → statement M
-beta-u-mie-spec =
-    tie.close
-    (tie.spec
-    powf-requires
-    enum-known-plr
-    enum-told
-    returns
-    powf-requires-2
-    enum-known-pla
-    enum-told-2
-    returns-2
-    returns-3)
+beta-u-mie-spec = tie.close (tie.spec raise-requires raise-requires-2 returns)

@@ -12,10 +12,10 @@ use Rattle.saftvrmie_diameter.proofs.halley.Statement.{statement}
 use Rattle.saftvrmie_diameter.proofs.halley.Tie as tie
 
 abbrev Inv-loop : tie.InvT-loop
-Inv-loop la lr c-eps-t start r₀ left₀ r left = halley floats (calls floats port) la lr c-eps-t left r ≡ halley floats (calls floats port) la lr c-eps-t 4 r₀
+Inv-loop la lr e c-eps-t start r₀ left₀ r left = halley floats (calls floats port) la lr c-eps-t left r ≡ halley floats (calls floats port) la lr c-eps-t 4 r₀
 
 abbrev μ-loop : tie.MeasureT-loop
-μ-loop la lr c-eps-t start r₀ left₀ r left = left
+μ-loop la lr e c-eps-t start r₀ left₀ r left = left
 
 loop-holds : tie.Need-loop-holds Inv-loop μ-loop
 loop-holds c = refl

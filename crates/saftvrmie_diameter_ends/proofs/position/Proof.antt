@@ -1,29 +1,20 @@
 -- `saftvrmie_diameter_ends::position` meets its contract. Assumes nothing.
 use mathlib.Core.Path.{ap, _∙_}
-use Rattle.number.specs.Arith.{decimal}
-use lib.Ieee.{ofBits}
 use Rattle.enclosure.specs.Enclosure.{point}
 use Rattle.saftvrmie_diameter.specs.Diameter.{entry}
-use Rattle.saftvrmie_diameter.proofs.Laws.{position-is}
 use borrow.Author.Needs.{needs}
 use Rattle.saftvrmie_diameter_ends.proofs.position.Statement.{statement}
 use Rattle.saftvrmie_diameter_ends.proofs.position.Tie as tie
 
-mul-point : tie.Need-mul-point
-mul-point c = search needs
-
-index-1-point : tie.Need-index-1-point
-index-1-point c = search needs
-
-index-2-point : tie.Need-index-2-point
-index-2-point c = search needs
+position-requires : tie.Need-position-requires
+position-requires c κs = search needs
 
 point-requires : tie.Need-point-requires
 point-requires c κs = search needs
 
 returns : tie.Need-returns
-unfolding entry decimal ofBits
-returns c = (c .point) .ensures ∙ ap point (position-is _ (c .before .before .pre))
+unfolding entry
+returns c = (c .point) .ensures ∙ ap point ((c .before .position) .ensures)
 
 pub position-spec : {M : Type 1} → statement M
-position-spec = tie.close (tie.spec mul-point index-1-point index-2-point point-requires returns)
+position-spec = tie.close (tie.spec position-requires point-requires returns)
