@@ -1,16 +1,20 @@
 -- The powers of one radius share its logarithm, ln of EPSILON is a constant, and the nodes go two by two: the same values and refusals. Assumes nothing.
-use Prim.Native.Nat.{ℕ, zero, suc, _+_, _*_, _≤_, _<_}
+use Prim.Native.Nat.{ℕ, zero, suc, _/_, _^_, _≤_, _<_}
 use native.Mathlib.Omega.{arith}
-use native.Mathlib.Numerals.{add-one}
+use native.Mathlib.Nat.{not-suc-le-zero}
+use borrow.Author.Tests.{ltb-true, ltb-false}
 use lib.Count.{leadingZeros}
-use lib.Ieee.{Float, ofBits, toBits, le}
+use lib.Dec.{ltb, leb}
+use lib.ListN.{getD, length, set, replicate, length-set}
+use lib.Seq.{getD-set-same, getD-set-other}
+use lib.Ieee.{binary64, nan, Float, ofBits, toBits, le}
 use mathlib.Core.Path.{_≡_, refl, sym, ap, _∙_}
-use mathlib.Core.Bool.{Bool, true, false, _&&_}
+use mathlib.Core.Bool.{Bool, true, false, _&&_, cond}
 use mathlib.Core.List.{List}
 use Rattle.number.specs.Ans.{Ans, held, refused, _>>=_, demand}
-use Rattle.number.specs.Arith.{floats, bits, decimal}
+use Rattle.number.specs.Arith.{floats, bits, decimal, zero64}
 use Rattle.number.specs.Functions.{calls, answered, answered₂}
-use Rattle.number.specs.Walk.{walk}
+use Rattle.number.specs.Walk.{turns}
 use Rattle.number.proofs.Walk.{walk-none, walk-stop}
 use Rattle.elementary.specs.Port.{port}
 use Rattle.fixed_point.specs.Horner.{horner}
@@ -21,7 +25,7 @@ use Rattle.binary_log.specs.declared.Log.{Log}
 use Rattle.binary_log.specs.BinaryLog.{baseInside, logOf}
 use Rattle.power.specs.Power.{exponentInside, exponentOf, powerOf, powfOf}
 use Rattle.saftvrmie_diameter.specs.Diameter.{Decimal, entry, Halley, halleyStep, halley, betaUMie, nodeTurn, diameterFrom}
-use Rattle.saftvrmie_diameter.specs.Staged.{exponentsInside, exponentsOf, inverseAt, betaUAt, nodeAdded, twoNodes}
+use Rattle.saftvrmie_diameter.specs.Staged.{exponentsInside, exponentsOf, inverseAt, betaUAt, noLog, beyond, logsOf, betasOf, nodeAt}
 use Rattle.saftvrmie_diameter.specs.declared.Exponents.{Exponents}
 
 -- ---- an entry of the rule, at a place that is told
@@ -60,18 +64,35 @@ unfolding powfOf demand _>>=_
 no-exponent x y true p q = rw (once₂, p, q)
 no-exponent x y false p q = rw (once₂, p)
 
--- ---- a walk in steps of two
-bound : {S T U : Type 0} (a : Ans S) (f : S → Ans T) (g : T → Ans U) → (a >>= f >>= g) ≡ (a >>= λ x. f x >>= g)
-unfolding _>>=_
-bound (held x) f g = refl
-bound (refused n) f g = refl
+-- ---- a list that is filled place by place
+filled-length : {S : Type 0} (f : ℕ → S) (n : ℕ) (l : List S) → length (turns n (λ i s. set s i (f i)) l) ≡ length l
+unfolding turns
+filled-length f zero l = refl
+filled-length f (suc n) l = length-set (turns n (λ i s. set s i (f i)) l) n (f n) ∙ filled-length f n l
 
-by-two : {S : Type 0} (n : ℕ) (f : ℕ → S → Ans S) (s : S) → walk (2 * n) f s ≡ walk n (λ k d. f (2 * k) d >>= f (2 * k + 1)) s
-unfolding walk
-by-two zero f s = refl
-by-two (suc n) f s =
-    let d : 2 * suc n ≡ suc (suc (2 * n)) = omega arith in
-    rw (d, ← add-one (2 * n), by-two n f s) (bound _ (f (2 * n)) (f (2 * n + 1)))
+filled : {S : Type 0} (f : ℕ → S) (z : S) (n j : ℕ) (l : List S) → j < n → n ≤ length l → getD (turns n (λ i s. set s i (f i)) l) j z ≡ f j
+unfolding turns
+filled f z zero j l h q = absurd (not-suc-le-zero h)
+filled f z (suc n) j l h q = either (λ k. filled f z n j l k (omega arith)) (ltb j n) refl
+  where
+    either : (j < n → getD (turns n (λ i s. set s i (f i)) l) j z ≡ f j) → (t : Bool) → ltb j n ≡ t → getD (set (turns n (λ i s. set s i (f i)) l) n (f n)) j z ≡ f j
+    either before true e =
+        let k = ltb-true j n e in
+        getD-set-other (turns n (λ i s. set s i (f i)) l) n j (f n) z (λ (i : j ≡ n). omega (arith, i, k)) ∙ before k
+    either before false e =
+        let i : j ≡ n = (let k = ltb-false j n e in omega arith) in
+        rw i (getD-set-same (turns n (λ i s. set s i (f i)) l) n (f n) z (rw (filled-length f n l) q))
+
+-- the base stays beside its logarithm
+log-base : (x : Float) → logOf x .base ≡ x
+unfolding logOf
+log-base x = ways (baseInside x) (leb 1023 (toBits binary64 x / 2 ^ 52)) _ _ _ _
+  where
+    ways : (b c : Bool) (s t : ℕ) (p q : Bool)
+        → cond {A = Log} b (cond c (record { base = x; size = s; negative = p }) (record { base = x; size = t; negative = q })) (record { base = x; size = 0; negative = false }) .base ≡ x
+    ways true true s t p q = refl
+    ways true false s t p q = refl
+    ways false c s t p q = refl
 
 -- ---- a pair's two exponents
 and-left : (a b : Bool) → (a && b) ≡ true → a ≡ true
@@ -150,50 +171,29 @@ module _ (la lr : Float) where
       unfolding nodeTurn _>>=_
       node-refused k d h = rw (beta-refused _ h)
 
-      node-outside : (k : ℕ) (d : Float) → baseInside (inverseAt r0 k) ≡ false → nodeTurn floats (calls floats port) la lr c r0 k d ≡ refused 6
-      unfolding nodeTurn betaUMie inverseAt _>>=_
-      node-outside k d p = rw (no-base _ lr p)
+      node-is : (k : ℕ) (d : Float) → exponentsInside la lr ≡ true
+          → nodeTurn floats (calls floats port) la lr c r0 k d ≡ nodeAt r0 k (inverseAt r0 k) (betaUAt (exponentsOf la lr) c (logOf (inverseAt r0 k))) d
+      unfolding nodeTurn betaUMie inverseAt betaUAt nodeAt exponentsInside exponentsOf demand _>>=_
+      node-is k d h = ways (baseInside (inverseAt r0 k)) refl
+        where
+          ways : (b : Bool) → baseInside (inverseAt r0 k) ≡ b → nodeTurn floats (calls floats port) la lr c r0 k d ≡ nodeAt r0 k (inverseAt r0 k) (betaUAt (exponentsOf la lr) c (logOf (inverseAt r0 k))) d
+          ways true p = rw (power-held _ lr p (and-left (exponentInside lr) (exponentInside la) h), power-held _ la p (and-right (exponentInside lr) (exponentInside la) h), once, p)
+          ways false p = rw (no-base _ lr p, p)
 
-      node-held : (k : ℕ) (d : Float) → exponentsInside la lr ≡ true → baseInside (inverseAt r0 k) ≡ true
-          → nodeTurn floats (calls floats port) la lr c r0 k d ≡ (port .expm1 (floats .neg (betaUAt (exponentsOf la lr) c (logOf (inverseAt r0 k)))) >>= λ e. held (nodeAdded r0 k e d))
-      unfolding nodeTurn betaUMie inverseAt nodeAdded betaUAt exponentsInside exponentsOf _>>=_
-      node-held k d h p = rw (power-held _ lr p (and-left (exponentInside lr) (exponentInside la) h), power-held _ la p (and-right (exponentInside lr) (exponentInside la) h), once)
+      -- a node of the ten, from the lists
+      module _ (e : Exponents) (logs : List Log) (betas : List Float) (h : exponentsInside la lr ≡ true) (i : e ≡ exponentsOf la lr) (is-logs : logs ≡ logsOf r0) (are-betas : betas ≡ betasOf e c logs) where
+        pub node-turn : (k : ℕ) (d : Float) (a : Ans Float) → k < 10 → nodeAt r0 k (getD logs k beyond .base) (getD betas k nan) d ≡ a → nodeTurn floats (calls floats port) la lr c r0 k d ≡ a
+        unfolding logsOf betasOf
+        node-turn k d a q r = node-is k d h ∙ sym (rw (ri, u)) ∙ r
+          where
+            log : getD logs k beyond ≡ logOf (inverseAt r0 k)
+            log = rw is-logs (filled (λ k. logOf (inverseAt r0 k)) beyond 10 k (replicate 10 noLog) q (omega arith))
 
-      -- ---- two nodes
-      module _ (e : Exponents) (k : ℕ) (d ri u : Float) (log : Log) (h : exponentsInside la lr ≡ true) (i : e ≡ exponentsOf la lr) (is-ri : ri ≡ inverseAt r0 (2 * k)) (is-log : log ≡ logOf ri) (is-u : u ≡ betaUAt e c log) where
-        pub first-outside : baseInside ri ≡ false → refused 6 ≡ twoNodes floats (calls floats port) la lr c r0 k d
-        unfolding twoNodes _>>=_
-        first-outside p = sym (rw (node-outside (2 * k) d (rw is-ri at p)))
+            ri : getD logs k beyond .base ≡ inverseAt r0 k
+            ri = ap (λ (l : Log). l .base) log ∙ log-base _
 
-        module _ (p : baseInside ri ≡ true) where
-          first : nodeTurn floats (calls floats port) la lr c r0 (2 * k) d ≡ (port .expm1 (floats .neg u) >>= λ x. held (nodeAdded r0 (2 * k) x d))
-          first = rw (is-u, is-log, i, is-ri) (node-held (2 * k) d h (rw is-ri at p))
-
-          pub first-refused : port .expm1 (floats .neg u) ≡ refused 6 → refused 6 ≡ twoNodes floats (calls floats port) la lr c r0 k d
-          unfolding twoNodes _>>=_
-          first-refused q = sym (rw (first, q))
-
-          module _ (x rj v : Float) (m : Log) (q : port .expm1 (floats .neg u) ≡ held x) (is-rj : rj ≡ inverseAt r0 (2 * k + 1)) (is-m : m ≡ logOf rj) (is-v : v ≡ betaUAt e c m) where
-            pub second-outside : baseInside rj ≡ false → refused 6 ≡ twoNodes floats (calls floats port) la lr c r0 k d
-            unfolding twoNodes _>>=_
-            second-outside t = sym (rw (first, q) (node-outside (2 * k + 1) _ (rw is-rj at t)))
-
-            module _ (t : baseInside rj ≡ true) where
-              second : (d₁ : Float) → nodeTurn floats (calls floats port) la lr c r0 (2 * k + 1) d₁ ≡ (port .expm1 (floats .neg v) >>= λ y. held (nodeAdded r0 (2 * k + 1) y d₁))
-              second d₁ = rw (is-v, is-m, i, is-rj) (node-held (2 * k + 1) d₁ h (rw is-rj at t))
-
-              pub second-refused : port .expm1 (floats .neg v) ≡ refused 6 → refused 6 ≡ twoNodes floats (calls floats port) la lr c r0 k d
-              unfolding twoNodes _>>=_
-              second-refused w = sym (rw (first, q, second, w))
-
-              pub both-added : (y d₁ d₂ : Float) → port .expm1 (floats .neg v) ≡ held y → d₁ ≡ nodeAdded r0 (2 * k) x d → d₂ ≡ nodeAdded r0 (2 * k + 1) y d₁ → held d₂ ≡ twoNodes floats (calls floats port) la lr c r0 k d
-              unfolding twoNodes _>>=_
-              both-added y d₁ d₂ w f g = sym (rw (first, q, second, w, g, f))
-
-      -- ---- all ten
-      pub ten-nodes : walk 10 (nodeTurn floats (calls floats port) la lr c r0) r0 ≡ walk 5 (twoNodes floats (calls floats port) la lr c r0) r0
-      unfolding twoNodes
-      ten-nodes = by-two 5 (nodeTurn floats (calls floats port) la lr c r0) r0
+            u : getD betas k nan ≡ betaUAt (exponentsOf la lr) c (logOf (inverseAt r0 k))
+            u = (let n : getD betas k nan ≡ betaUAt e c (getD logs k beyond) = rw are-betas (filled (λ k. betaUAt e c (getD logs k beyond)) nan 10 k (replicate 10 zero64) q (omega arith)) in n ∙ rw (i, log))
 
       pub from-refused : (sigma : Float) → exponentsInside la lr ≡ false → refused 6 ≡ diameterFrom floats (calls floats port) la lr c sigma r0
       unfolding diameterFrom _>>=_

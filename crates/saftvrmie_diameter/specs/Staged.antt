@@ -1,14 +1,18 @@
--- What the float code works of the diameter with the powers in their stages, and its nodes two at a time: the contracts of helpers alone. That this is the diameter, values and refusals, is shown in proofs/Staged.
-use Prim.Native.Nat.{ℕ, _+_, _*_}
-use lib.Ieee.{Float}
+-- What the float code works of the diameter with the powers in their stages, and its nodes stage by stage: the contracts of helpers alone. That this is the diameter, values and refusals, is shown in proofs/Staged.
+use Prim.Native.Nat.{ℕ}
+use lib.Ieee.{Float, nan}
+use lib.ListN.{getD, set, replicate}
 use mathlib.Core.Bool.{Bool, false, _&&_}
-use Rattle.number.specs.Ans.{Ans, _>>=_}
-use Rattle.number.specs.Arith.{Arith, floats, decimal}
-use Rattle.number.specs.Functions.{Functions, calls}
+use mathlib.Core.List.{List}
+use Rattle.number.specs.Ans.{Ans, held, _>>=_, demand}
+use Rattle.number.specs.Arith.{floats, bits, decimal, zero64}
+use Rattle.number.specs.Functions.{calls}
+use Rattle.number.specs.Walk.{turns}
 use Rattle.elementary.specs.Port.{port}
+use Rattle.binary_log.specs.BinaryLog.{baseInside, logOf}
 use Rattle.binary_log.specs.declared.Log.{Log}
 use Rattle.power.specs.Power.{exponentInside, exponentOf, powerOf}
-use Rattle.saftvrmie_diameter.specs.Diameter.{positions, weights, entry, nodeTurn}
+use Rattle.saftvrmie_diameter.specs.Diameter.{positions, weights, entry}
 use Rattle.saftvrmie_diameter.specs.declared.Exponents.{Exponents}
 
 -- both exponents lie within the power's domain
@@ -22,19 +26,34 @@ exponentsOf la lr = record { lr = exponentOf lr; la = exponentOf la }
 abbrev pub widthOf : Float → Float
 widthOf r0 = floats .mul (floats .add (floats .neg r0) (decimal false 1 0)) (decimal false 5 1)
 
--- the inverse radius of node k, and what the node adds
+-- the inverse radius of node k
 unfoldable pub inverseAt : Float → ℕ → Float
 inverseAt r0 k =
     let r = floats .add (floats .add (floats .mul (widthOf r0) (entry (calls floats port) positions k)) (widthOf r0)) r0 in
     floats .mul (floats .div (decimal false 1 0) r) (decimal false 1 0)
 
-unfoldable pub nodeAdded : Float → ℕ → Float → Float → Float
-nodeAdded r0 k e d = floats .add d (floats .mul (floats .mul (widthOf r0) (floats .neg e)) (entry (calls floats port) weights k))
-
 -- `beta_u_mie` from the logarithm of the inverse radius
 unfoldable pub betaUAt : Exponents → Float → Log → Float
 betaUAt e c-eps-t log = floats .mul (floats .sub (powerOf log (e .lr)) (powerOf log (e .la))) c-eps-t
 
--- the nodes 2k and 2k + 1
-unfoldable pub twoNodes : (A : Arith) → Functions (A .Num) → A .Num → A .Num → A .Num → A .Num → ℕ → A .Num → Ans (A .Num)
-twoNodes A F la lr c-eps-t r0 k d = nodeTurn A F la lr c-eps-t r0 (2 * k) d >>= nodeTurn A F la lr c-eps-t r0 (2 * k + 1)
+-- what stands in a place before it is filled
+abbrev pub noLog : Log
+noLog = record { base = bits 0; size = 0; negative = false }
+
+-- what stands beyond the places, which is not read
+abbrev pub beyond : Log
+beyond = record { base = nan; size = 0; negative = false }
+
+-- of all ten nodes: the logarithms, and `beta_u_mie`
+unfoldable pub logsOf : Float → List Log
+logsOf r0 = turns 10 (λ k s. set s k (logOf (inverseAt r0 k))) (replicate 10 noLog)
+
+unfoldable pub betasOf : Exponents → Float → List Log → List Float
+betasOf e c-eps-t logs = turns 10 (λ k s. set s k (betaUAt e c-eps-t (getD logs k beyond))) (replicate 10 zero64)
+
+-- a node from its inverse radius and its `beta_u_mie`
+unfoldable pub nodeAt : Float → ℕ → Float → Float → Float → Ans Float
+nodeAt r0 k ri u d =
+    demand 6 (baseInside ri) >>= λ _.
+    port .expm1 (floats .neg u) >>= λ e.
+    held (floats .add d (floats .mul (floats .mul (widthOf r0) (floats .neg e)) (entry (calls floats port) weights k)))

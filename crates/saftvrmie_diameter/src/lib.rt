@@ -8,7 +8,7 @@ ghost use Rattle.number.specs.Functions.{calls};
 ghost use Rattle.elementary.specs.Port.{port};
 ghost use Rattle.saftvrmie_diameter.specs.Answer.{halleyAnswer};
 ghost use Rattle.saftvrmie_diameter.specs.Diameter.{positions, weights, entry, cEpsT, halleyStep, halley, lowerLimit, diameterFrom, hsDiameter};
-ghost use Rattle.saftvrmie_diameter.specs.Staged.{exponentsInside, exponentsOf, inverseAt, betaUAt, nodeAdded, twoNodes};
+ghost use Rattle.saftvrmie_diameter.specs.Staged.{exponentsInside, exponentsOf, inverseAt, betaUAt, logsOf, betasOf, nodeAt};
 use binary_log::Log;
 use number::FloatAnswer;
 use power::FixedExponent;
@@ -165,36 +165,43 @@ fn beta_u_mie(e: Exponents, c_eps_t: f64, log: Log) -> f64
     (power::raise(log, e.lr) - power::raise(log, e.la)) * c_eps_t
 }
 
-// Node k's part, added.
-fn add_node(r0: f64, k: usize, e: f64, d: f64) -> f64
-    requires { ⌜ k < 10 ⌝ }
-    ensures { λ r. ⌜ r ≡ nodeAdded r0 k e d ⌝ }
+// The logarithms of the nodes' inverse radii. The nodes' work goes stage by stage, each stage for all ten: so it goes side by side.
+fn logs_of(r0: f64) -> [Log; 10]
+    ensures { λ r. ⌜ r ≡ logsOf r0 ⌝ }
 {
-    d + (-r0 + 1.0) * 0.5 * (-e) * weight(k)
+    let mut logs = [Log {
+        base: 0.0,
+        size: 0,
+        negative: false,
+    }; 10];
+    for k in 0usize..10usize {
+        logs[k] = binary_log::log_base(inverse_at(r0, k));
+    }
+    logs
 }
 
-// The nodes 2k and 2k + 1, whose work goes side by side: all that cannot refuse comes first.
-fn two_nodes(la: f64, lr: f64, e: Exponents, c_eps_t: f64, r0: f64, k: usize, d: f64) -> FloatAnswer
-    requires { ⌜ (exponentsInside la lr ≡ true) × (e ≡ exponentsOf la lr) × (k < 5) ⌝ }
-    ensures { λ a. ⌜ answer a ≡ twoNodes floats (calls floats port) la lr «c_eps_t» r0 k d ⌝ }
+fn betas_of(e: Exponents, c_eps_t: f64, logs: [Log; 10]) -> [f64; 10]
+    ensures { λ r. ⌜ r ≡ betasOf e «c_eps_t» logs ⌝ }
 {
-    let ri = inverse_at(r0, 2 * k);
-    let rj = inverse_at(r0, 2 * k + 1);
-    let u = beta_u_mie(e, c_eps_t, binary_log::log_base(ri));
-    let v = beta_u_mie(e, c_eps_t, binary_log::log_base(rj));
+    let mut betas = [0.0; 10];
+    for k in 0usize..10usize {
+        betas[k] = beta_u_mie(e, c_eps_t, logs[k]);
+    }
+    betas
+}
+
+// Node k's part, added, from the inverse radius and the potential there.
+fn node(r0: f64, k: usize, ri: f64, u: f64, d: f64) -> FloatAnswer
+    requires { ⌜ k < 10 ⌝ }
+    ensures { λ a. ⌜ answer a ≡ nodeAt r0 k ri u d ⌝ }
+{
     if !binary_log::base_inside(ri) {
         return FloatAnswer::Outside;
     }
-    let FloatAnswer::Value(x) = elementary::exp_m1(-u) else {
+    let FloatAnswer::Value(e) = elementary::exp_m1(-u) else {
         return FloatAnswer::Outside;
     };
-    if !binary_log::base_inside(rj) {
-        return FloatAnswer::Outside;
-    }
-    let FloatAnswer::Value(y) = elementary::exp_m1(-v) else {
-        return FloatAnswer::Outside;
-    };
-    FloatAnswer::Value(add_node(r0, 2 * k + 1, y, add_node(r0, 2 * k, x, d)))
+    FloatAnswer::Value(d + (-r0 + 1.0) * 0.5 * (-e) * weight(k))
 }
 
 // A pair's diameter from its reduced lower limit.
@@ -204,10 +211,12 @@ pub fn diameter_from(la: f64, lr: f64, c_eps_t: f64, sigma: f64, r0: f64) -> Flo
     if !exponents_inside(la, lr) {
         return FloatAnswer::Outside;
     }
-    let e = exponents_of(la, lr);
+    let logs = logs_of(r0);
+    let betas = betas_of(exponents_of(la, lr), c_eps_t, logs);
     let mut d = r0;
-    for k in 0usize..5usize {
-        let FloatAnswer::Value(next) = two_nodes(la, lr, e, c_eps_t, r0, k, d) else {
+    for k in 0usize..10usize {
+        let log = logs[k];
+        let FloatAnswer::Value(next) = node(r0, k, log.base, betas[k], d) else {
             return FloatAnswer::Outside;
         };
         d = next;
