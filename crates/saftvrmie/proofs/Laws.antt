@@ -4,10 +4,11 @@ use lib.Dec.{eqb}
 use lib.Ieee.{Float}
 use lib.ListN.{length, set}
 use mathlib.Core.List.{List}
-use mathlib.Core.Path.{_≡_}
-use mathlib.Core.Bool.{true, false}
+use mathlib.Core.Path.{_≡_, refl}
+use native.Mathlib.Omega.{arith}
+use mathlib.Core.Bool.{Bool, true, false, _&&_}
 use borrow.Author.Tests.{eqb-true}
-use Rattle.number.specs.Ans.{held, refused, _>>=_, demand}
+use Rattle.number.specs.Ans.{Ans, held, refused, _>>=_, demand}
 use Rattle.number.specs.Answer.{answer}
 use Rattle.number.specs.Side.{side}
 use Rattle.number.proofs.Walk.{via}
@@ -15,15 +16,7 @@ use Rattle.limits.specs.Limits.{countWithin, temperatureWithin}
 use Rattle.mie_parameters.proofs.Laws.{and-left, and-right, count-high}
 use Rattle.number.specs.declared.FloatAnswer.{FloatAnswer}
 use Rattle.number.specs.declared.FloatAnswer.the-variants.{Value, Outside}
-use Rattle.saftvrmie.specs.Diameters.{diameterAt, diameterTurn, worked, allFinite, written, rightList, diameters}
-
-pub right-high : (n : ℕ) (l : List Float) → rightList n l ≡ true → n ≤ side
-unfolding rightList
-right-high n l p = count-high n (and-left (countWithin n) (eqb (length l) n) p)
-
-pub right-length : (n : ℕ) (l : List Float) → rightList n l ≡ true → length l ≡ n
-unfolding rightList
-right-length n l p = eqb-true (length l) n (and-right (countWithin n) (eqb (length l) n) p)
+use Rattle.saftvrmie.specs.Diameters.{diameterAt, diameterTurn, worked, allFinite, written, rightList, rightLength, ownDiameters, diameters}
 
 -- a turn of the walk
 module _ (sheets : List Float) (t : Float) (i : ℕ) (x : List Float) (a : FloatAnswer) (p : answer a ≡ diameterAt sheets t i) where
@@ -35,24 +28,75 @@ module _ (sheets : List Float) (t : Float) (i : ℕ) (x : List Float) (a : Float
   unfolding diameterTurn _>>=_
   turn-outside e = rw (via answer p e)
 
+-- ---- answers in a row
+then-last : {S T : Type 0} (a b : Bool) (w : Ans S) (c : S → Bool) (f : S → T)
+    → (demand 1 a >>= λ _. demand 2 b >>= λ _. w >>= λ d. demand 7 (c d) >>= λ _. held (f d)) ≡ ((demand 1 a >>= λ _. demand 2 b >>= λ _. w >>= λ d. demand 7 (c d) >>= λ _. held d) >>= λ d. held (f d))
+unfolding demand _>>=_
+then-last false b w c f = refl
+then-last true false w c f = refl
+then-last true true (refused k) c f = refl
+then-last true true (held d) c f = ways (c d)
+  where
+    ways : (t : Bool) → (demand 7 t >>= λ _. held (f d)) ≡ ((demand 7 t >>= λ _. held d) >>= λ d. held (f d))
+    ways true = refl
+    ways false = refl
+
+first-test : {S : Type 0} (a : Bool) (f : Bool → Ans S) (d : S) → (demand 1 a >>= f) ≡ held d → a ≡ true
+unfolding demand _>>=_
+first-test true f d p = refl
+first-test false f d p = absurd (never p)
+  where
+    never : refused 1 ≡ held d → ⊥
+    never p = let z : _≡_ {A = ℕ} 0 1 = cc in omega arith
+
+pub own-high : (n len : ℕ) → rightLength n len ≡ true → n ≤ side
+unfolding rightLength
+own-high n len p = count-high n (and-left (countWithin n) (eqb len n) p)
+
+pub own-length : (n len : ℕ) → rightLength n len ≡ true → len ≡ n
+unfolding rightLength
+own-length n len p = eqb-true len n (and-right (countWithin n) (eqb len n) p)
+
+-- ---- the operation in places of its own, r being the test of the count and of the length, w that of the temperature
+module _ (n : ℕ) (sheets : List Float) (t : Float) (len : ℕ) where
+  pub own-1 : rightLength n len ≡ false → refused 1 ≡ ownDiameters n sheets t len
+  unfolding ownDiameters demand _>>=_
+  own-1 p = rw p
+
+  module _ (p : rightLength n len ≡ true) where
+    pub own-2 : temperatureWithin t ≡ false → refused 2 ≡ ownDiameters n sheets t len
+    unfolding ownDiameters demand _>>=_
+    own-2 q = rw (p, q)
+
+    module _ (q : temperatureWithin t ≡ true) where
+      pub own-6 : (k : ℕ) → worked n sheets t ≡ refused k → refused k ≡ ownDiameters n sheets t len
+      unfolding ownDiameters demand _>>=_
+      own-6 k r = rw (p, q, r)
+
+      module _ (d : List Float) (r : worked n sheets t ≡ held d) where
+        pub own-7 : allFinite n d ≡ false → refused 7 ≡ ownDiameters n sheets t len
+        unfolding ownDiameters demand _>>=_
+        own-7 s = rw (p, q, r, s)
+
+        pub own-holds : allFinite n d ≡ true → held d ≡ ownDiameters n sheets t len
+        unfolding ownDiameters demand _>>=_
+        own-holds s = rw (p, q, r, s)
+
+-- ---- the operation: that, and the writing
 module _ (n : ℕ) (sheets : List Float) (t : Float) (l : List Float) where
-  pub refuses-1 : rightList n l ≡ false → diameters n sheets t l ≡ refused 1
-  unfolding diameters demand _>>=_
-  refuses-1 p = rw p
+  written-then : diameters n sheets t l ≡ (ownDiameters n sheets t (length l) >>= λ d. held (written n d l))
+  unfolding diameters ownDiameters rightList rightLength
+  written-then = then-last (countWithin n && eqb (length l) n) (temperatureWithin t) (worked n sheets t) (allFinite n) (λ d. written n d l)
 
-  pub refuses-2 : rightList n l ≡ true → temperatureWithin t ≡ false → diameters n sheets t l ≡ refused 2
-  unfolding diameters demand _>>=_
-  refuses-2 p q = rw (p, q)
+  pub own-refused : (k : ℕ) → ownDiameters n sheets t (length l) ≡ refused k → diameters n sheets t l ≡ refused k
+  unfolding _>>=_
+  own-refused k e = rw e at written-then
 
-  pub refuses-6 : (k : ℕ) → rightList n l ≡ true → temperatureWithin t ≡ true → worked n sheets t ≡ refused k → diameters n sheets t l ≡ refused k
-  unfolding diameters demand _>>=_
-  refuses-6 k p q r = rw (p, q, r)
+  pub own-written : (d : List Float) → ownDiameters n sheets t (length l) ≡ held d → diameters n sheets t l ≡ held (written n d l)
+  unfolding _>>=_
+  own-written d e = rw e at written-then
 
-  module _ (d : List Float) (p : rightList n l ≡ true) (q : temperatureWithin t ≡ true) (r : worked n sheets t ≡ held d) where
-    pub refuses-7 : allFinite n d ≡ false → diameters n sheets t l ≡ refused 7
-    unfolding diameters demand _>>=_
-    refuses-7 s = rw (p, q, r, s)
-
-    pub holds : allFinite n d ≡ true → diameters n sheets t l ≡ held (written n d l)
-    unfolding diameters demand _>>=_
-    holds s = rw (p, q, r, s)
+  -- what is held was worked for a list as long as the count
+  pub own-right : (d : List Float) → ownDiameters n sheets t (length l) ≡ held d → rightLength n (length l) ≡ true
+  unfolding ownDiameters
+  own-right d e = first-test (rightLength n (length l)) _ d e

@@ -52,3 +52,16 @@ diameters n sheets t l =
     worked n sheets t >>= λ d.
     demand 7 (allFinite n d) >>= λ _.
     held (written n d l)
+
+-- the first test, of a length
+unfoldable pub rightLength : ℕ → ℕ → Bool
+rightLength n len = countWithin n && eqb len n
+
+-- the same before anything is written, for a list of `len` places: the contract of a helper alone. proofs/Laws shows that `diameters` is this and the writing
+unfoldable pub ownDiameters : ℕ → List Float → Float → ℕ → Ans (List Float)
+ownDiameters n sheets t len =
+    demand 1 (rightLength n len) >>= λ _.
+    demand 2 (temperatureWithin t) >>= λ _.
+    worked n sheets t >>= λ d.
+    demand 7 (allFinite n d) >>= λ _.
+    held d

@@ -6,7 +6,7 @@ ghost use Rattle.number.specs.Answer.{answer};
 ghost use Rattle.number.specs.Side.{side, sheet};
 ghost use Rattle.number.specs.Walk.{walk};
 ghost use Rattle.mie_parameters.specs.Answer.{outcome, verdict, kept, numberAnswer};
-ghost use Rattle.saftvrmie.specs.Diameters.{diagonal, diameterAt, diameterTurn, allFinite, written, rightList, diameters};
+ghost use Rattle.saftvrmie.specs.Diameters.{diagonal, diameterAt, diameterTurn, allFinite, written, rightLength, ownDiameters, diameters};
 ghost use Rattle.number.specs.Arith.{floats};
 ghost use Rattle.saftvrmie.specs.Pairs.{entryOf, cEpsAt, radiusIj, diameterIj};
 use mie_parameters::NumberAnswer;
@@ -15,6 +15,12 @@ use number::FloatAnswer;
 use number::SHEET;
 use number::SIDE;
 use saftvrmie_parameters::SaftVRMiePars;
+
+// Diameters, or the refusal's number.
+pub struct Diameters {
+    pub answer: ParameterAnswer,
+    pub d: [f64; 8],
+}
 
 fn diagonal(sheets: &[f64; 384], k: usize, i: usize) -> f64
     requires { ⌜ (k < 6) × (i < side) ⌝ }
@@ -68,10 +74,40 @@ fn write(n: usize, d: &[f64; 8], out: &mut [f64])
     }
 }
 
-fn right_list(n: usize, out: &[f64]) -> bool
-    ensures { λ r. ⌜ r ≡ rightList n (now (out .entry)) ⌝ }
+fn right_length(n: usize, len: usize) -> bool
+    ensures { λ r. ⌜ r ≡ rightLength n len ⌝ }
 {
-    limits::count_within(n) & (out.len() == n)
+    limits::count_within(n) & (len == n)
+}
+
+// The diameters in places of their own, for a list of `len` places: for the boundary, which has sheets and no set.
+pub fn diameters_of(n: usize, sheets: &[f64; 384], temperature: f64, len: usize) -> Diameters
+    ensures { λ r. ⌜ outcome (r .answer) (r .d) ≡ ownDiameters n (now (sheets .entry)) temperature len ⌝ }
+{
+    let mut d = [0.0; 8];
+    if !right_length(n, len) {
+        return Diameters {
+            answer: ParameterAnswer::Refused(1),
+            d,
+        };
+    }
+    if !limits::temperature_within(temperature) {
+        return Diameters {
+            answer: ParameterAnswer::Refused(2),
+            d,
+        };
+    }
+    let answer = work(n, sheets, temperature, &mut d);
+    let ParameterAnswer::Held = answer else {
+        return Diameters { answer, d };
+    };
+    if !all_finite(n, &d) {
+        return Diameters {
+            answer: ParameterAnswer::Refused(7),
+            d,
+        };
+    }
+    Diameters { answer, d }
 }
 
 // `hs_diameter`: the diameter of each component, into a list as long as the count. 1, 2, 6, 7.
@@ -79,21 +115,13 @@ pub fn hs_diameter(set: SaftVRMiePars, temperature: f64, out: &mut [f64]) -> Par
     ensures { λ r. ⌜ (r ≡ verdict (diameters (set .count) (set .sheets) temperature (now (out .entry)))) × (now (out .exit) ≡ kept (now (out .entry)) (diameters (set .count) (set .sheets) temperature (now (out .entry)))) ⌝ }
 {
     let n = set.count;
-    if !right_list(n, out) {
-        return ParameterAnswer::Refused(1);
-    }
-    if !limits::temperature_within(temperature) {
-        return ParameterAnswer::Refused(2);
-    }
     let sheets = set.sheets;
-    let mut d = [0.0; 8];
-    let worked = work(n, &sheets, temperature, &mut d);
-    let ParameterAnswer::Held = worked else {
-        return worked;
+    let own = diameters_of(n, &sheets, temperature, out.len());
+    let answer = own.answer;
+    let ParameterAnswer::Held = answer else {
+        return answer;
     };
-    if !all_finite(n, &d) {
-        return ParameterAnswer::Refused(7);
-    }
+    let d = own.d;
     write(n, &d, out);
     ParameterAnswer::Held
 }

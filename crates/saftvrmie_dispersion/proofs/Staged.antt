@@ -1,16 +1,23 @@
 -- The powers of one base share its logarithm: the five sums by it, where its powers lie inside their domain, and 6 where one does not. Assumes nothing.
+use Prim.Native.Nat.{ℕ}
 use lib.Ieee.{Float}
+use lib.ListN.{set, replicate}
 use mathlib.Core.Path.{_≡_, refl}
+use mathlib.Core.List.{List}
 use mathlib.Core.Bool.{Bool, true, false, _&&_, cond}
 use Rattle.number.specs.Ans.{Ans, held, refused, _>>=_, demand}
-use Rattle.number.specs.Arith.{Arith, floats}
+use Rattle.number.specs.Arith.{Arith, floats, decimal, zero64}
+use Rattle.number.specs.Lists.{at}
+use Rattle.number.specs.Walk.{walk}
 use Rattle.number.specs.Functions.{calls, answered, answered₂}
 use Rattle.elementary.specs.Port.{port}
+use Rattle.binary_log.specs.declared.Log.{Log}
 use Rattle.binary_log.specs.BinaryLog.{baseInside, logOf}
 use Rattle.power.specs.Power.{exponentInside, powfOf}
 use Rattle.saftvrmie_dispersion.specs.Sutherland.{FluidIn, a1sBOf, a1sB}
-use Rattle.saftvrmie_dispersion.specs.Terms.{five}
-use Rattle.saftvrmie_dispersion.specs.Staged.{powerBy, threeLess, fourLess, twice, lambdaInside, fiveInside, a1sBAt, fiveAt}
+use Rattle.saftvrmie_dispersion.specs.Terms.{FiveIn, five}
+use Rattle.saftvrmie_dispersion.specs.Chain.{kOf}
+use Rattle.saftvrmie_dispersion.specs.Staged.{powerBy, threeLess, fourLess, twice, lambdaInside, fiveInside, a1sBAt, fiveAt, lambdas, fiveTested, kTested}
 
 -- a call of the float run is the answer itself
 pub once : (a : Ans Float) (x : Float) → answered floats a x ≡ a
@@ -81,3 +88,59 @@ module _ (x : Float) where
       pub five-outside : baseInside x ≡ false → five floats D plain (calls floats port .powf x) w la lr ≡ refused 6
       unfolding five a1sB _>>=_
       five-outside e = rw (outside e)
+
+pub five-tested : (x : Float) (w : FluidIn Float) (la lr : Float) → baseInside x ≡ true → five floats floats (λ x. x) (calls floats port .powf x) w la lr ≡ fiveTested (logOf x) w la lr
+unfolding fiveTested
+five-tested x w la lr e = five-is x floats (λ x. x) w la lr e
+
+-- ---- the five sums of floats, one after another
+module _ (l : Log) (w : FluidIn Float) (la lr : Float) where
+  -- the sum at exponent k, in its place
+  unfoldable pub sumTurn : ℕ → List Float → Ans (List Float)
+  sumTurn k s = demand 6 (lambdaInside (at (lambdas la lr) k)) >>= λ _. held (set s k (a1sBAt floats (λ x. x) l w (at (lambdas la lr) k)))
+
+  abbrev five-in : List Float → FiveIn Float
+  five-in s = record { at-la = at s 0; at-lr = at s 1; at-2la = at s 2; at-lalr = at s 3; at-2lr = at s 4 }
+
+  in-turn : (a b c d e : Bool) (u v x y z : Float)
+      → ((demand 6 a >>= λ _. held (set (replicate 5 zero64) 0 u)) >>= (λ s. demand 6 b >>= λ _. held (set s 1 v)) >>= (λ s. demand 6 c >>= λ _. held (set s 2 x)) >>= (λ s. demand 6 d >>= λ _. held (set s 3 y)) >>= (λ s. demand 6 e >>= λ _. held (set s 4 z)) >>= λ s. held (five-in s))
+      ≡ tested (a && (b && (c && (d && e)))) (record { at-la = u; at-lr = v; at-2la = x; at-lalr = y; at-2lr = z })
+  unfolding demand _>>=_
+  in-turn true true true true true u v x y z = refl
+  in-turn true true true true false u v x y z = refl
+  in-turn true true true false e u v x y z = refl
+  in-turn true true false d e u v x y z = refl
+  in-turn true false c d e u v x y z = refl
+  in-turn false b c d e u v x y z = refl
+
+  five-walked : (walk 5 sumTurn (replicate 5 zero64) >>= λ s. held (five-in s)) ≡ fiveTested l w la lr
+  unfolding walk sumTurn lambdas fiveTested fiveInside fiveAt _>>=_
+  five-walked =
+      let at : Float → Float = a1sBAt floats (λ x. x) l w in
+      in-turn (lambdaInside la) (lambdaInside lr) (lambdaInside (twice la)) (lambdaInside (floats .add la lr)) (lambdaInside (twice lr)) (at la) (at lr) (at (twice la)) (at (floats .add la lr)) (at (twice lr))
+
+  module _ (k : ℕ) (s ys : List Float) (t : Bool) (are-ys : ys ≡ lambdas la lr) (is-t : t ≡ lambdaInside (at ys k)) where
+    pub turn-refused : t ≡ false → sumTurn k s ≡ refused 6
+    unfolding sumTurn demand _>>=_
+    turn-refused h = rw (← are-ys, ← is-t, h)
+
+    pub turn-held : (x : Float) → t ≡ true → x ≡ a1sBAt floats (λ x. x) l w (at ys k) → sumTurn k s ≡ held (set s k x)
+    unfolding sumTurn demand _>>=_
+    turn-held x h q = rw (← are-ys, ← is-t, h, q)
+
+  pub all-summed : (s : List Float) → held s ≡ walk 5 sumTurn (replicate 5 zero64) → held (five-in s) ≡ fiveTested l w la lr
+  unfolding _>>=_
+  all-summed s h = rw (← h) at five-walked
+
+  pub sum-refused : refused 6 ≡ walk 5 sumTurn (replicate 5 zero64) → refused 6 ≡ fiveTested l w la lr
+  unfolding _>>=_
+  sum-refused h = rw (← h) at five-walked
+
+-- ---- whether k0 to k3 have a value
+pub k-held : (z v : Float) → calls floats port .ln (floats .add (floats .neg z) (decimal false 1 0)) ≡ held v → demand 6 true ≡ kTested z
+unfolding kTested kOf demand _>>=_
+k-held z v h = rw h
+
+pub k-refused : (z : Float) → calls floats port .ln (floats .add (floats .neg z) (decimal false 1 0)) ≡ refused 6 → demand 6 false ≡ kTested z
+unfolding kTested kOf demand _>>=_
+k-refused z h = rw h

@@ -17,6 +17,7 @@ use Rattle.saftvrmie_dispersion.specs.declared.Terms.{Terms}
 use Rattle.saftvrmie_dispersion.specs.declared.Sums.{Sums}
 use Rattle.saftvrmie_dispersion.specs.declared.KValues.{KValues}
 use Rattle.saftvrmie_dispersion.specs.declared.Link.{Link}
+use Rattle.saftvrmie_dispersion.specs.declared.FiveAnswer as the-five
 use Rattle.saftvrmie_dispersion.specs.declared.OrdersDualAnswer as the-orders
 use Rattle.saftvrmie_dispersion.specs.declared.TermsAnswer as the-terms
 use Rattle.saftvrmie_dispersion.specs.declared.SumsAnswer as the-sums
@@ -58,6 +59,10 @@ kIn k = record { k0 = k .k0; k1 = k .k1; k2 = k .k2; k3 = k .k3 }
 
 abbrev pub linkIn : Link → LinkIn Float
 linkIn l = record { m = l .m; fraction = l .fraction; t-inv = l .«t_inv» }
+
+abbrev pub fiveAnswer : the-five.FiveAnswer → Ans (FiveIn Float)
+fiveAnswer (the-five.the-variants.At s) = held (fiveIn s)
+fiveAnswer the-five.the-variants.Outside = refused 6
 
 abbrev pub ordersDualAnswer : the-orders.OrdersDualAnswer → Ans (OrdersIn (DualOf Float))
 ordersDualAnswer (the-orders.the-variants.At o) = held (ordersDualIn o)

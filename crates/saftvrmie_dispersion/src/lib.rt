@@ -1,5 +1,6 @@
 // What a pair and a component add to the Helmholtz energies of SAFT-VR Mie (saftvrmie/eos/dispersion.rs), in floats; the chain's pure terms in dual numbers. The powers of one x0 share its logarithm.
 ghost use mathlib.Core.Path.{_≡_};
+ghost use Rattle.number.specs.Ans.{demand};
 ghost use Rattle.number.specs.Answer.{answer};
 ghost use Rattle.number.specs.Arith.{floats};
 ghost use Rattle.number.specs.Functions.{calls};
@@ -9,8 +10,8 @@ ghost use Rattle.dual.specs.Value.{dualOf};
 ghost use Rattle.saftvrmie_dispersion.specs.Sutherland.{kHs, fluidOf, cRow, zetaEff, a1s, iOf, jOf, bOf};
 ghost use Rattle.saftvrmie_dispersion.specs.Terms.{f, barOf, xiOf, a3Of, x0Of, addPure, addPair, ordersSum, prefOf, a1Of, a2Of, ordersOf, termsOf};
 ghost use Rattle.saftvrmie_dispersion.specs.Chain.{kOf, rhoDual, zetaDual, fluidDual, g1Of, g2Of, linkPref, gHs, gammaOf, lnGMie, linkOf, addLink, chainPure};
-ghost use Rattle.saftvrmie_dispersion.specs.Answer.{pairOf, fluidIn, fluidDualIn, barIn, fiveIn, fiveDualIn, ordersDualIn, termsIn, sumsIn, kIn, linkIn, ordersDualAnswer, termsAnswer, sumsAnswer, kAnswer};
-ghost use Rattle.saftvrmie_dispersion.specs.Staged.{lambdaInside, fiveInside, a1sBAt, fiveAt};
+ghost use Rattle.saftvrmie_dispersion.specs.Answer.{pairOf, fluidIn, fluidDualIn, barIn, fiveIn, fiveDualIn, ordersDualIn, termsIn, sumsIn, kIn, linkIn, fiveAnswer, ordersDualAnswer, termsAnswer, sumsAnswer, kAnswer};
+ghost use Rattle.saftvrmie_dispersion.specs.Staged.{lambdaInside, fiveInside, a1sBAt, fiveAt, lambdas, fiveTested, kTested};
 use binary_log::Log;
 use dual::Dual;
 use number::FloatAnswer;
@@ -145,6 +146,11 @@ pub struct Link {
     pub t_inv: f64,
 }
 
+pub enum FiveAnswer {
+    At(Five),
+    Outside,
+}
+
 pub enum OrdersDualAnswer {
     At(OrdersDual),
     Outside,
@@ -258,16 +264,33 @@ fn a1s_b_ij(l: Log, w: Fluid, lambda: f64) -> f64
     p * (a1s_ij(w.zeta_x, lambda) + b_of(w, i_of(p3, lambda), j_of(p4, p3, lambda)))
 }
 
-fn five_sums(l: Log, w: Fluid, la: f64, lr: f64) -> Five
-    ensures { λ r. ⌜ fiveIn r ≡ fiveAt floats (λ x. x) l (fluidIn w) la lr ⌝ }
+// The five exponents.
+fn lambdas(la: f64, lr: f64) -> [f64; 5]
+    ensures { λ r. ⌜ r ≡ lambdas la lr ⌝ }
 {
-    Five {
-        at_la: a1s_b_ij(l, w, la),
-        at_lr: a1s_b_ij(l, w, lr),
-        at_2la: a1s_b_ij(l, w, 2.0 * la),
-        at_lalr: a1s_b_ij(l, w, la + lr),
-        at_2lr: a1s_b_ij(l, w, 2.0 * lr),
+    [la, lr, 2.0 * la, la + lr, 2.0 * lr]
+}
+
+// In a loop, so that each sum's code stands once: the tests of an exponent and its powers then share what they read.
+fn five_sums(l: Log, w: Fluid, la: f64, lr: f64) -> FiveAnswer
+    ensures { λ r. ⌜ fiveAnswer r ≡ fiveTested l (fluidIn w) la lr ⌝ }
+{
+    let y = lambdas(la, lr);
+    let mut s = [0.0; 5];
+    for k in 0usize..5usize {
+        let lambda = y[k];
+        if !lambda_inside(lambda) {
+            return FiveAnswer::Outside;
+        }
+        s[k] = a1s_b_ij(l, w, lambda);
     }
+    FiveAnswer::At(Five {
+        at_la: s[0],
+        at_lr: s[1],
+        at_2la: s[2],
+        at_lalr: s[3],
+        at_2lr: s[4],
+    })
 }
 
 // ---- the three orders of a pair in floats
@@ -344,10 +367,9 @@ pub fn pair_terms(w: Fluid, bar: Bar, p: PairParameters, d: f64) -> TermsAnswer
     if !binary_log::base_inside(x0) {
         return TermsAnswer::Outside;
     }
-    if !five_inside(p.la, p.lr) {
+    let FiveAnswer::At(s) = five_sums(binary_log::log_base(x0), w, p.la, p.lr) else {
         return TermsAnswer::Outside;
-    }
-    let s = five_sums(binary_log::log_base(x0), w, p.la, p.lr);
+    };
     let pref = pref(w.segment_density, number::pow_up(d, 3), p.epsilon_k, p.c);
     let FloatAnswer::Value(a3) = a3(bar.zeta_x_bar, p.alpha, p.epsilon_k) else {
         return TermsAnswer::Outside;
@@ -548,6 +570,16 @@ pub fn k_values(zeta_x: f64) -> KAnswer
         k2: -z2 * 3.0 / 8.0 * frac * (-zeta_x + 1.0),
         k3: z * frac / 6.0 * (-z3 + z * 3.0 + 3.0),
     })
+}
+
+// Whether they have a value: all that dispersion alone asks of them.
+pub fn k_inside(zeta_x: f64) -> bool
+    ensures { λ r. ⌜ demand 6 r ≡ kTested «zeta_x» ⌝ }
+{
+    match elementary::ln(-zeta_x + 1.0) {
+        FloatAnswer::Value(_) => true,
+        FloatAnswer::Outside => false,
+    }
 }
 
 fn rho_dual(rho: f64) -> Dual

@@ -1,14 +1,16 @@
 -- Laws of the energies over plain values: unused work leaves a float as it is; the operation, test by test. Assumes nothing.
 use Prim.Native.Nat.{ℕ, zero, suc, _≤_}
+use native.Mathlib.Omega.{arith}
 use lib.Dec.{eqb}
 use lib.Ieee.{Float}
 use lib.Ieee.Scale.{finite}
 use lib.ListN.{length}
 use mathlib.Core.List.{List}
-use mathlib.Core.Path.{_≡_, refl}
+use mathlib.Core.Path.{_≡_, refl, sym}
 use mathlib.Core.Bool.{Bool, true, false, _&&_}
 use borrow.Author.Tests.{eqb-true}
-use Rattle.number.specs.Ans.{held, refused, _>>=_, demand}
+use Rattle.number.specs.Ans.{Ans, held, refused, _>>=_, demand}
+use Rattle.number.proofs.Walk.{then-held}
 use Rattle.number.specs.Arith.{floats}
 use Rattle.number.specs.Functions.{calls}
 use Rattle.number.specs.Side.{side}
@@ -21,9 +23,13 @@ use Rattle.dual.specs.Dual.{DualOf}
 use Rattle.dual.specs.Value.{dualOf}
 use Rattle.saftvrmie_dispersion.specs.Sutherland.{FluidIn}
 use Rattle.saftvrmie_dispersion.specs.Answer.{fluidDualIn}
+use Rattle.saftvrmie_dispersion.specs.Terms.{PairIn}
+use Rattle.saftvrmie_dispersion.specs.Chain.{KIn, kOf}
+use Rattle.saftvrmie_dispersion.specs.Staged.{kTested}
 use Rattle.saftvrmie_dispersion.specs.declared.FluidDual.{FluidDual}
-use Rattle.saftvrmie_energies.specs.Properties.{afterLower}
-use Rattle.saftvrmie_energies.specs.Energies.{rightLists, withinLimits, energyRun, energyBy, energy}
+use Rattle.saftvrmie_energies.specs.Properties.{afterLower, properties}
+use Rattle.saftvrmie_energies.specs.declared.Properties.{Properties}
+use Rattle.saftvrmie_energies.specs.Energies.{packingOf, rightLists, withinLimits, energyRun, energyBy, energy}
 
 same : {S : Type 0} (n : ℕ) (f : ℕ → S → S) (s : S) → ((i : ℕ) (x : S) → f i x ≡ x) → turns n f s ≡ s
 unfolding turns
@@ -33,6 +39,34 @@ same (suc n) f s h = rw (h n (turns n f s), same n f s h)
 pub lower-is : (n : ℕ) (f : ℕ → ℕ → Float) (x : Float) → afterLower floats n f x ≡ x
 unfolding afterLower
 lower-is n f x = same n _ x (λ i y. same i _ y (λ j z. refl))
+
+-- ---- `properties` is the packing, and k0 to k3
+module _ (n : ℕ) (xs density d m : ℕ → Float) (pair : ℕ → ℕ → PairIn Float) (q : Properties) (p : q ≡ packingOf n xs density d m pair) where
+  pub properties-held : (k : KIn Float) → kOf floats (calls floats port) (q .«zeta_x») ≡ held k
+      → properties floats (calls floats port) n xs density d m pair ≡ held (record { segment-density = q .«segment_density»; zeta-x = q .«zeta_x»; zeta-x-bar = q .«zeta_x_bar»; k = k })
+  unfolding properties packingOf _>>=_
+  properties-held k e = rw (lower-is, p) (let e' = rw p at e in rw e')
+
+  pub properties-refused : kOf floats (calls floats port) (q .«zeta_x») ≡ refused 6 → properties floats (calls floats port) n xs density d m pair ≡ refused 6
+  unfolding properties packingOf _>>=_
+  properties-refused e = rw lower-is (let e' = rw p at e in rw e')
+
+never : {S : Type 0} {i : ℕ} {x : S} → refused i ≡ held x → ⊥
+never {S} {i} {x} p = let z : _≡_ {A = ℕ} 0 1 = cc in omega arith
+
+-- whether k0 to k3 have a value, r being the test's answer
+module _ (z : Float) (r : Bool) (p : demand 6 r ≡ kTested z) where
+  pub k-some : r ≡ true → (k : KIn Float) × (kOf floats (calls floats port) z ≡ held k)
+  unfolding kTested demand
+  k-some h = let e = then-held _ (λ _. held true) true (sym (rw h at p)) in (e .0, e .1)
+
+  pub k-none : r ≡ false → kOf floats (calls floats port) z ≡ refused 6
+  unfolding kTested demand _>>=_
+  k-none h = only _ (rw h at p)
+    where
+      only : (a : Ans (KIn Float)) → refused 6 ≡ (a >>= λ _. held true) → a ≡ refused 6
+      only (held k) e = absurd (never e)
+      only (refused i) e = let z : i ≡ 6 = cc in rw z
 
 -- k_hs of the state with slopes
 pub value-is : (v : FluidDual) (f : FluidIn (DualOf Float)) → fluidDualIn v ≡ f → v .«k_hs» .re ≡ f .k-hs .re

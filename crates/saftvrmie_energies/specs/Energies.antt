@@ -15,26 +15,30 @@ use Rattle.elementary.specs.Port.{port}
 use Rattle.limits.specs.Limits.{countWithin, temperatureWithin, sharesWithin}
 use Rattle.saftvrmie_parameters.specs.declared.PairParameters.{PairParameters}
 use Rattle.saftvrmie_parameters.specs.declared.SaftVRMiePars.{SaftVRMiePars}
-use Rattle.saftvrmie_dispersion.specs.Answer.{pairIn, kIn}
-use Rattle.saftvrmie_energies.specs.Properties.{PropertiesIn}
+use Rattle.saftvrmie_dispersion.specs.Terms.{PairIn}
+use Rattle.saftvrmie_dispersion.specs.Answer.{pairIn}
+use Rattle.saftvrmie_energies.specs.Properties.{weighted, d3Ij, s3Ij, zetaSum}
 use Rattle.saftvrmie_energies.specs.Dispersion.{StateIn, dispersion, dispersionChain}
 use Rattle.saftvrmie_energies.specs.declared.Properties.{Properties}
-use Rattle.saftvrmie_energies.specs.declared.PropertiesAnswer as the-properties
 use Rattle.saftvrmie_energies.specs.declared.EnergyAnswer.{EnergyAnswer}
 use Rattle.saftvrmie_energies.specs.declared.EnergyAnswer.the-variants.{Value, Refused}
 
 -- ---- document 01's number or values of each case of the answers
 
-abbrev pub propertiesIn : Properties → PropertiesIn Float
-propertiesIn q = record { segment-density = q .«segment_density»; zeta-x = q .«zeta_x»; zeta-x-bar = q .«zeta_x_bar»; k = kIn (q .k) }
-
-abbrev pub propertiesAnswer : the-properties.PropertiesAnswer → Ans (PropertiesIn Float)
-propertiesAnswer (the-properties.the-variants.At q) = held (propertiesIn q)
-propertiesAnswer the-properties.the-variants.Outside = refused 6
-
 abbrev pub energyAnswer : EnergyAnswer → Ans Float
 energyAnswer (Value v) = held v
 energyAnswer (Refused n) = refused n
+
+-- segment_density, zeta_x and zeta_x_bar of `properties` in floats: the contract of a helper alone. proofs/Laws shows that `properties` is this and `kOf`
+unfoldable pub packingOf : ℕ → (ℕ → Float) → (ℕ → Float) → (ℕ → Float) → (ℕ → Float) → (ℕ → ℕ → PairIn Float) → Properties
+packingOf n xs density d m pair =
+    let rho = weighted floats n density m in
+    let factor = floats .mul rho (calls floats port .frac-pi-6) in
+    record {
+      «segment_density» = rho;
+      «zeta_x» = floats .mul (zetaSum floats n xs (d3Ij floats d)) factor;
+      «zeta_x_bar» = floats .mul (zetaSum floats n xs (s3Ij floats pair)) factor;
+    }
 
 -- ---- what is read where
 

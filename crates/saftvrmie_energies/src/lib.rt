@@ -10,9 +10,9 @@ ghost use Rattle.number.specs.Side.{side};
 ghost use Rattle.number.specs.Walk.{walk};
 ghost use Rattle.elementary.specs.Port.{port};
 ghost use Rattle.saftvrmie_dispersion.specs.Answer.{pairOf, fluidIn, fluidDualIn, barIn, sumsIn, kIn, linkIn, sumsAnswer};
-ghost use Rattle.saftvrmie_energies.specs.Properties.{total, weighted, xsOf, dIj, d3Ij, s3Ij, zetaRow, zetaSum, properties};
+ghost use Rattle.saftvrmie_energies.specs.Properties.{total, weighted, xsOf, dIj, d3Ij, s3Ij, zetaRow, zetaSum};
 ghost use Rattle.saftvrmie_energies.specs.Dispersion.{pairTurn, pairRow, dispRow, chainRow, dispRows, chainRows, dispersion, dispersionChain};
-ghost use Rattle.saftvrmie_energies.specs.Energies.{propertiesAnswer, propertiesIn, energyAnswer, pairAt, pureAt, stateIn, rightLists, withinLimits, energyRun, energy};
+ghost use Rattle.saftvrmie_energies.specs.Energies.{packingOf, energyAnswer, pairAt, pureAt, stateIn, rightLists, withinLimits, energyRun, energy};
 use number::FloatAnswer;
 use number::SIDE;
 use saftvrmie_dispersion::Bar;
@@ -27,16 +27,11 @@ use saftvrmie_dispersion::TermsAnswer;
 use saftvrmie_parameters::PairParameters;
 use saftvrmie_parameters::SaftVRMiePars;
 
+// What of `Properties::new` dispersion reads.
 pub struct Properties {
     pub segment_density: f64,
     pub zeta_x: f64,
     pub zeta_x_bar: f64,
-    pub k: KValues,
-}
-
-pub enum PropertiesAnswer {
-    At(Properties),
-    Outside,
 }
 
 // An energy, or the refusal's number.
@@ -197,22 +192,18 @@ fn properties_of(
     xs: &[f64; 8],
     rho: &[f64],
     d: &[f64],
-) -> PropertiesAnswer
+) -> Properties
     requires { ⌜ (n ≤ side) × (length (now rho) ≡ n) × (length (now d) ≡ n) ⌝ }
-    ensures { λ r. ⌜ propertiesAnswer r ≡ properties floats (calls floats port) n (at (now (xs .entry))) (at (now (rho .entry))) (at (now (d .entry))) (at (now (m .entry))) (λ i j. pairOf (pairAt (now (sheets .entry)) i j)) ⌝ }
+    ensures { λ r. ⌜ r ≡ packingOf n (at (now (xs .entry))) (at (now (rho .entry))) (at (now (d .entry))) (at (now (m .entry))) (λ i j. pairOf (pairAt (now (sheets .entry)) i j)) ⌝ }
 {
     let segment_density = weighted(n, rho, m);
     let zeta_x = zeta_sum(n, xs, d) * (segment_density * 0.5235987755982989);
     let zeta_x_bar = zeta_bar_sum(n, xs, sheets) * (segment_density * 0.5235987755982989);
-    let KAnswer::At(k) = saftvrmie_dispersion::k_values(zeta_x) else {
-        return PropertiesAnswer::Outside;
-    };
-    PropertiesAnswer::At(Properties {
+    Properties {
         segment_density,
         zeta_x,
         zeta_x_bar,
-        k,
-    })
+    }
 }
 
 // ---- the sums
@@ -400,9 +391,10 @@ fn helmholtz_energy_density_disp(
 {
     let mean = weighted(n, x, m);
     let xs = xs_of(n, x, m, mean);
-    let PropertiesAnswer::At(q) = properties_of(n, m, sheets, &xs, rho, d) else {
+    let q = properties_of(n, m, sheets, &xs, rho, d);
+    if !saftvrmie_dispersion::k_inside(q.zeta_x) {
         return FloatAnswer::Outside;
-    };
+    }
     let k_hs = saftvrmie_dispersion::k_hs(q.zeta_x);
     let w = saftvrmie_dispersion::fluid_of(q.segment_density, q.zeta_x, k_hs);
     let bar = saftvrmie_dispersion::bar_of(q.zeta_x_bar);
@@ -431,7 +423,8 @@ fn helmholtz_energy_density_disp_chain(
 {
     let mean = weighted(n, x, m);
     let xs = xs_of(n, x, m, mean);
-    let PropertiesAnswer::At(q) = properties_of(n, m, sheets, &xs, rho, d) else {
+    let q = properties_of(n, m, sheets, &xs, rho, d);
+    let KAnswer::At(k) = saftvrmie_dispersion::k_values(q.zeta_x) else {
         return FloatAnswer::Outside;
     };
     let v = saftvrmie_dispersion::fluid_dual(q.zeta_x, q.segment_density);
@@ -452,7 +445,7 @@ fn helmholtz_energy_density_disp_chain(
         w,
         bar,
         v,
-        q.k,
+        k,
         t_inv,
     ) else {
         return FloatAnswer::Outside;
@@ -480,32 +473,31 @@ pub fn within_limits(n: usize, temperature: f64, x: &[f64], rho: &[f64]) -> bool
 }
 
 fn work(
-    set: SaftVRMiePars,
+    n: usize,
+    m: &[f64; 8],
+    sigma: &[f64; 8],
+    epsilon_k: &[f64; 8],
+    lr: &[f64; 8],
+    la: &[f64; 8],
+    sheets: &[f64; 384],
     temperature: f64,
     x: &[f64],
     rho: &[f64],
     d: &[f64],
     chain: bool,
 ) -> FloatAnswer
-    requires { ⌜ (set .count ≤ side) × (length (now x) ≡ set .count) × (length (now rho) ≡ set .count) × (length (now d) ≡ set .count) ⌝ }
-    ensures { λ r. ⌜ answer r ≡ energyRun floats (calls floats port) set temperature (now (x .entry)) (now (rho .entry)) (now (d .entry)) chain ⌝ }
+    requires { ⌜ (n ≤ side) × (length (now x) ≡ n) × (length (now rho) ≡ n) × (length (now d) ≡ n) ⌝ }
+    ensures { λ r. ⌜ answer r ≡ energyRun floats (calls floats port) (record { count = n; m = now (m .entry); sigma = now (sigma .entry); «epsilon_k» = now («epsilon_k» .entry); lr = now (lr .entry); la = now (la .entry); sheets = now (sheets .entry) }) temperature (now (x .entry)) (now (rho .entry)) (now (d .entry)) chain ⌝ }
 {
-    let n = set.count;
-    let m = set.m;
-    let sigma = set.sigma;
-    let epsilon_k = set.epsilon_k;
-    let lr = set.lr;
-    let la = set.la;
-    let sheets = set.sheets;
     if chain {
         return helmholtz_energy_density_disp_chain(
             n,
-            &m,
-            &sigma,
-            &epsilon_k,
-            &lr,
-            &la,
-            &sheets,
+            m,
+            sigma,
+            epsilon_k,
+            lr,
+            la,
+            sheets,
             temperature,
             x,
             rho,
@@ -514,17 +506,62 @@ fn work(
     }
     helmholtz_energy_density_disp(
         n,
-        &m,
-        &sigma,
-        &epsilon_k,
-        &lr,
-        &la,
-        &sheets,
+        m,
+        sigma,
+        epsilon_k,
+        lr,
+        la,
+        sheets,
         temperature,
         x,
         rho,
         d,
     )
+}
+
+// Dispersion of a set that is lent list by list: for the boundary, which has lists and no set.
+pub fn dispersion_of(
+    n: usize,
+    m: &[f64; 8],
+    sigma: &[f64; 8],
+    epsilon_k: &[f64; 8],
+    lr: &[f64; 8],
+    la: &[f64; 8],
+    sheets: &[f64; 384],
+    temperature: f64,
+    fractions: &[f64],
+    densities: &[f64],
+    diameters: &[f64],
+    chain: bool,
+) -> EnergyAnswer
+    ensures { λ r. ⌜ energyAnswer r ≡ energy (record { count = n; m = now (m .entry); sigma = now (sigma .entry); «epsilon_k» = now («epsilon_k» .entry); lr = now (lr .entry); la = now (la .entry); sheets = now (sheets .entry) }) temperature (now (fractions .entry)) (now (densities .entry)) (now (diameters .entry)) chain ⌝ }
+{
+    if !right_lists(n, fractions.len(), densities.len(), diameters.len()) {
+        return EnergyAnswer::Refused(1);
+    }
+    if !within_limits(n, temperature, fractions, densities) {
+        return EnergyAnswer::Refused(2);
+    }
+    let FloatAnswer::Value(v) = work(
+        n,
+        m,
+        sigma,
+        epsilon_k,
+        lr,
+        la,
+        sheets,
+        temperature,
+        fractions,
+        densities,
+        diameters,
+        chain,
+    ) else {
+        return EnergyAnswer::Refused(6);
+    };
+    if !number::is_finite(v) {
+        return EnergyAnswer::Refused(7);
+    }
+    EnergyAnswer::Value(v)
 }
 
 // The Helmholtz energy density of dispersion, with or without chain, from a list of diameters. 1, 2, 6, 7.
@@ -538,19 +575,24 @@ pub fn dispersion(
 ) -> EnergyAnswer
     ensures { λ r. ⌜ energyAnswer r ≡ energy set temperature (now (fractions .entry)) (now (densities .entry)) (now (diameters .entry)) chain ⌝ }
 {
-    let n = set.count;
-    if !right_lists(n, fractions.len(), densities.len(), diameters.len()) {
-        return EnergyAnswer::Refused(1);
-    }
-    if !within_limits(n, temperature, fractions, densities) {
-        return EnergyAnswer::Refused(2);
-    }
-    let FloatAnswer::Value(v) = work(set, temperature, fractions, densities, diameters, chain)
-    else {
-        return EnergyAnswer::Refused(6);
-    };
-    if !number::is_finite(v) {
-        return EnergyAnswer::Refused(7);
-    }
-    EnergyAnswer::Value(v)
+    let m = set.m;
+    let sigma = set.sigma;
+    let epsilon_k = set.epsilon_k;
+    let lr = set.lr;
+    let la = set.la;
+    let sheets = set.sheets;
+    dispersion_of(
+        set.count,
+        &m,
+        &sigma,
+        &epsilon_k,
+        &lr,
+        &la,
+        &sheets,
+        temperature,
+        fractions,
+        densities,
+        diameters,
+        chain,
+    )
 }

@@ -1,10 +1,11 @@
 -- `saftvrmie_dispersion::pair_terms` meets its contract. Assumes nothing.
-use Rattle.saftvrmie_dispersion.proofs.Staged.{five-held, five-refused, five-outside}
+use Rattle.saftvrmie_dispersion.proofs.Staged.{five-tested, five-outside}
 use borrow.Author.Tests.{not-true, not-false}
 use Rattle.number.proofs.Walk.{via, told}
 use Rattle.number.specs.Arith.{floats}
 use Rattle.number.specs.Ans.{_>>=_}
 use Rattle.number.specs.Answer.{answer}
+use Rattle.saftvrmie_dispersion.specs.Answer.{fiveAnswer}
 use Rattle.saftvrmie_dispersion.specs.Terms.{ordersOf, termsOf}
 use borrow.Author.Needs.{needs}
 use Rattle.saftvrmie_dispersion.proofs.pair_terms.Statement.{statement}
@@ -20,18 +21,21 @@ returns : tie.Need-returns
 unfolding termsOf ordersOf _>>=_
 returns c = rw (← (c .before .before .x0-of) .ensures, five-outside _ floats (λ x. x) _ _ _ (told ((c .before .base-inside) .ensures) (not-true _ ((c .if1) .taken))))
 
-five-inside-requires : tie.Need-five-inside-requires
-five-inside-requires c κs = search needs
-
-returns-2 : tie.Need-returns-2
-unfolding termsOf ordersOf _>>=_
-returns-2 c = rw (← (c .before .before .before .before .x0-of) .ensures, five-refused _ floats (λ x. x) _ _ _ (told ((c .before .before .before .base-inside) .ensures) (not-false _ ((c .before .before .if1) .left))) (told ((c .before .five-inside) .ensures) (not-true _ ((c .if2) .taken))))
-
 log-base-requires : tie.Need-log-base-requires
 log-base-requires c κs = search needs
 
 five-sums-requires : tie.Need-five-sums-requires
 five-sums-requires c κs = search needs
+
+enum-known-s : tie.Need-enum-known-s
+enum-known-s c = search needs
+
+enum-told : tie.Need-enum-told
+enum-told c = search needs
+
+returns-2 : tie.Need-returns-2
+unfolding termsOf ordersOf _>>=_
+returns-2 c = rw (← (c .before .before .before .before .before .before .x0-of) .ensures, five-tested _ _ _ _ (told ((c .before .before .before .before .before .base-inside) .ensures) (not-false _ ((c .before .before .before .before .if1) .left))), ← (c .before .before .before .log-base) .ensures, via fiveAnswer ((c .before .before .five-sums) .ensures) ((c .enum-told) .given .1))
 
 pow-up-requires : tie.Need-pow-up-requires
 pow-up-requires c κs = search needs
@@ -45,12 +49,12 @@ a3-requires c κs = search needs
 enum-known-a3 : tie.Need-enum-known-a3
 enum-known-a3 c = search needs
 
-enum-told : tie.Need-enum-told
-enum-told c = search needs
+enum-told-2 : tie.Need-enum-told-2
+enum-told-2 c = search needs
 
 returns-3 : tie.Need-returns-3
 unfolding termsOf ordersOf _>>=_
-returns-3 c = rw (← (c .before .before .before .before .before .before .before .before .before .before .before .x0-of) .ensures, five-held _ floats (λ x. x) _ _ _ (told ((c .before .before .before .before .before .before .before .before .before .before .base-inside) .ensures) (not-false _ ((c .before .before .before .before .before .before .before .before .before .if1) .left))) (told ((c .before .before .before .before .before .before .before .before .five-inside) .ensures) (not-false _ ((c .before .before .before .before .before .before .before .if2) .left))), ← (c .before .before .before .before .before .before .log-base) .ensures, ← (c .before .before .before .before .before .five-sums) .ensures, via answer ((c .before .before .a3) .ensures) ((c .enum-told) .given .1))
+returns-3 c = rw (← (c .before .before .before .before .before .before .before .before .before .before .before .before .x0-of) .ensures, five-tested _ _ _ _ (told ((c .before .before .before .before .before .before .before .before .before .before .before .base-inside) .ensures) (not-false _ ((c .before .before .before .before .before .before .before .before .before .before .if1) .left))), ← (c .before .before .before .before .before .before .before .before .before .log-base) .ensures, via fiveAnswer ((c .before .before .before .before .before .before .before .before .five-sums) .ensures) ((c .before .before .before .before .before .before .s) .given .1), via answer ((c .before .before .a3) .ensures) ((c .enum-told2) .given .1))
 
 a1-requires : tie.Need-a1-requires
 a1-requires c κs = search needs
@@ -63,7 +67,7 @@ xi-requires c κs = search needs
 
 returns-4 : tie.Need-returns-4
 unfolding termsOf ordersOf _>>=_
-returns-4 c = rw (← (c .before .before .before .before .before .before .before .before .before .before .before .before .before .before .before .x0-of) .ensures, five-held _ floats (λ x. x) _ _ _ (told ((c .before .before .before .before .before .before .before .before .before .before .before .before .before .before .base-inside) .ensures) (not-false _ ((c .before .before .before .before .before .before .before .before .before .before .before .before .before .if1) .left))) (told ((c .before .before .before .before .before .before .before .before .before .before .before .before .five-inside) .ensures) (not-false _ ((c .before .before .before .before .before .before .before .before .before .before .before .if2) .left))), ← (c .before .before .before .before .before .before .before .before .before .before .log-base) .ensures, ← (c .before .before .before .before .before .before .before .before .before .five-sums) .ensures, via answer ((c .before .before .before .before .before .before .a3) .ensures) ((c .before .before .before .before .a32) .given .1), (c .before .before .a1) .ensures, (c .before .a2) .ensures, (c .xi) .ensures, (c .before .before .before .before .before .before .before .pref) .ensures, (c .before .before .before .before .before .before .before .before .pow-up) .ensures)
+returns-4 c = rw (← (c .before .before .before .before .before .before .before .before .before .before .before .before .before .before .before .before .x0-of) .ensures, five-tested _ _ _ _ (told ((c .before .before .before .before .before .before .before .before .before .before .before .before .before .before .before .base-inside) .ensures) (not-false _ ((c .before .before .before .before .before .before .before .before .before .before .before .before .before .before .if1) .left))), ← (c .before .before .before .before .before .before .before .before .before .before .before .before .before .log-base) .ensures, via fiveAnswer ((c .before .before .before .before .before .before .before .before .before .before .before .before .five-sums) .ensures) ((c .before .before .before .before .before .before .before .before .before .before .s) .given .1), via answer ((c .before .before .before .before .before .before .a3) .ensures) ((c .before .before .before .before .a32) .given .1), (c .before .before .a1) .ensures, (c .before .a2) .ensures, (c .xi) .ensures, (c .before .before .before .before .before .before .before .pref) .ensures, (c .before .before .before .before .before .before .before .before .pow-up) .ensures)
 
 pub pair-terms-spec : {M : Type 1} → statement M
 pair-terms-spec =
@@ -72,15 +76,16 @@ pair-terms-spec =
     x0-of-requires
     base-inside-requires
     returns
-    five-inside-requires
-    returns-2
     log-base-requires
     five-sums-requires
+    enum-known-s
+    enum-told
+    returns-2
     pow-up-requires
     pref-requires
     a3-requires
     enum-known-a3
-    enum-told
+    enum-told-2
     returns-3
     a1-requires
     a2-requires

@@ -1,13 +1,12 @@
 -- `saftvrmie_energies::helmholtz_energy_density_disp_chain` meets its contract. Assumes nothing.
 use Rattle.dual.specs.Value.{dualOf}
-use Rattle.number.proofs.Walk.{via}
 use lib.Ieee.{ofBits}
 use Rattle.number.specs.Arith.{decimal}
+use Rattle.number.proofs.Walk.{via}
 use Rattle.number.specs.Ans.{_>>=_}
-use Rattle.saftvrmie_dispersion.specs.Answer.{sumsAnswer}
-use Rattle.saftvrmie_energies.specs.Energies.{propertiesAnswer}
+use Rattle.saftvrmie_dispersion.specs.Answer.{sumsAnswer, kAnswer}
+use Rattle.saftvrmie_energies.proofs.Laws.{properties-held, properties-refused}
 use Rattle.saftvrmie_energies.specs.Dispersion.{dispersionChain}
-use Rattle.saftvrmie_energies.specs.Properties.{total, weighted}
 use borrow.Author.Needs.{needs}
 use Rattle.saftvrmie_energies.proofs.helmholtz_energy_density_disp_chain.Statement.{statement}
 use Rattle.saftvrmie_energies.proofs.helmholtz_energy_density_disp_chain.Tie as tie
@@ -21,15 +20,18 @@ xs-of-requires c κs = search needs
 properties-of-requires : tie.Need-properties-of-requires
 properties-of-requires c κs = search needs
 
-enum-known-q : tie.Need-enum-known-q
-enum-known-q c = search needs
+k-values-requires : tie.Need-k-values-requires
+k-values-requires c κs = search needs
+
+enum-known-k : tie.Need-enum-known-k
+enum-known-k c = search needs
 
 enum-told : tie.Need-enum-told
 enum-told c = search needs
 
 returns : tie.Need-returns
 unfolding dispersionChain _>>=_ dualOf decimal ofBits
-returns c = rw (← (c .before .before .before .before .before .weighted) .ensures, ← (c .before .before .before .before .xs-of) .ensures, via propertiesAnswer ((c .before .before .properties-of) .ensures) ((c .enum-told) .given .1))
+returns c = rw (← (c .before .before .before .before .before .before .weighted) .ensures, ← (c .before .before .before .before .before .xs-of) .ensures, properties-refused _ _ _ _ _ _ _ ((c .before .before .before .properties-of) .ensures) (via kAnswer ((c .before .before .k-values) .ensures) ((c .enum-told) .given .1)))
 
 fluid-dual-requires : tie.Need-fluid-dual-requires
 fluid-dual-requires c κs = search needs
@@ -41,7 +43,7 @@ bar-of-requires : tie.Need-bar-of-requires
 bar-of-requires c κs = search needs
 
 chain-rows-requires : tie.Need-chain-rows-requires
-chain-rows-requires c κs = ((c .before .before .before .before .before .before .before .before .before .before .before .before .before .before .pre) .0, (c .before .before .before .before .before .before .before .before .before .before .before .before .before .before .pre) .1, (c .before .before .before .before .before .before .before .before .before .before .before .before .before .before .pre) .3)
+chain-rows-requires c κs = ((c .before .before .before .before .before .before .before .before .before .before .before .before .before .before .before .pre) .0, (c .before .before .before .before .before .before .before .before .before .before .before .before .before .before .before .pre) .1, (c .before .before .before .before .before .before .before .before .before .before .before .before .before .before .before .pre) .3)
 
 enum-known-a : tie.Need-enum-known-a
 enum-known-a c = search needs
@@ -51,17 +53,17 @@ enum-told-2 c = search needs
 
 returns-2 : tie.Need-returns-2
 unfolding dispersionChain _>>=_ dualOf decimal ofBits
-returns-2 c = rw (← (c .before .before .before .before .before .before .before .before .before .before .before .before .before .weighted) .ensures, ← (c .before .before .before .before .before .before .before .before .before .before .before .before .xs-of) .ensures, via propertiesAnswer ((c .before .before .before .before .before .before .before .before .before .before .properties-of) .ensures) ((c .before .before .before .before .before .before .before .before .q) .given .1), ← (c .before .before .before .before .before .before .fluid-dual) .ensures, ← (c .before .before .before .before .before .fluid-of) .ensures, ← (c .before .before .before .before .bar-of) .ensures, via sumsAnswer ((c .before .before .chain-rows) .ensures) ((c .enum-told2) .given .1))
+returns-2 c = rw (← (c .before .before .before .before .before .before .before .before .before .before .before .before .before .before .weighted) .ensures, ← (c .before .before .before .before .before .before .before .before .before .before .before .before .before .xs-of) .ensures, properties-held _ _ _ _ _ _ _ ((c .before .before .before .before .before .before .before .before .before .before .before .properties-of) .ensures) _ (via kAnswer ((c .before .before .before .before .before .before .before .before .before .before .k-values) .ensures) ((c .before .before .before .before .before .before .before .before .k) .given .1)), ← (c .before .before .before .before .before .before .fluid-dual) .ensures, ← (c .before .before .before .before .before .fluid-of) .ensures, ← (c .before .before .before .before .bar-of) .ensures, via sumsAnswer ((c .before .before .chain-rows) .ensures) ((c .enum-told2) .given .1))
 
 orders-sum-requires : tie.Need-orders-sum-requires
 orders-sum-requires c κs = search needs
 
 total-requires : tie.Need-total-requires
-total-requires c κs = (c .before .before .before .before .before .before .before .before .before .before .before .before .before .before .before .before .before .before .before .pre) .2
+total-requires c κs = (c .before .before .before .before .before .before .before .before .before .before .before .before .before .before .before .before .before .before .before .before .pre) .2
 
 returns-3 : tie.Need-returns-3
 unfolding dispersionChain _>>=_ dualOf decimal ofBits
-returns-3 c = rw (← (c .before .before .before .before .before .before .before .before .before .before .before .before .before .before .before .before .before .weighted) .ensures, ← (c .before .before .before .before .before .before .before .before .before .before .before .before .before .before .before .before .xs-of) .ensures, via propertiesAnswer ((c .before .before .before .before .before .before .before .before .before .before .before .before .before .before .properties-of) .ensures) ((c .before .before .before .before .before .before .before .before .before .before .before .before .q) .given .1), ← (c .before .before .before .before .before .before .before .before .before .before .fluid-dual) .ensures, ← (c .before .before .before .before .before .before .before .before .before .fluid-of) .ensures, ← (c .before .before .before .before .before .before .before .before .bar-of) .ensures, via sumsAnswer ((c .before .before .before .before .before .before .chain-rows) .ensures) ((c .before .before .before .before .a) .given .1), (c .before .total) .ensures, (c .before .before .orders-sum) .ensures)
+returns-3 c = rw (← (c .before .before .before .before .before .before .before .before .before .before .before .before .before .before .before .before .before .before .weighted) .ensures, ← (c .before .before .before .before .before .before .before .before .before .before .before .before .before .before .before .before .before .xs-of) .ensures, properties-held _ _ _ _ _ _ _ ((c .before .before .before .before .before .before .before .before .before .before .before .before .before .before .before .properties-of) .ensures) _ (via kAnswer ((c .before .before .before .before .before .before .before .before .before .before .before .before .before .before .k-values) .ensures) ((c .before .before .before .before .before .before .before .before .before .before .before .before .k) .given .1)), ← (c .before .before .before .before .before .before .before .before .before .before .fluid-dual) .ensures, ← (c .before .before .before .before .before .before .before .before .before .fluid-of) .ensures, ← (c .before .before .before .before .before .before .before .before .bar-of) .ensures, via sumsAnswer ((c .before .before .before .before .before .before .chain-rows) .ensures) ((c .before .before .before .before .a) .given .1), (c .before .total) .ensures, (c .before .before .orders-sum) .ensures)
 
 pub helmholtz-energy-density-disp-chain-spec : {M : Type 1} → statement M
 helmholtz-energy-density-disp-chain-spec =
@@ -70,7 +72,8 @@ helmholtz-energy-density-disp-chain-spec =
     weighted-requires
     xs-of-requires
     properties-of-requires
-    enum-known-q
+    k-values-requires
+    enum-known-k
     enum-told
     returns
     fluid-dual-requires

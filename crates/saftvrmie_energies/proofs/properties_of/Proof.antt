@@ -1,11 +1,7 @@
 -- `saftvrmie_energies::properties_of` meets its contract. Assumes nothing.
-use Rattle.saftvrmie_energies.proofs.Laws.{lower-is}
-use Rattle.number.proofs.Walk.{via}
 use lib.Ieee.{ofBits}
 use Rattle.number.specs.Arith.{decimal}
-use Rattle.number.specs.Ans.{_>>=_}
-use Rattle.saftvrmie_dispersion.specs.Answer.{kAnswer}
-use Rattle.saftvrmie_energies.specs.Properties.{weighted, properties}
+use Rattle.saftvrmie_energies.specs.Energies.{packingOf}
 use borrow.Author.Needs.{needs}
 use Rattle.saftvrmie_energies.proofs.properties_of.Statement.{statement}
 use Rattle.saftvrmie_energies.proofs.properties_of.Tie as tie
@@ -19,44 +15,10 @@ zeta-sum-requires c κs = search needs
 zeta-bar-sum-requires : tie.Need-zeta-bar-sum-requires
 zeta-bar-sum-requires c κs = search needs
 
-k-values-requires : tie.Need-k-values-requires
-k-values-requires c κs = search needs
-
-enum-known-k : tie.Need-enum-known-k
-enum-known-k c = search needs
-
-enum-told : tie.Need-enum-told
-enum-told c = search needs
-
 returns : tie.Need-returns
-unfolding properties _>>=_ decimal ofBits
-returns c = rw (
-  lower-is,
-  ← c .before .before .before .before .before .weighted .ensures,
-  ← c .before .before .before .before .zeta-sum .ensures,
-  ← c .before .before .before .zeta-bar-sum .ensures,
-  via kAnswer (c .before .before .k-values .ensures) (c .enum-told .given .1),
-)
-
-returns-2 : tie.Need-returns-2
-unfolding properties _>>=_ decimal ofBits
-returns-2 c = rw (
-  lower-is,
-  ← c .before .before .before .before .before .before .weighted .ensures,
-  ← c .before .before .before .before .before .zeta-sum .ensures,
-  ← c .before .before .before .before .zeta-bar-sum .ensures,
-  via kAnswer (c .before .before .before .k-values .ensures) (c .before .k .given .1),
-)
+unfolding packingOf decimal ofBits
+returns c = rw ((c .zeta-bar-sum) .ensures, (c .before .zeta-sum) .ensures, (c .before .before .weighted) .ensures)
 
 pub properties-of-spec : {M : Type 1} → statement M
 properties-of-spec =
-    tie.close
-    (tie.spec
-    weighted-requires
-    zeta-sum-requires
-    zeta-bar-sum-requires
-    k-values-requires
-    enum-known-k
-    enum-told
-    returns
-    returns-2)
+    tie.close (tie.spec weighted-requires zeta-sum-requires zeta-bar-sum-requires returns)

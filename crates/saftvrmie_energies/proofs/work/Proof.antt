@@ -10,14 +10,14 @@ helmholtz-energy-density-disp-chain-requires c κs = search needs
 
 returns : tie.Need-returns
 unfolding energyRun
-returns c = rw ((c .before .before .before .before .before .before .before .if1) .taken) (c .helmholtz-energy-density-disp-chain .ensures)
+returns c = rw ((c .before .if1) .taken) (c .helmholtz-energy-density-disp-chain .ensures)
 
 helmholtz-energy-density-disp-requires : tie.Need-helmholtz-energy-density-disp-requires
 helmholtz-energy-density-disp-requires c κs = search needs
 
 returns-2 : tie.Need-returns-2
 unfolding energyRun
-returns-2 c = rw ((c .before .before .before .before .before .before .before .if1) .left) ((c .helmholtz-energy-density-disp) .ensures)
+returns-2 c = rw ((c .before .if1) .left) ((c .helmholtz-energy-density-disp) .ensures)
 
 pub work-spec : {M : Type 1} → statement M
 work-spec =
