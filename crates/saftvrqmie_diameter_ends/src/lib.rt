@@ -8,22 +8,24 @@ ghost use Rattle.enclosure.specs.Answer.{answer, ends};
 ghost use Rattle.enclosure.specs.Enclosure.{enclosures};
 ghost use Rattle.saftvrqmie_alpha_ends.specs.Pair.{pairIn};
 ghost use Rattle.saftvrqmie_potential.specs.Potential.{potential};
+ghost use Rattle.enclosure.specs.declared.Enclosure.{Enclosure};
 ghost use Rattle.saftvrqmie_potential_ends.specs.Shared.{Sharing};
+ghost use Rattle.saftvrqmie_alone_ends.specs.Alone.{aloneOf};
 ghost use Rattle.saftvrqmie_searches.specs.Diameter.{abscissas, weights, entry, nodeTurn, diameterBy, diameter};
 ghost use Rattle.saftvrqmie.specs.Table.{pairAt};
 ghost use Rattle.saftvrqmie.specs.Pairs.{pointsOf};
-ghost use Rattle.saftvrqmie_diameter_ends.specs.Operations.{diameterEnds};
+ghost use Rattle.saftvrqmie_diameter_ends.specs.Operations.{diameterEnds, widthOf};
 use enclosure::Enclosure;
 use enclosure::EnclosureAnswer;
 use enclosure::EndsAnswer;
 use number::SHEET;
 use number::SIDE;
+use saftvrqmie_alone_ends::Alone;
 use saftvrqmie_alpha_ends::PairEnclosures;
 use saftvrqmie_parameters::OrderRecord;
 use saftvrqmie_parameters::SaftVRQMiePars;
 use saftvrqmie_potential_ends::PairShared;
 use saftvrqmie_potential_ends::PairSharedAnswer;
-use saftvrqmie_potential_ends::PotentialEnclosuresAnswer;
 
 // Entries of the rule, as points; k is the turn of a loop over its 21 nodes, and beyond them there is no entry.
 fn abscissa(k: usize) -> Enclosure
@@ -40,29 +42,28 @@ fn weight(k: usize) -> Enclosure
     enclosure::point(saftvrqmie_searches::weight(k))
 }
 
-// One node's part, added. Both derivatives are worked on the way.
+// One node's part, added. Both derivatives count, whether worked or not.
 fn node(
     w: PairShared,
+    x: Alone,
     temperature: Enclosure,
-    sigma_eff: Enclosure,
+    width: Enclosure,
     r0: Enclosure,
     k: usize,
     d_hs: Enclosure,
 ) -> EnclosureAnswer
     requires { ⌜ k < 21 ⌝ }
-    ensures { λ r. ⌜ (Sharing w → answer r ≡ nodeTurn enclosures (calls enclosures port) (potential enclosures (calls enclosures port) (pairIn (w .pair))) temperature «sigma_eff» r0 k «d_hs») ⌝ }
+    ensures { λ r. ⌜ (Sharing w → x ≡ aloneOf w → (sigmaEff : Enclosure) → width ≡ widthOf sigmaEff r0 → answer r ≡ nodeTurn enclosures (calls enclosures port) (potential enclosures (calls enclosures port) (pairIn (w .pair))) temperature sigmaEff r0 k «d_hs») ⌝ }
 {
-    let half = enclosure::point(0.5);
-    let width = enclosure::mul(enclosure::sub(sigma_eff, r0), half);
     let r = enclosure::add(
         enclosure::add(enclosure::mul(width, abscissa(k)), width),
         r0,
     );
-    let PotentialEnclosuresAnswer::Value(v) = saftvrqmie_potential_ends::potential_at(w, r) else {
+    let EnclosureAnswer::Value(u) = saftvrqmie_alone_ends::u_after(w, x, r) else {
         return EnclosureAnswer::Outside;
     };
     let EnclosureAnswer::Value(e) = elementary_ends::exp(enclosure::div(
-        enclosure::neg(v.u),
+        enclosure::neg(u),
         temperature,
     )) else {
         return EnclosureAnswer::Outside;
@@ -70,8 +71,7 @@ fn node(
     let one = enclosure::point(1.0);
     let f_u = enclosure::add(enclosure::neg(e), one);
     let part = enclosure::mul(enclosure::mul(width, f_u), weight(k));
-    let next = enclosure::add(d_hs, part);
-    EnclosureAnswer::Value(enclosure::after(v.u_r, enclosure::after(v.u_rr, next)))
+    EnclosureAnswer::Value(enclosure::add(d_hs, part))
 }
 
 fn diameter_by(
@@ -82,9 +82,12 @@ fn diameter_by(
 ) -> EnclosureAnswer
     ensures { λ r. ⌜ (Sharing w → answer r ≡ diameterBy enclosures (calls enclosures port) (potential enclosures (calls enclosures port) (pairIn (w .pair))) temperature «sigma_eff» r0) ⌝ }
 {
+    let half = enclosure::point(0.5);
+    let width = enclosure::mul(enclosure::sub(sigma_eff, r0), half);
+    let x = saftvrqmie_alone_ends::alone_of(w);
     let mut d_hs = r0;
     for k in 0usize..21usize {
-        let EnclosureAnswer::Value(next) = node(w, temperature, sigma_eff, r0, k, d_hs) else {
+        let EnclosureAnswer::Value(next) = node(w, x, temperature, width, r0, k, d_hs) else {
             return EnclosureAnswer::Outside;
         };
         d_hs = next;

@@ -1,0 +1,5 @@
+pub mod Tame
+pub mod Raised
+pub mod Same
+pub mod Derivatives
+pub mod Ways
