@@ -1,1 +1,2 @@
-pub mod Effective
+pub mod Slope
+pub mod Sums

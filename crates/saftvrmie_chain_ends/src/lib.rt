@@ -1,23 +1,29 @@
 // The chain of SAFT-VR Mie (saftvrmie/eos/dispersion.rs) in the two-ended run: a component's first two orders with slopes by the segment density, and what it adds to a_chain.
 ghost use mathlib.Core.Path.{_≡_};
+ghost use mathlib.Core.Bool.{false};
+ghost use Rattle.number.specs.Arith.{decimal};
 ghost use Rattle.number.specs.Functions.{calls};
 ghost use Rattle.elementary.specs.Port.{port};
 ghost use Rattle.enclosure.specs.Answer.{answer};
 ghost use Rattle.enclosure.specs.Enclosure.{enclosures, point};
-ghost use Rattle.dual.specs.Dual.{duals, plainD};
+ghost use Rattle.dual.specs.Dual.{duals, plainD, addD, mulD, negD, powD};
 ghost use Rattle.enclosure_dual.specs.Value.{dualOf};
-ghost use Rattle.saftvrmie_dispersion.specs.Sutherland.{kHs, zetaEff, a1s, iOf, jOf, bOf, a1sBOf, a1sB};
+ghost use Rattle.saftvrmie_dispersion.specs.Sutherland.{kHs, bOf, a1sB};
 ghost use Rattle.saftvrmie_dispersion.specs.Terms.{five, prefOf, a1Of, a2Of, ordersOf};
 ghost use Rattle.saftvrmie_dispersion.specs.Chain.{rhoDual, zetaDual, fluidDual, g1Of, g2Of, linkPref, gHs, gammaOf, lnGMie, linkOf, addLink, chainPure};
 ghost use Rattle.saftvrmie_dispersion.specs.Answer.{pairIn};
+ghost use Rattle.saftvrmie_dispersion_ends.specs.Shared.{zetaEffBy, a1sBy, iBy, jBy, a1sBBy, powerAt};
 ghost use Rattle.saftvrmie_dispersion_ends.specs.Answer.{barIn, sumsIn, sumsAnswer};
 ghost use Rattle.saftvrmie_properties_ends.specs.Answer.{kIn};
+ghost use Rattle.saftvrmie_chain_ends.specs.Slope.{finiteEnds, jSlope};
 ghost use Rattle.saftvrmie_chain_ends.specs.Duals.{fluidDualIn, fiveDualIn, ordersDualIn, linkIn, dualAnswer, fiveDualAnswer, ordersDualAnswer};
+use binary_log::Log;
 use enclosure::Enclosure;
 use enclosure::EnclosureAnswer;
 use enclosure_dual::EnclosureDual;
-use saftvrmie_dispersion::C;
+use interval::Interval;
 use saftvrmie_dispersion_ends::BarEnclosures;
+use saftvrmie_dispersion_ends::LambdaEnclosures;
 use saftvrmie_dispersion_ends::SumsEnclosures;
 use saftvrmie_dispersion_ends::SumsEnclosuresAnswer;
 use saftvrmie_dispersion_ends::TermsEnclosures;
@@ -74,144 +80,233 @@ pub enum OrdersDualsAnswer {
 
 // ---- the Sutherland sums with slopes by the segment density
 
-// A constant, or a pair's parameter.
-fn lit(x: f64) -> EnclosureDual
-    ensures { λ r. ⌜ dualOf r ≡ plainD enclosures (point x) ⌝ }
-{
-    enclosure_dual::plain(enclosure::point(x))
-}
-
-// lambda - k, a plain number: its slope is +0.
-fn less(lambda: Enclosure, k: f64) -> EnclosureDual
-    ensures { λ r. ⌜ dualOf r ≡ plainD enclosures (enclosures .sub lambda (point k)) ⌝ }
-{
-    EnclosureDual {
-        re: enclosure::sub(lambda, enclosure::point(k)),
-        eps: enclosure::point(0.0),
-    }
-}
-
 fn k_hs_dual(zeta_x: EnclosureDual) -> EnclosureDual
     ensures { λ r. ⌜ dualOf r ≡ kHs (duals enclosures) (dualOf «zeta_x») ⌝ }
 {
-    let one = lit(1.0);
-    let a = enclosure_dual::pow_up(enclosure_dual::sub(zeta_x, one), 4);
+    let one = enclosure::point(1.0);
+    let less = enclosure_dual::sub(zeta_x, enclosure_dual::plain(one));
+    let a = enclosure_dual::pow_up(less, 4);
     let z = enclosure_dual::sub(
         enclosure_dual::add(zeta_x, enclosure_dual::pow_up(zeta_x, 2)),
         enclosure_dual::pow_up(zeta_x, 3),
     );
-    let c = enclosure_dual::mul(z, lit(4.0));
+    let c = enclosure_dual::mul_plain(z, enclosure::point(4.0));
     let s = enclosure_dual::add(c, enclosure_dual::pow_up(zeta_x, 4));
-    enclosure_dual::div(a, enclosure_dual::add(s, one))
+    enclosure_dual::div(a, enclosure_dual::add_plain(s, one))
 }
 
-fn zeta_eff_dual(zeta: EnclosureDual, lambda: Enclosure) -> EnclosureDual
-    ensures { λ r. ⌜ dualOf r ≡ zetaEff enclosures (duals enclosures) (plainD enclosures) (dualOf zeta) lambda ⌝ }
+// The operations of dual numbers are written out in the functions of a sum: a call of each takes its operands through memory.
+fn zeta_eff_dual(zeta: EnclosureDual, of: LambdaEnclosures) -> EnclosureDual
+    ensures { λ r. ⌜ dualOf r ≡ zetaEffBy (duals enclosures) (plainD enclosures) (dualOf zeta) of ⌝ }
 {
-    let li = enclosure::div(enclosure::point(1.0), lambda);
-    let li2 = enclosure::mul(li, li);
-    let li3 = enclosure::mul(li, li2);
-    let c0 = enclosure_dual::plain(saftvrmie_dispersion_ends::c_row(li, li2, li3, C[0]));
-    let c1 = enclosure_dual::plain(saftvrmie_dispersion_ends::c_row(li, li2, li3, C[1]));
-    let c2 = enclosure_dual::plain(saftvrmie_dispersion_ends::c_row(li, li2, li3, C[2]));
-    let c3 = enclosure_dual::plain(saftvrmie_dispersion_ends::c_row(li, li2, li3, C[3]));
-    let s3 = enclosure_dual::add(enclosure_dual::mul(zeta, c3), c2);
-    let s2 = enclosure_dual::add(enclosure_dual::mul(zeta, s3), c1);
-    let s1 = enclosure_dual::add(enclosure_dual::mul(zeta, s2), c0);
-    enclosure_dual::mul(zeta, s1)
+    let zero = enclosure::point(0.0);
+    let z = zeta.re;
+    let e = zeta.eps;
+    let s3 = enclosure::add(enclosure::mul(z, of.c3), of.c2);
+    let m3 = enclosure::add(enclosure::mul(e, of.c3), enclosure_dual::times_zero(z));
+    let t3 = enclosure::add(m3, zero);
+    let s2 = enclosure::add(enclosure::mul(z, s3), of.c1);
+    let m2 = enclosure::add(enclosure::mul(e, s3), enclosure::mul(z, t3));
+    let t2 = enclosure::add(m2, zero);
+    let s1 = enclosure::add(enclosure::mul(z, s2), of.c0);
+    let m1 = enclosure::add(enclosure::mul(e, s2), enclosure::mul(z, t2));
+    let t1 = enclosure::add(m1, zero);
+    EnclosureDual {
+        re: enclosure::mul(z, s1),
+        eps: enclosure::add(enclosure::mul(e, s1), enclosure::mul(z, t1)),
+    }
 }
 
-fn a1s_ij_dual(zeta_x: EnclosureDual, lambda: Enclosure) -> EnclosureDual
-    ensures { λ r. ⌜ dualOf r ≡ a1s enclosures (duals enclosures) (plainD enclosures) (dualOf «zeta_x») lambda ⌝ }
+// -(-zeta_eff * 0.5 + 1.0) of `a1s_ij`, from -zeta_eff.
+fn a1s_over(ze: EnclosureDual) -> EnclosureDual
+    ensures { λ r. ⌜ dualOf r ≡ negD enclosures (addD enclosures (mulD enclosures (dualOf ze) (plainD enclosures (point (decimal false 5 1)))) (plainD enclosures (point (decimal false 1 0)))) ⌝ }
 {
-    let ze = enclosure_dual::neg(zeta_eff_dual(zeta_x, lambda));
-    let one = lit(1.0);
-    let s = enclosure_dual::add(enclosure_dual::mul(ze, lit(0.5)), one);
-    let z = enclosure_dual::pow_up(enclosure_dual::add(ze, one), 3);
-    let under = enclosure_dual::mul(z, less(lambda, 3.0));
-    enclosure_dual::div(enclosure_dual::neg(s), under)
+    let half = enclosure::point(0.5);
+    let a = enclosure::add(enclosure::mul(ze.re, half), enclosure::point(1.0));
+    let left = enclosure::mul(ze.eps, half);
+    let t = enclosure::add(left, enclosure_dual::times_zero(ze.re));
+    EnclosureDual {
+        re: enclosure::neg(a),
+        eps: enclosure::neg(enclosure::add(t, enclosure::point(0.0))),
+    }
+}
+
+// (-zeta_eff + 1.0)³ * (lambda - 3.0) of `a1s_ij`, from -zeta_eff + 1.0.
+fn a1s_under(y: EnclosureDual, l3: Enclosure) -> EnclosureDual
+    ensures { λ r. ⌜ dualOf r ≡ mulD enclosures (powD enclosures (dualOf y) 3) (plainD enclosures l3) ⌝ }
+{
+    let one = enclosure::point(1.0);
+    let square = enclosure::mul(y.re, y.re);
+    let cube = enclosure::mul(enclosure::mul(one, y.re), square);
+    let factor = enclosure::mul(enclosure::point(3.0), enclosure::mul(one, square));
+    let left = enclosure::mul(enclosure::mul(factor, y.eps), l3);
+    EnclosureDual {
+        re: enclosure::mul(cube, l3),
+        eps: enclosure::add(left, enclosure_dual::times_zero(cube)),
+    }
+}
+
+fn a1s_ij_dual(zeta_x: EnclosureDual, of: LambdaEnclosures) -> EnclosureDual
+    ensures { λ r. ⌜ dualOf r ≡ a1sBy (duals enclosures) (plainD enclosures) (dualOf «zeta_x») of ⌝ }
+{
+    let ze = enclosure_dual::neg(zeta_eff_dual(zeta_x, of));
+    let a = a1s_over(ze);
+    let u = a1s_under(enclosure_dual::add_plain(ze, enclosure::point(1.0)), of.l3);
+    let left = enclosure::mul(a.eps, u.re);
+    let right = enclosure::mul(a.re, u.eps);
+    let square = enclosure::mul(u.re, u.re);
+    EnclosureDual {
+        re: enclosure::div(a.re, u.re),
+        eps: enclosure::div(enclosure::sub(left, right), square),
+    }
 }
 
 // By a plain number, whose slope is +0: the whole rule, not part by part.
-fn i_dual(x0_3ml: EnclosureDual, lambda: Enclosure) -> EnclosureDual
-    ensures { λ r. ⌜ dualOf r ≡ iOf enclosures (duals enclosures) (plainD enclosures) (dualOf «x0_3ml») lambda ⌝ }
+fn i_dual(p3: Enclosure, l3: Enclosure) -> EnclosureDual
+    ensures { λ r. ⌜ dualOf r ≡ iBy (duals enclosures) (plainD enclosures) (plainD enclosures p3) l3 ⌝ }
 {
-    let a = enclosure_dual::neg(enclosure_dual::sub(x0_3ml, lit(1.0)));
-    enclosure_dual::div(a, less(lambda, 3.0))
+    let zero = enclosure::point(0.0);
+    let a = enclosure::neg(enclosure::sub(p3, enclosure::point(1.0)));
+    let t = enclosure::neg(enclosure::sub(zero, zero));
+    let left = enclosure::mul(t, l3);
+    let right = enclosure_dual::times_zero(a);
+    let square = enclosure::mul(l3, l3);
+    EnclosureDual {
+        re: enclosure::div(a, l3),
+        eps: enclosure::div(enclosure::sub(left, right), square),
+    }
 }
 
-fn j_dual(x0_4ml: EnclosureDual, x0_3ml: EnclosureDual, lambda: Enclosure) -> EnclosureDual
-    ensures { λ r. ⌜ dualOf r ≡ jOf enclosures (duals enclosures) (plainD enclosures) (dualOf «x0_4ml») (dualOf «x0_3ml») lambda ⌝ }
+fn finite_ends(x: Enclosure) -> bool
+    ensures { λ r. ⌜ r ≡ finiteEnds x ⌝ }
 {
-    let l3 = enclosure::sub(lambda, enclosure::point(3.0));
-    let l4 = enclosure::sub(lambda, enclosure::point(4.0));
-    let a = enclosure_dual::mul(x0_4ml, enclosure_dual::plain(l3));
-    let z = enclosure_dual::mul(x0_3ml, enclosure_dual::plain(l4));
-    let c = enclosure_dual::neg(enclosure_dual::sub(enclosure_dual::sub(a, z), lit(1.0)));
-    enclosure_dual::div(c, enclosure_dual::plain(enclosure::mul(l3, l4)))
+    let ends = x.ends;
+    number::is_finite(ends.lower) & number::is_finite(ends.upper)
+}
+
+// The slope of j's dividend, all of whose numbers are plain: of finite ends it gives the eighth floats about zero.
+fn j_slope(p4: Enclosure, p3: Enclosure, l3: Enclosure, l4: Enclosure) -> Enclosure
+    ensures { λ r. ⌜ r ≡ jSlope p4 p3 l3 l4 ⌝ }
+{
+    let finite = finite_ends(p4) & (finite_ends(p3) & (finite_ends(l3) & finite_ends(l4)));
+    if !finite {
+        let zero = enclosure::point(0.0);
+        let a = enclosure::add(enclosure::mul(zero, l3), enclosure::mul(p4, zero));
+        let z = enclosure::add(enclosure::mul(zero, l4), enclosure::mul(p3, zero));
+        return enclosure::neg(enclosure::sub(enclosure::sub(a, z), zero));
+    }
+    let a = 0.0 * l3.value + p4.value * 0.0;
+    let z = 0.0 * l4.value + p3.value * 0.0;
+    Enclosure {
+        value: -(a - z - 0.0),
+        ends: Interval {
+            lower: f64::from_bits(0x8000_0000_0000_0008),
+            upper: f64::from_bits(8),
+            sound: (l3.ends.sound & p4.ends.sound) & (l4.ends.sound & p3.ends.sound),
+        },
+    }
+}
+
+fn j_dual(p4: Enclosure, p3: Enclosure, l3: Enclosure, l4: Enclosure) -> EnclosureDual
+    ensures { λ r. ⌜ dualOf r ≡ jBy (duals enclosures) (plainD enclosures) (plainD enclosures p4) (plainD enclosures p3) l3 l4 ⌝ }
+{
+    let one = enclosure::point(1.0);
+    let a = enclosure::sub(enclosure::mul(p4, l3), enclosure::mul(p3, l4));
+    let c = enclosure::neg(enclosure::sub(a, one));
+    let under = enclosure::mul(l3, l4);
+    let left = enclosure::mul(j_slope(p4, p3, l3, l4), under);
+    let right = enclosure_dual::times_zero(c);
+    let square = enclosure::mul(under, under);
+    EnclosureDual {
+        re: enclosure::div(c, under),
+        eps: enclosure::div(enclosure::sub(left, right), square),
+    }
 }
 
 fn b_dual(w: FluidDuals, i: EnclosureDual, j: EnclosureDual) -> EnclosureDual
     ensures { λ r. ⌜ dualOf r ≡ bOf enclosures (duals enclosures) (plainD enclosures) (fluidDualIn w) (dualOf i) (dualOf j) ⌝ }
 {
-    let s = enclosure_dual::sub(enclosure_dual::mul(w.b1, i), enclosure_dual::mul(w.b2, j));
-    enclosure_dual::mul(s, w.b3)
+    let u = enclosure::add(
+        enclosure::mul(w.b1.eps, i.re),
+        enclosure::mul(w.b1.re, i.eps),
+    );
+    let v = enclosure::add(
+        enclosure::mul(w.b2.eps, j.re),
+        enclosure::mul(w.b2.re, j.eps),
+    );
+    let s = enclosure::sub(enclosure::mul(w.b1.re, i.re), enclosure::mul(w.b2.re, j.re));
+    let t = enclosure::mul(enclosure::sub(u, v), w.b3.re);
+    EnclosureDual {
+        re: enclosure::mul(s, w.b3.re),
+        eps: enclosure::add(t, enclosure::mul(s, w.b3.eps)),
+    }
 }
 
 // `a1s_b_ij` from its powers of x0: p to lambda, p3 to 3 - lambda, p4 to 4 - lambda.
 fn a1s_b_of(
     w: FluidDuals,
-    lambda: Enclosure,
+    of: LambdaEnclosures,
     p: Enclosure,
     p3: Enclosure,
     p4: Enclosure,
 ) -> EnclosureDual
-    ensures { λ r. ⌜ dualOf r ≡ a1sBOf enclosures (duals enclosures) (plainD enclosures) (fluidDualIn w) lambda p p3 p4 ⌝ }
+    ensures { λ r. ⌜ dualOf r ≡ a1sBBy (duals enclosures) (plainD enclosures) (fluidDualIn w) of p p3 p4 ⌝ }
 {
-    let q3 = enclosure_dual::plain(p3);
-    let q4 = enclosure_dual::plain(p4);
-    let b = b_dual(w, i_dual(q3, lambda), j_dual(q4, q3, lambda));
-    let s = enclosure_dual::add(a1s_ij_dual(w.zeta_x, lambda), b);
-    enclosure_dual::mul(enclosure_dual::plain(p), s)
+    let b = b_dual(w, i_dual(p3, of.l3), j_dual(p4, p3, of.l3, of.l4));
+    let a = a1s_ij_dual(w.zeta_x, of);
+    let s = enclosure::add(a.re, b.re);
+    let right = enclosure::mul(p, enclosure::add(a.eps, b.eps));
+    EnclosureDual {
+        re: enclosure::mul(p, s),
+        eps: enclosure::add(enclosure_dual::zero_times(s), right),
+    }
 }
 
-fn a1s_b_ij_dual(x0: Enclosure, w: FluidDuals, lambda: Enclosure) -> DualsAnswer
-    ensures { λ r. ⌜ dualAnswer r ≡ a1sB enclosures (duals enclosures) (plainD enclosures) (calls enclosures port .powf x0) (fluidDualIn w) lambda ⌝ }
+fn a1s_b_ij_dual(l: Log, x0: Enclosure, w: FluidDuals, lambda: Enclosure) -> DualsAnswer
+    ensures { λ r. ⌜ dualAnswer r ≡ a1sB enclosures (duals enclosures) (plainD enclosures) (powerAt l x0) (fluidDualIn w) lambda ⌝ }
 {
-    let EnclosureAnswer::Value(p) = elementary_ends::powf(x0, lambda) else {
-        return DualsAnswer::Outside;
-    };
     let l3 = enclosure::sub(enclosure::point(3.0), lambda);
-    let EnclosureAnswer::Value(p3) = elementary_ends::powf(x0, l3) else {
-        return DualsAnswer::Outside;
-    };
     let l4 = enclosure::sub(enclosure::point(4.0), lambda);
-    let EnclosureAnswer::Value(p4) = elementary_ends::powf(x0, l4) else {
+    let EnclosureAnswer::Value(p) = saftvrmie_dispersion_ends::power_of(l, x0, lambda) else {
         return DualsAnswer::Outside;
     };
-    DualsAnswer::At(a1s_b_of(w, lambda, p, p3, p4))
+    let EnclosureAnswer::Value(p3) = saftvrmie_dispersion_ends::power_of(l, x0, l3) else {
+        return DualsAnswer::Outside;
+    };
+    let EnclosureAnswer::Value(p4) = saftvrmie_dispersion_ends::power_of(l, x0, l4) else {
+        return DualsAnswer::Outside;
+    };
+    let of = saftvrmie_dispersion_ends::lambda_of(lambda);
+    DualsAnswer::At(a1s_b_of(w, of, p, p3, p4))
 }
 
-fn five_dual(x0: Enclosure, w: FluidDuals, la: Enclosure, lr: Enclosure) -> FiveDualsAnswer
-    ensures { λ r. ⌜ fiveDualAnswer r ≡ five enclosures (duals enclosures) (plainD enclosures) (calls enclosures port .powf x0) (fluidDualIn w) la lr ⌝ }
+// The powers of x0 share its logarithm, l.
+fn five_dual_by(
+    l: Log,
+    x0: Enclosure,
+    w: FluidDuals,
+    la: Enclosure,
+    lr: Enclosure,
+) -> FiveDualsAnswer
+    ensures { λ r. ⌜ fiveDualAnswer r ≡ five enclosures (duals enclosures) (plainD enclosures) (powerAt l x0) (fluidDualIn w) la lr ⌝ }
 {
     let two = enclosure::point(2.0);
     let l2a = enclosure::mul(two, la);
     let lar = enclosure::add(la, lr);
     let l2r = enclosure::mul(two, lr);
-    let DualsAnswer::At(at_la) = a1s_b_ij_dual(x0, w, la) else {
+    let DualsAnswer::At(at_la) = a1s_b_ij_dual(l, x0, w, la) else {
         return FiveDualsAnswer::Outside;
     };
-    let DualsAnswer::At(at_lr) = a1s_b_ij_dual(x0, w, lr) else {
+    let DualsAnswer::At(at_lr) = a1s_b_ij_dual(l, x0, w, lr) else {
         return FiveDualsAnswer::Outside;
     };
-    let DualsAnswer::At(at_2la) = a1s_b_ij_dual(x0, w, l2a) else {
+    let DualsAnswer::At(at_2la) = a1s_b_ij_dual(l, x0, w, l2a) else {
         return FiveDualsAnswer::Outside;
     };
-    let DualsAnswer::At(at_lalr) = a1s_b_ij_dual(x0, w, lar) else {
+    let DualsAnswer::At(at_lalr) = a1s_b_ij_dual(l, x0, w, lar) else {
         return FiveDualsAnswer::Outside;
     };
-    let DualsAnswer::At(at_2lr) = a1s_b_ij_dual(x0, w, l2r) else {
+    let DualsAnswer::At(at_2lr) = a1s_b_ij_dual(l, x0, w, l2r) else {
         return FiveDualsAnswer::Outside;
     };
     FiveDualsAnswer::At(FiveDuals {
@@ -223,14 +318,24 @@ fn five_dual(x0: Enclosure, w: FluidDuals, la: Enclosure, lr: Enclosure) -> Five
     })
 }
 
+// No power has a value where x0 is outside their domain.
+fn five_dual(x0: Enclosure, w: FluidDuals, la: Enclosure, lr: Enclosure) -> FiveDualsAnswer
+    ensures { λ r. ⌜ fiveDualAnswer r ≡ five enclosures (duals enclosures) (plainD enclosures) (calls enclosures port .powf x0) (fluidDualIn w) la lr ⌝ }
+{
+    if !binary_log::base_inside(x0.value) {
+        return FiveDualsAnswer::Outside;
+    }
+    five_dual_by(binary_log::log_base(x0.value), x0, w, la, lr)
+}
+
 fn pref_dual(rho: EnclosureDual, d3: Enclosure, eps_k: Enclosure, c: Enclosure) -> EnclosureDual
     ensures { λ r. ⌜ dualOf r ≡ prefOf enclosures (duals enclosures) (plainD enclosures) (calls enclosures port .pi) (dualOf rho) d3 «eps_k» c ⌝ }
 {
-    let a = enclosure_dual::mul(rho, enclosure_dual::plain(d3));
-    let z = enclosure_dual::mul(a, enclosure_dual::plain(eps_k));
-    let twice = enclosure_dual::mul(z, lit(2.0));
-    let round = enclosure_dual::mul(twice, lit(3.141592653589793));
-    enclosure_dual::mul(round, enclosure_dual::plain(c))
+    let a = enclosure_dual::mul_plain(rho, d3);
+    let z = enclosure_dual::mul_plain(a, eps_k);
+    let twice = enclosure_dual::mul_plain(z, enclosure::point(2.0));
+    let round = enclosure_dual::mul_plain(twice, enclosure::point(3.141592653589793));
+    enclosure_dual::mul_plain(round, c)
 }
 
 fn a1_dual(pref: EnclosureDual, s: FiveDuals) -> EnclosureDual
@@ -248,10 +353,10 @@ fn a2_dual(
 ) -> EnclosureDual
     ensures { λ r. ⌜ dualOf r ≡ a2Of enclosures (duals enclosures) (plainD enclosures) (dualOf pref) «eps_k» c (dualOf «k_hs») (fiveDualIn s) ⌝ }
 {
-    let a = enclosure_dual::mul(pref, enclosure_dual::plain(eps_k));
-    let z = enclosure_dual::mul(a, enclosure_dual::plain(c));
-    let half = enclosure_dual::mul(enclosure_dual::mul(z, k_hs), lit(0.5));
-    let twice = enclosure_dual::mul(s.at_lalr, lit(2.0));
+    let a = enclosure_dual::mul_plain(pref, eps_k);
+    let z = enclosure_dual::mul_plain(a, c);
+    let half = enclosure_dual::mul_plain(enclosure_dual::mul(z, k_hs), enclosure::point(0.5));
+    let twice = enclosure_dual::mul_plain(s.at_lalr, enclosure::point(2.0));
     let sums = enclosure_dual::add(enclosure_dual::sub(s.at_2la, twice), s.at_2lr);
     enclosure_dual::mul(half, sums)
 }
@@ -293,9 +398,9 @@ fn zeta_dual(zeta_x: Enclosure, rho: Enclosure) -> EnclosureDual
 {
     let rho_s = rho_dual(rho);
     if rho.value == 0.0 {
-        return enclosure_dual::mul(rho_s, lit(0.0));
+        return enclosure_dual::mul_plain(rho_s, enclosure::point(0.0));
     }
-    enclosure_dual::mul(enclosure_dual::plain(enclosure::div(zeta_x, rho)), rho_s)
+    enclosure_dual::plain_mul(enclosure::div(zeta_x, rho), rho_s)
 }
 
 // The state with its slopes.
@@ -303,16 +408,16 @@ pub fn fluid_dual(zeta_x: Enclosure, rho: Enclosure) -> FluidDuals
     ensures { λ r. ⌜ fluidDualIn r ≡ fluidDual enclosures «zeta_x» rho ⌝ }
 {
     let z = zeta_dual(zeta_x, rho);
-    let one = lit(1.0);
+    let one = enclosure::point(1.0);
     let minus = enclosure_dual::neg(z);
-    let more = enclosure_dual::mul(z, enclosure_dual::add(z, one));
+    let more = enclosure_dual::mul(z, enclosure_dual::add_plain(z, one));
     FluidDuals {
         segment_density: rho_dual(rho),
         zeta_x: z,
         k_hs: k_hs_dual(z),
-        b1: enclosure_dual::add(enclosure_dual::mul(minus, lit(0.5)), one),
-        b2: enclosure_dual::mul(more, lit(4.5)),
-        b3: enclosure_dual::pow_down(enclosure_dual::add(minus, one), 3),
+        b1: enclosure_dual::add_plain(enclosure_dual::mul_plain(minus, enclosure::point(0.5)), one),
+        b2: enclosure_dual::mul_plain(more, enclosure::point(4.5)),
+        b3: enclosure_dual::pow_down(enclosure_dual::add_plain(minus, one), 3),
     }
 }
 
@@ -453,15 +558,15 @@ pub fn chain_pure(
     let OrdersDualsAnswer::At(o) = orders_dual(w, p, d) else {
         return SumsEnclosuresAnswer::Outside;
     };
-    let alpha = enclosure::point(p.alpha);
+    let six = saftvrmie_dispersion_ends::six_of(p.alpha);
     let eps_k = enclosure::point(p.epsilon_k);
     let zeta_x_bar = bar.zeta_x_bar;
-    let EnclosureAnswer::Value(a3) = saftvrmie_dispersion_ends::a3(zeta_x_bar, alpha, eps_k) else {
+    let EnclosureAnswer::Value(a3) = saftvrmie_dispersion_ends::a3(zeta_x_bar, six, eps_k) else {
         return SumsEnclosuresAnswer::Outside;
     };
     let a1 = o.a1.re;
     let a2 = o.a2.re;
-    let xi = saftvrmie_dispersion_ends::xi(bar, alpha);
+    let xi = saftvrmie_dispersion_ends::xi(bar, six);
     let terms = TermsEnclosures { a1, a2, a3, xi };
     let t = saftvrmie_dispersion_ends::add_pure(xs, terms, s);
     let EnclosureAnswer::Value(l) = link_term(k, zeta_x_bar, o, w.k_hs.re, p, d, of) else {

@@ -3,11 +3,13 @@ ghost use mathlib.Core.Path.{_≡_};
 ghost use Rattle.number.specs.Functions.{calls};
 ghost use Rattle.elementary.specs.Port.{port};
 ghost use Rattle.enclosure.specs.Answer.{answer};
-ghost use Rattle.enclosure.specs.Enclosure.{enclosures};
-ghost use Rattle.saftvrmie_dispersion.specs.Sutherland.{kHs, fluidOf, cRow, zetaEff, a1s, iOf, jOf, bOf, a1sBOf, a1sB};
-ghost use Rattle.saftvrmie_dispersion.specs.Terms.{f, barOf, xiOf, a3Of, x0Of, five, prefOf, a1Of, a2Of, termsOf, addPure, addPair, ordersSum};
+ghost use Rattle.enclosure.specs.Enclosure.{enclosures, point};
+ghost use Rattle.saftvrmie_dispersion.specs.Sutherland.{kHs, fluidOf, c0, c1, c2, c3, cRow, bOf, a1sB};
+ghost use Rattle.saftvrmie_dispersion.specs.Terms.{phi0, phi1, phi2, phi3, phi4, phi5, barOf, x0Of, five, prefOf, a1Of, a2Of, termsOf, addPure, addPair, ordersSum};
 ghost use Rattle.saftvrmie_dispersion.specs.Answer.{pairIn};
+ghost use Rattle.saftvrmie_dispersion_ends.specs.Shared.{lambdaOf, zetaEffBy, a1sBy, iBy, jBy, a1sBBy, powerAt, fBy, sixOf, xiBy, a3By};
 ghost use Rattle.saftvrmie_dispersion_ends.specs.Answer.{fluidIn, barIn, fiveIn, fiveAnswer, termsIn, termsAnswer, sumsIn};
+use binary_log::Log;
 use enclosure::Enclosure;
 use enclosure::EnclosureAnswer;
 use saftvrmie_dispersion::C;
@@ -31,6 +33,16 @@ pub struct BarEnclosures {
     pub zx8: Enclosure,
 }
 
+// What the sums work of an exponent alone: lambda - 3, lambda - 4, and the rows of C at 1 / lambda.
+pub struct LambdaEnclosures {
+    pub l3: Enclosure,
+    pub l4: Enclosure,
+    pub c0: Enclosure,
+    pub c1: Enclosure,
+    pub c2: Enclosure,
+    pub c3: Enclosure,
+}
+
 // a1s_b at la, lr, 2 la, la + lr, 2 lr.
 pub struct FiveEnclosures {
     pub at_la: Enclosure,
@@ -38,6 +50,16 @@ pub struct FiveEnclosures {
     pub at_2la: Enclosure,
     pub at_lalr: Enclosure,
     pub at_2lr: Enclosure,
+}
+
+// `f` of the six rows of PHI at one alpha.
+pub struct SixEnclosures {
+    pub f0: Enclosure,
+    pub f1: Enclosure,
+    pub f2: Enclosure,
+    pub f3: Enclosure,
+    pub f4: Enclosure,
+    pub f5: Enclosure,
 }
 
 // The three orders of a pair, and the chi that corrects the second.
@@ -106,59 +128,95 @@ pub fn fluid_of(rho: Enclosure, zeta_x: Enclosure, k_hs: Enclosure) -> FluidEncl
     }
 }
 
-pub fn c_row(li: Enclosure, li2: Enclosure, li3: Enclosure, c: [f64; 4]) -> Enclosure
-    ensures { λ r. ⌜ r ≡ cRow enclosures li li2 li3 c ⌝ }
+// A row of C, its numbers known where it is worked; a function each, with one caller.
+fn c_row_0(li: Enclosure, li2: Enclosure, li3: Enclosure) -> Enclosure
+    ensures { λ r. ⌜ r ≡ cRow enclosures li li2 li3 c0 ⌝ }
 {
-    let a = enclosure::mul(li, enclosure::point(c[1]));
-    let b = enclosure::mul(li2, enclosure::point(c[2]));
-    let d = enclosure::mul(li3, enclosure::point(c[3]));
-    enclosure::add(
-        enclosure::add(enclosure::add(a, b), d),
-        enclosure::point(c[0]),
-    )
+    let a = enclosure::mul(li, enclosure::point(C[0][1]));
+    let b = enclosure::mul(li2, enclosure::point(C[0][2]));
+    let d = enclosure::mul(li3, enclosure::point(C[0][3]));
+    let s = enclosure::add(enclosure::add(a, b), d);
+    enclosure::add(s, enclosure::point(C[0][0]))
 }
 
-pub fn zeta_eff(zeta: Enclosure, lambda: Enclosure) -> Enclosure
-    ensures { λ r. ⌜ r ≡ zetaEff enclosures enclosures (λ x. x) zeta lambda ⌝ }
+fn c_row_1(li: Enclosure, li2: Enclosure, li3: Enclosure) -> Enclosure
+    ensures { λ r. ⌜ r ≡ cRow enclosures li li2 li3 c1 ⌝ }
+{
+    let a = enclosure::mul(li, enclosure::point(C[1][1]));
+    let b = enclosure::mul(li2, enclosure::point(C[1][2]));
+    let d = enclosure::mul(li3, enclosure::point(C[1][3]));
+    let s = enclosure::add(enclosure::add(a, b), d);
+    enclosure::add(s, enclosure::point(C[1][0]))
+}
+
+fn c_row_2(li: Enclosure, li2: Enclosure, li3: Enclosure) -> Enclosure
+    ensures { λ r. ⌜ r ≡ cRow enclosures li li2 li3 c2 ⌝ }
+{
+    let a = enclosure::mul(li, enclosure::point(C[2][1]));
+    let b = enclosure::mul(li2, enclosure::point(C[2][2]));
+    let d = enclosure::mul(li3, enclosure::point(C[2][3]));
+    let s = enclosure::add(enclosure::add(a, b), d);
+    enclosure::add(s, enclosure::point(C[2][0]))
+}
+
+fn c_row_3(li: Enclosure, li2: Enclosure, li3: Enclosure) -> Enclosure
+    ensures { λ r. ⌜ r ≡ cRow enclosures li li2 li3 c3 ⌝ }
+{
+    let a = enclosure::mul(li, enclosure::point(C[3][1]));
+    let b = enclosure::mul(li2, enclosure::point(C[3][2]));
+    let d = enclosure::mul(li3, enclosure::point(C[3][3]));
+    let s = enclosure::add(enclosure::add(a, b), d);
+    enclosure::add(s, enclosure::point(C[3][0]))
+}
+
+pub fn lambda_of(lambda: Enclosure) -> LambdaEnclosures
+    ensures { λ r. ⌜ r ≡ lambdaOf lambda ⌝ }
 {
     let li = enclosure::div(enclosure::point(1.0), lambda);
     let li2 = enclosure::mul(li, li);
     let li3 = enclosure::mul(li, li2);
-    let c0 = c_row(li, li2, li3, C[0]);
-    let c1 = c_row(li, li2, li3, C[1]);
-    let c2 = c_row(li, li2, li3, C[2]);
-    let c3 = c_row(li, li2, li3, C[3]);
-    let s3 = enclosure::add(enclosure::mul(zeta, c3), c2);
-    let s2 = enclosure::add(enclosure::mul(zeta, s3), c1);
-    let s1 = enclosure::add(enclosure::mul(zeta, s2), c0);
+    LambdaEnclosures {
+        l3: enclosure::sub(lambda, enclosure::point(3.0)),
+        l4: enclosure::sub(lambda, enclosure::point(4.0)),
+        c0: c_row_0(li, li2, li3),
+        c1: c_row_1(li, li2, li3),
+        c2: c_row_2(li, li2, li3),
+        c3: c_row_3(li, li2, li3),
+    }
+}
+
+fn zeta_eff(zeta: Enclosure, of: LambdaEnclosures) -> Enclosure
+    ensures { λ r. ⌜ r ≡ zetaEffBy enclosures (λ x. x) zeta of ⌝ }
+{
+    let s3 = enclosure::add(enclosure::mul(zeta, of.c3), of.c2);
+    let s2 = enclosure::add(enclosure::mul(zeta, s3), of.c1);
+    let s1 = enclosure::add(enclosure::mul(zeta, s2), of.c0);
     enclosure::mul(zeta, s1)
 }
 
-pub fn a1s_ij(zeta_x: Enclosure, lambda: Enclosure) -> Enclosure
-    ensures { λ r. ⌜ r ≡ a1s enclosures enclosures (λ x. x) «zeta_x» lambda ⌝ }
+fn a1s_ij(zeta_x: Enclosure, of: LambdaEnclosures) -> Enclosure
+    ensures { λ r. ⌜ r ≡ a1sBy enclosures (λ x. x) «zeta_x» of ⌝ }
 {
     let one = enclosure::point(1.0);
     let half = enclosure::point(0.5);
-    let ze = enclosure::neg(zeta_eff(zeta_x, lambda));
+    let ze = enclosure::neg(zeta_eff(zeta_x, of));
     let a = enclosure::neg(enclosure::add(enclosure::mul(ze, half), one));
-    let z = enclosure::pow_up(enclosure::add(ze, one), 3);
-    let l3 = enclosure::sub(lambda, enclosure::point(3.0));
-    enclosure::div(a, enclosure::mul(z, l3))
+    let y = enclosure::add(ze, one);
+    let z = enclosure::mul(enclosure::mul(one, y), enclosure::mul(y, y));
+    enclosure::div(a, enclosure::mul(z, of.l3))
 }
 
-pub fn i_of(x0_3ml: Enclosure, lambda: Enclosure) -> Enclosure
-    ensures { λ r. ⌜ r ≡ iOf enclosures enclosures (λ x. x) «x0_3ml» lambda ⌝ }
+fn i_of(x0_3ml: Enclosure, l3: Enclosure) -> Enclosure
+    ensures { λ r. ⌜ r ≡ iBy enclosures (λ x. x) «x0_3ml» l3 ⌝ }
 {
     let a = enclosure::neg(enclosure::sub(x0_3ml, enclosure::point(1.0)));
-    enclosure::div(a, enclosure::sub(lambda, enclosure::point(3.0)))
+    enclosure::div(a, l3)
 }
 
-pub fn j_of(x0_4ml: Enclosure, x0_3ml: Enclosure, lambda: Enclosure) -> Enclosure
-    ensures { λ r. ⌜ r ≡ jOf enclosures enclosures (λ x. x) «x0_4ml» «x0_3ml» lambda ⌝ }
+fn j_of(x0_4ml: Enclosure, x0_3ml: Enclosure, l3: Enclosure, l4: Enclosure) -> Enclosure
+    ensures { λ r. ⌜ r ≡ jBy enclosures (λ x. x) «x0_4ml» «x0_3ml» l3 l4 ⌝ }
 {
     let one = enclosure::point(1.0);
-    let l3 = enclosure::sub(lambda, enclosure::point(3.0));
-    let l4 = enclosure::sub(lambda, enclosure::point(4.0));
     let a = enclosure::sub(enclosure::mul(x0_4ml, l3), enclosure::mul(x0_3ml, l4));
     enclosure::div(
         enclosure::neg(enclosure::sub(a, one)),
@@ -166,7 +224,7 @@ pub fn j_of(x0_4ml: Enclosure, x0_3ml: Enclosure, lambda: Enclosure) -> Enclosur
     )
 }
 
-pub fn b_of(w: FluidEnclosures, i: Enclosure, j: Enclosure) -> Enclosure
+fn b_of(w: FluidEnclosures, i: Enclosure, j: Enclosure) -> Enclosure
     ensures { λ r. ⌜ r ≡ bOf enclosures enclosures (λ x. x) (fluidIn w) i j ⌝ }
 {
     let a = enclosure::sub(enclosure::mul(w.b1, i), enclosure::mul(w.b2, j));
@@ -176,59 +234,72 @@ pub fn b_of(w: FluidEnclosures, i: Enclosure, j: Enclosure) -> Enclosure
 // `a1s_b_ij` from its powers of x0: p to lambda, p3 to 3 - lambda, p4 to 4 - lambda.
 fn a1s_b_of(
     w: FluidEnclosures,
-    lambda: Enclosure,
+    of: LambdaEnclosures,
     p: Enclosure,
     p3: Enclosure,
     p4: Enclosure,
 ) -> Enclosure
-    ensures { λ r. ⌜ r ≡ a1sBOf enclosures enclosures (λ x. x) (fluidIn w) lambda p p3 p4 ⌝ }
+    ensures { λ r. ⌜ r ≡ a1sBBy enclosures (λ x. x) (fluidIn w) of p p3 p4 ⌝ }
 {
-    let b = b_of(w, i_of(p3, lambda), j_of(p4, p3, lambda));
-    enclosure::mul(p, enclosure::add(a1s_ij(w.zeta_x, lambda), b))
+    let b = b_of(w, i_of(p3, of.l3), j_of(p4, p3, of.l3, of.l4));
+    enclosure::mul(p, enclosure::add(a1s_ij(w.zeta_x, of), b))
 }
 
-pub fn a1s_b_ij(x0: Enclosure, w: FluidEnclosures, lambda: Enclosure) -> EnclosureAnswer
-    ensures { λ r. ⌜ answer r ≡ a1sB enclosures enclosures (λ x. x) (calls enclosures port .powf x0) (fluidIn w) lambda ⌝ }
+// A power of x0 by the logarithm of its value.
+pub fn power_of(l: Log, x0: Enclosure, y: Enclosure) -> EnclosureAnswer
+    ensures { λ r. ⌜ answer r ≡ powerAt l x0 y ⌝ }
+{
+    if !power::exponent_inside(y.value) {
+        return EnclosureAnswer::Outside;
+    }
+    let p = enclosure::point(power::raise(l, power::exponent(y.value)));
+    EnclosureAnswer::Value(enclosure::after(x0, enclosure::after(y, p)))
+}
+
+fn a1s_b_ij(l: Log, x0: Enclosure, w: FluidEnclosures, lambda: Enclosure) -> EnclosureAnswer
+    ensures { λ r. ⌜ answer r ≡ a1sB enclosures enclosures (λ x. x) (powerAt l x0) (fluidIn w) lambda ⌝ }
 {
     let l3 = enclosure::sub(enclosure::point(3.0), lambda);
     let l4 = enclosure::sub(enclosure::point(4.0), lambda);
-    let EnclosureAnswer::Value(p) = elementary_ends::powf(x0, lambda) else {
+    let EnclosureAnswer::Value(p) = power_of(l, x0, lambda) else {
         return EnclosureAnswer::Outside;
     };
-    let EnclosureAnswer::Value(p3) = elementary_ends::powf(x0, l3) else {
+    let EnclosureAnswer::Value(p3) = power_of(l, x0, l3) else {
         return EnclosureAnswer::Outside;
     };
-    let EnclosureAnswer::Value(p4) = elementary_ends::powf(x0, l4) else {
+    let EnclosureAnswer::Value(p4) = power_of(l, x0, l4) else {
         return EnclosureAnswer::Outside;
     };
-    EnclosureAnswer::Value(a1s_b_of(w, lambda, p, p3, p4))
+    EnclosureAnswer::Value(a1s_b_of(w, lambda_of(lambda), p, p3, p4))
 }
 
-pub fn five_sums(
+// The powers of x0 share its logarithm, l.
+fn five_by(
+    l: Log,
     x0: Enclosure,
     w: FluidEnclosures,
     la: Enclosure,
     lr: Enclosure,
 ) -> FiveEnclosuresAnswer
-    ensures { λ r. ⌜ fiveAnswer r ≡ five enclosures enclosures (λ x. x) (calls enclosures port .powf x0) (fluidIn w) la lr ⌝ }
+    ensures { λ r. ⌜ fiveAnswer r ≡ five enclosures enclosures (λ x. x) (powerAt l x0) (fluidIn w) la lr ⌝ }
 {
     let two = enclosure::point(2.0);
     let l2a = enclosure::mul(two, la);
     let l2r = enclosure::mul(two, lr);
     let lar = enclosure::add(la, lr);
-    let EnclosureAnswer::Value(at_la) = a1s_b_ij(x0, w, la) else {
+    let EnclosureAnswer::Value(at_la) = a1s_b_ij(l, x0, w, la) else {
         return FiveEnclosuresAnswer::Outside;
     };
-    let EnclosureAnswer::Value(at_lr) = a1s_b_ij(x0, w, lr) else {
+    let EnclosureAnswer::Value(at_lr) = a1s_b_ij(l, x0, w, lr) else {
         return FiveEnclosuresAnswer::Outside;
     };
-    let EnclosureAnswer::Value(at_2la) = a1s_b_ij(x0, w, l2a) else {
+    let EnclosureAnswer::Value(at_2la) = a1s_b_ij(l, x0, w, l2a) else {
         return FiveEnclosuresAnswer::Outside;
     };
-    let EnclosureAnswer::Value(at_lalr) = a1s_b_ij(x0, w, lar) else {
+    let EnclosureAnswer::Value(at_lalr) = a1s_b_ij(l, x0, w, lar) else {
         return FiveEnclosuresAnswer::Outside;
     };
-    let EnclosureAnswer::Value(at_2lr) = a1s_b_ij(x0, w, l2r) else {
+    let EnclosureAnswer::Value(at_2lr) = a1s_b_ij(l, x0, w, l2r) else {
         return FiveEnclosuresAnswer::Outside;
     };
     FiveEnclosuresAnswer::At(FiveEnclosures {
@@ -240,25 +311,141 @@ pub fn five_sums(
     })
 }
 
+// No power has a value where x0 is outside their domain.
+fn five_sums(
+    x0: Enclosure,
+    w: FluidEnclosures,
+    la: Enclosure,
+    lr: Enclosure,
+) -> FiveEnclosuresAnswer
+    ensures { λ r. ⌜ fiveAnswer r ≡ five enclosures enclosures (λ x. x) (calls enclosures port .powf x0) (fluidIn w) la lr ⌝ }
+{
+    if !binary_log::base_inside(x0.value) {
+        return FiveEnclosuresAnswer::Outside;
+    }
+    five_by(binary_log::log_base(x0.value), x0, w, la, lr)
+}
+
 // ---- the three orders of a pair
 
-pub fn f(phi: [f64; 7], alpha: Enclosure) -> Enclosure
-    ensures { λ r. ⌜ r ≡ f enclosures phi alpha ⌝ }
+// `f` of a row of PHI, its numbers known where it is worked; a function each, with one caller.
+fn f_0(alpha: Enclosure, alpha2: Enclosure, alpha3: Enclosure) -> Enclosure
+    ensures { λ r. ⌜ r ≡ fBy phi0 alpha alpha2 alpha3 ⌝ }
 {
     let one = enclosure::point(1.0);
-    let alpha2 = enclosure::mul(alpha, alpha);
-    let alpha3 = enclosure::mul(alpha, alpha2);
-    let n1 = enclosure::mul(alpha, enclosure::point(phi[1]));
-    let n2 = enclosure::mul(alpha2, enclosure::point(phi[2]));
-    let n3 = enclosure::mul(alpha3, enclosure::point(phi[3]));
-    let n0 = enclosure::point(phi[0]);
-    let d1 = enclosure::mul(alpha, enclosure::point(phi[4]));
-    let d2 = enclosure::mul(alpha2, enclosure::point(phi[5]));
-    let d3 = enclosure::mul(alpha3, enclosure::point(phi[6]));
+    let n1 = enclosure::mul(alpha, enclosure::point(PHI[0][1]));
+    let n2 = enclosure::mul(alpha2, enclosure::point(PHI[0][2]));
+    let n3 = enclosure::mul(alpha3, enclosure::point(PHI[0][3]));
+    let n0 = enclosure::point(PHI[0][0]);
+    let d1 = enclosure::mul(alpha, enclosure::point(PHI[0][4]));
+    let d2 = enclosure::mul(alpha2, enclosure::point(PHI[0][5]));
+    let d3 = enclosure::mul(alpha3, enclosure::point(PHI[0][6]));
     enclosure::div(
         enclosure::add(enclosure::add(enclosure::add(n1, n2), n3), n0),
         enclosure::add(enclosure::add(enclosure::add(d1, d2), d3), one),
     )
+}
+
+fn f_1(alpha: Enclosure, alpha2: Enclosure, alpha3: Enclosure) -> Enclosure
+    ensures { λ r. ⌜ r ≡ fBy phi1 alpha alpha2 alpha3 ⌝ }
+{
+    let one = enclosure::point(1.0);
+    let n1 = enclosure::mul(alpha, enclosure::point(PHI[1][1]));
+    let n2 = enclosure::mul(alpha2, enclosure::point(PHI[1][2]));
+    let n3 = enclosure::mul(alpha3, enclosure::point(PHI[1][3]));
+    let n0 = enclosure::point(PHI[1][0]);
+    let d1 = enclosure::mul(alpha, enclosure::point(PHI[1][4]));
+    let d2 = enclosure::mul(alpha2, enclosure::point(PHI[1][5]));
+    let d3 = enclosure::mul(alpha3, enclosure::point(PHI[1][6]));
+    enclosure::div(
+        enclosure::add(enclosure::add(enclosure::add(n1, n2), n3), n0),
+        enclosure::add(enclosure::add(enclosure::add(d1, d2), d3), one),
+    )
+}
+
+fn f_2(alpha: Enclosure, alpha2: Enclosure, alpha3: Enclosure) -> Enclosure
+    ensures { λ r. ⌜ r ≡ fBy phi2 alpha alpha2 alpha3 ⌝ }
+{
+    let one = enclosure::point(1.0);
+    let n1 = enclosure::mul(alpha, enclosure::point(PHI[2][1]));
+    let n2 = enclosure::mul(alpha2, enclosure::point(PHI[2][2]));
+    let n3 = enclosure::mul(alpha3, enclosure::point(PHI[2][3]));
+    let n0 = enclosure::point(PHI[2][0]);
+    let d1 = enclosure::mul(alpha, enclosure::point(PHI[2][4]));
+    let d2 = enclosure::mul(alpha2, enclosure::point(PHI[2][5]));
+    let d3 = enclosure::mul(alpha3, enclosure::point(PHI[2][6]));
+    enclosure::div(
+        enclosure::add(enclosure::add(enclosure::add(n1, n2), n3), n0),
+        enclosure::add(enclosure::add(enclosure::add(d1, d2), d3), one),
+    )
+}
+
+fn f_3(alpha: Enclosure, alpha2: Enclosure, alpha3: Enclosure) -> Enclosure
+    ensures { λ r. ⌜ r ≡ fBy phi3 alpha alpha2 alpha3 ⌝ }
+{
+    let one = enclosure::point(1.0);
+    let n1 = enclosure::mul(alpha, enclosure::point(PHI[3][1]));
+    let n2 = enclosure::mul(alpha2, enclosure::point(PHI[3][2]));
+    let n3 = enclosure::mul(alpha3, enclosure::point(PHI[3][3]));
+    let n0 = enclosure::point(PHI[3][0]);
+    let d1 = enclosure::mul(alpha, enclosure::point(PHI[3][4]));
+    let d2 = enclosure::mul(alpha2, enclosure::point(PHI[3][5]));
+    let d3 = enclosure::mul(alpha3, enclosure::point(PHI[3][6]));
+    enclosure::div(
+        enclosure::add(enclosure::add(enclosure::add(n1, n2), n3), n0),
+        enclosure::add(enclosure::add(enclosure::add(d1, d2), d3), one),
+    )
+}
+
+fn f_4(alpha: Enclosure, alpha2: Enclosure, alpha3: Enclosure) -> Enclosure
+    ensures { λ r. ⌜ r ≡ fBy phi4 alpha alpha2 alpha3 ⌝ }
+{
+    let one = enclosure::point(1.0);
+    let n1 = enclosure::mul(alpha, enclosure::point(PHI[4][1]));
+    let n2 = enclosure::mul(alpha2, enclosure::point(PHI[4][2]));
+    let n3 = enclosure::mul(alpha3, enclosure::point(PHI[4][3]));
+    let n0 = enclosure::point(PHI[4][0]);
+    let d1 = enclosure::mul(alpha, enclosure::point(PHI[4][4]));
+    let d2 = enclosure::mul(alpha2, enclosure::point(PHI[4][5]));
+    let d3 = enclosure::mul(alpha3, enclosure::point(PHI[4][6]));
+    enclosure::div(
+        enclosure::add(enclosure::add(enclosure::add(n1, n2), n3), n0),
+        enclosure::add(enclosure::add(enclosure::add(d1, d2), d3), one),
+    )
+}
+
+fn f_5(alpha: Enclosure, alpha2: Enclosure, alpha3: Enclosure) -> Enclosure
+    ensures { λ r. ⌜ r ≡ fBy phi5 alpha alpha2 alpha3 ⌝ }
+{
+    let one = enclosure::point(1.0);
+    let n1 = enclosure::mul(alpha, enclosure::point(PHI[5][1]));
+    let n2 = enclosure::mul(alpha2, enclosure::point(PHI[5][2]));
+    let n3 = enclosure::mul(alpha3, enclosure::point(PHI[5][3]));
+    let n0 = enclosure::point(PHI[5][0]);
+    let d1 = enclosure::mul(alpha, enclosure::point(PHI[5][4]));
+    let d2 = enclosure::mul(alpha2, enclosure::point(PHI[5][5]));
+    let d3 = enclosure::mul(alpha3, enclosure::point(PHI[5][6]));
+    enclosure::div(
+        enclosure::add(enclosure::add(enclosure::add(n1, n2), n3), n0),
+        enclosure::add(enclosure::add(enclosure::add(d1, d2), d3), one),
+    )
+}
+
+// Of an alpha that is a single point, so that both ends of its products are worked once.
+pub fn six_of(x: f64) -> SixEnclosures
+    ensures { λ r. ⌜ r ≡ sixOf (point x) ⌝ }
+{
+    let alpha = enclosure::point(x);
+    let alpha2 = enclosure::mul(alpha, alpha);
+    let alpha3 = enclosure::mul(alpha, alpha2);
+    SixEnclosures {
+        f0: f_0(alpha, alpha2, alpha3),
+        f1: f_1(alpha, alpha2, alpha3),
+        f2: f_2(alpha, alpha2, alpha3),
+        f3: f_3(alpha, alpha2, alpha3),
+        f4: f_4(alpha, alpha2, alpha3),
+        f5: f_5(alpha, alpha2, alpha3),
+    }
 }
 
 pub fn bar_of(zeta_x_bar: Enclosure) -> BarEnclosures
@@ -271,32 +458,26 @@ pub fn bar_of(zeta_x_bar: Enclosure) -> BarEnclosures
     }
 }
 
-pub fn xi(bar: BarEnclosures, alpha: Enclosure) -> Enclosure
-    ensures { λ r. ⌜ r ≡ xiOf enclosures (barIn bar) alpha ⌝ }
+pub fn xi(bar: BarEnclosures, of: SixEnclosures) -> Enclosure
+    ensures { λ r. ⌜ r ≡ xiBy (barIn bar) of ⌝ }
 {
-    let f0 = f(PHI[0], alpha);
-    let f1 = f(PHI[1], alpha);
-    let f2 = f(PHI[2], alpha);
     enclosure::add(
         enclosure::add(
-            enclosure::mul(bar.zeta_x_bar, f0),
-            enclosure::mul(bar.zx5, f1),
+            enclosure::mul(bar.zeta_x_bar, of.f0),
+            enclosure::mul(bar.zx5, of.f1),
         ),
-        enclosure::mul(bar.zx8, f2),
+        enclosure::mul(bar.zx8, of.f2),
     )
 }
 
-pub fn a3(zeta_x_bar: Enclosure, alpha: Enclosure, eps_k: Enclosure) -> EnclosureAnswer
-    ensures { λ r. ⌜ answer r ≡ a3Of enclosures (calls enclosures port) «zeta_x_bar» alpha «eps_k» ⌝ }
+pub fn a3(zeta_x_bar: Enclosure, of: SixEnclosures, eps_k: Enclosure) -> EnclosureAnswer
+    ensures { λ r. ⌜ answer r ≡ a3By «zeta_x_bar» of «eps_k» ⌝ }
 {
-    let f3 = f(PHI[3], alpha);
-    let f4 = f(PHI[4], alpha);
-    let f5 = f(PHI[5], alpha);
-    let u = enclosure::add(enclosure::mul(zeta_x_bar, f5), f4);
+    let u = enclosure::add(enclosure::mul(zeta_x_bar, of.f5), of.f4);
     let EnclosureAnswer::Value(e) = elementary_ends::exp(enclosure::mul(zeta_x_bar, u)) else {
         return EnclosureAnswer::Outside;
     };
-    let a = enclosure::mul(enclosure::mul(enclosure::neg(zeta_x_bar), f3), e);
+    let a = enclosure::mul(enclosure::mul(enclosure::neg(zeta_x_bar), of.f3), e);
     EnclosureAnswer::Value(enclosure::mul(a, enclosure::pow_up(eps_k, 3)))
 }
 
@@ -306,7 +487,7 @@ pub fn x0_of(d: Enclosure, sigma: Enclosure) -> Enclosure
     enclosure::mul(enclosure::div(enclosure::point(1.0), d), sigma)
 }
 
-pub fn pref(rho: Enclosure, d3: Enclosure, eps_k: Enclosure, c: Enclosure) -> Enclosure
+fn pref(rho: Enclosure, d3: Enclosure, eps_k: Enclosure, c: Enclosure) -> Enclosure
     ensures { λ r. ⌜ r ≡ prefOf enclosures enclosures (λ x. x) (calls enclosures port .pi) rho d3 «eps_k» c ⌝ }
 {
     let a = enclosure::mul(enclosure::mul(rho, d3), eps_k);
@@ -314,13 +495,13 @@ pub fn pref(rho: Enclosure, d3: Enclosure, eps_k: Enclosure, c: Enclosure) -> En
     enclosure::mul(enclosure::mul(b, enclosure::point(3.141592653589793)), c)
 }
 
-pub fn a1(pref: Enclosure, s: FiveEnclosures) -> Enclosure
+fn a1(pref: Enclosure, s: FiveEnclosures) -> Enclosure
     ensures { λ r. ⌜ r ≡ a1Of enclosures enclosures (λ x. x) pref (fiveIn s) ⌝ }
 {
     enclosure::mul(pref, enclosure::sub(s.at_la, s.at_lr))
 }
 
-pub fn a2(
+fn a2(
     pref: Enclosure,
     eps_k: Enclosure,
     c: Enclosure,
@@ -345,7 +526,7 @@ pub fn pair_terms(
 ) -> TermsEnclosuresAnswer
     ensures { λ r. ⌜ termsAnswer r ≡ termsOf enclosures (calls enclosures port) (fluidIn w) (barIn bar) (pairIn (enclosures .lit) p) d ⌝ }
 {
-    let alpha = enclosure::point(p.alpha);
+    let of = six_of(p.alpha);
     let eps_k = enclosure::point(p.epsilon_k);
     let c = enclosure::point(p.c);
     let x0 = x0_of(d, enclosure::point(p.sigma));
@@ -358,14 +539,14 @@ pub fn pair_terms(
         return TermsEnclosuresAnswer::Outside;
     };
     let pref = pref(w.segment_density, enclosure::pow_up(d, 3), eps_k, c);
-    let EnclosureAnswer::Value(a3) = a3(bar.zeta_x_bar, alpha, eps_k) else {
+    let EnclosureAnswer::Value(a3) = a3(bar.zeta_x_bar, of, eps_k) else {
         return TermsEnclosuresAnswer::Outside;
     };
     TermsEnclosuresAnswer::At(TermsEnclosures {
         a1: a1(pref, s),
         a2: a2(pref, eps_k, c, w.k_hs, s),
         a3: a3,
-        xi: xi(bar, alpha),
+        xi: xi(bar, of),
     })
 }
 

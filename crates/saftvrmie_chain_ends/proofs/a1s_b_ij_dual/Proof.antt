@@ -1,16 +1,31 @@
 -- `saftvrmie_chain_ends::a1s_b_ij_dual` meets its contract. Assumes nothing.
+use Rattle.saftvrmie_dispersion_ends.proofs.Shared.{a1sB-is}
 use Rattle.saftvrmie_dispersion.specs.Sutherland.{a1sB}
-use Rattle.enclosure.specs.Answer.{answer}
+use lib.Ieee.{ofBits}
+use Rattle.number.specs.Arith.{decimal}
+use Rattle.enclosure.specs.Enclosure.{enclosures}
+use Rattle.dual.specs.Dual.{duals, plainD}
 use Rattle.number.specs.Ans.{_>>=_}
 use Rattle.number.proofs.Walk.{via}
-use Rattle.number.specs.Arith.{decimal}
-use lib.Ieee.{ofBits}
+use Rattle.enclosure.specs.Answer.{answer}
 use borrow.Author.Needs.{needs}
 use Rattle.saftvrmie_chain_ends.proofs.a1s_b_ij_dual.Statement.{statement}
 use Rattle.saftvrmie_chain_ends.proofs.a1s_b_ij_dual.Tie as tie
 
-powf-requires : tie.Need-powf-requires
-powf-requires c κs = search needs
+point-requires : tie.Need-point-requires
+point-requires c κs = search needs
+
+sub-requires : tie.Need-sub-requires
+sub-requires c κs = search needs
+
+point-requires-2 : tie.Need-point-requires-2
+point-requires-2 c κs = search needs
+
+sub-requires-2 : tie.Need-sub-requires-2
+sub-requires-2 c κs = search needs
+
+power-of-requires : tie.Need-power-of-requires
+power-of-requires c κs = search needs
 
 enum-known-p : tie.Need-enum-known-p
 enum-known-p c = search needs
@@ -21,17 +36,16 @@ enum-told c = search needs
 returns : tie.Need-returns
 unfolding a1sB _>>=_ decimal ofBits
 returns c =
-    rw
-    (via answer (c .before .before .powf .ensures) (c .enum-told .given .1))
+    rw (
+      ← c .before .before .before .before .before .before .point .ensures,
+      ← c .before .before .before .before .before .sub .ensures,
+      ← c .before .before .before .before .point2 .ensures,
+      ← c .before .before .before .sub2 .ensures,
+      via answer (c .before .before .power-of .ensures) (c .enum-told .given .1),
+    )
 
-point-requires : tie.Need-point-requires
-point-requires c κs = search needs
-
-sub-requires : tie.Need-sub-requires
-sub-requires c κs = search needs
-
-powf-requires-2 : tie.Need-powf-requires-2
-powf-requires-2 c κs = search needs
+power-of-requires-2 : tie.Need-power-of-requires-2
+power-of-requires-2 c κs = search needs
 
 enum-known-p3 : tie.Need-enum-known-p3
 enum-known-p3 c = search needs
@@ -43,20 +57,16 @@ returns-2 : tie.Need-returns-2
 unfolding a1sB _>>=_ decimal ofBits
 returns-2 c =
     rw (
-      via answer (c .before .before .before .before .before .before .before .before .powf .ensures) (c .before .before .before .before .before .before .p .given .1),
-      ← c .before .before .before .before .point .ensures,
-      ← c .before .before .before .sub .ensures,
-      via answer (c .before .before .powf2 .ensures) (c .enum-told2 .given .1),
+      ← c .before .before .before .before .before .before .before .before .before .before .point .ensures,
+      ← c .before .before .before .before .before .before .before .before .before .sub .ensures,
+      ← c .before .before .before .before .before .before .before .before .point2 .ensures,
+      ← c .before .before .before .before .before .before .before .sub2 .ensures,
+      via answer (c .before .before .before .before .before .before .power-of .ensures) (c .before .before .before .before .p .given .1),
+      via answer (c .before .before .power-of2 .ensures) (c .enum-told2 .given .1),
     )
 
-point-requires-2 : tie.Need-point-requires-2
-point-requires-2 c κs = search needs
-
-sub-requires-2 : tie.Need-sub-requires-2
-sub-requires-2 c κs = search needs
-
-powf-requires-3 : tie.Need-powf-requires-3
-powf-requires-3 c κs = search needs
+power-of-requires-3 : tie.Need-power-of-requires-3
+power-of-requires-3 c κs = search needs
 
 enum-known-p4 : tie.Need-enum-known-p4
 enum-known-p4 c = search needs
@@ -68,14 +78,17 @@ returns-3 : tie.Need-returns-3
 unfolding a1sB _>>=_ decimal ofBits
 returns-3 c =
     rw (
-      via answer (c .before .before .before .before .before .before .before .before .before .before .before .before .before .before .powf .ensures) (c .before .before .before .before .before .before .before .before .before .before .before .before .p .given .1),
-      ← c .before .before .before .before .before .before .before .before .before .before .point .ensures,
-      ← c .before .before .before .before .before .before .before .before .before .sub .ensures,
-      via answer (c .before .before .before .before .before .before .before .before .powf2 .ensures) (c .before .before .before .before .before .before .p3 .given .1),
-      ← c .before .before .before .before .point2 .ensures,
-      ← c .before .before .before .sub2 .ensures,
-      via answer (c .before .before .powf3 .ensures) (c .enum-told3 .given .1),
+      ← c .before .before .before .before .before .before .before .before .before .before .before .before .before .before .point .ensures,
+      ← c .before .before .before .before .before .before .before .before .before .before .before .before .before .sub .ensures,
+      ← c .before .before .before .before .before .before .before .before .before .before .before .before .point2 .ensures,
+      ← c .before .before .before .before .before .before .before .before .before .before .before .sub2 .ensures,
+      via answer (c .before .before .before .before .before .before .before .before .before .before .power-of .ensures) (c .before .before .before .before .before .before .before .before .p .given .1),
+      via answer (c .before .before .before .before .before .before .power-of2 .ensures) (c .before .before .before .before .p3 .given .1),
+      via answer (c .before .before .power-of3 .ensures) (c .enum-told3 .given .1),
     )
+
+lambda-of-requires : tie.Need-lambda-of-requires
+lambda-of-requires c κs = search needs
 
 a1s-b-of-requires : tie.Need-a1s-b-of-requires
 a1s-b-of-requires c κs = search needs
@@ -84,13 +97,15 @@ returns-4 : tie.Need-returns-4
 unfolding a1sB _>>=_ decimal ofBits
 returns-4 c =
     rw (
-      via answer (c .before .before .before .before .before .before .before .before .before .before .before .before .before .before .before .before .powf .ensures) (c .before .before .before .before .before .before .before .before .before .before .before .before .before .before .p .given .1),
-      ← c .before .before .before .before .before .before .before .before .before .before .before .before .point .ensures,
-      ← c .before .before .before .before .before .before .before .before .before .before .before .sub .ensures,
-      via answer (c .before .before .before .before .before .before .before .before .before .before .powf2 .ensures) (c .before .before .before .before .before .before .before .before .p3 .given .1),
-      ← c .before .before .before .before .before .before .point2 .ensures,
-      ← c .before .before .before .before .before .sub2 .ensures,
-      via answer (c .before .before .before .before .powf3 .ensures) (c .before .before .p4 .given .1),
+      ← c .before .before .before .before .before .before .before .before .before .before .before .before .before .before .before .before .before .point .ensures,
+      ← c .before .before .before .before .before .before .before .before .before .before .before .before .before .before .before .before .sub .ensures,
+      ← c .before .before .before .before .before .before .before .before .before .before .before .before .before .before .before .point2 .ensures,
+      ← c .before .before .before .before .before .before .before .before .before .before .before .before .before .before .sub2 .ensures,
+      via answer (c .before .before .before .before .before .before .before .before .before .before .before .before .before .power-of .ensures) (c .before .before .before .before .before .before .before .before .before .before .before .p .given .1),
+      via answer (c .before .before .before .before .before .before .before .before .before .power-of2 .ensures) (c .before .before .before .before .before .before .before .p3 .given .1),
+      via answer (c .before .before .before .before .before .power-of3 .ensures) (c .before .before .before .p4 .given .1),
+      a1sB-is (duals enclosures) (plainD enclosures),
+      ← c .before .lambda-of .ensures,
       ← c .a1s-b-of .ensures,
     )
 
@@ -98,21 +113,22 @@ pub a1s-b-ij-dual-spec : {M : Type 1} → statement M
 a1s-b-ij-dual-spec =
     tie.close
     (tie.spec
-    powf-requires
+    point-requires
+    sub-requires
+    point-requires-2
+    sub-requires-2
+    power-of-requires
     enum-known-p
     enum-told
     returns
-    point-requires
-    sub-requires
-    powf-requires-2
+    power-of-requires-2
     enum-known-p3
     enum-told-2
     returns-2
-    point-requires-2
-    sub-requires-2
-    powf-requires-3
+    power-of-requires-3
     enum-known-p4
     enum-told-3
     returns-3
+    lambda-of-requires
     a1s-b-of-requires
     returns-4)

@@ -1,7 +1,8 @@
 -- `saftvrmie_chain_ends::a1s_ij_dual` meets its contract. Assumes nothing.
-use Rattle.saftvrmie_dispersion.specs.Sutherland.{a1s}
 use Rattle.number.specs.Arith.{decimal}
 use lib.Ieee.{ofBits}
+use Rattle.saftvrmie_dispersion_ends.specs.Shared.{a1sBy}
+use Rattle.saftvrmie_chain_ends.proofs.Sums.{quotient-of}
 use borrow.Author.Needs.{needs}
 use Rattle.saftvrmie_chain_ends.proofs.a1s_ij_dual.Statement.{statement}
 use Rattle.saftvrmie_chain_ends.proofs.a1s_ij_dual.Tie as tie
@@ -12,53 +13,48 @@ zeta-eff-dual-requires c κs = search needs
 neg-requires : tie.Need-neg-requires
 neg-requires c κs = search needs
 
-lit-requires : tie.Need-lit-requires
-lit-requires c κs = search needs
+a1s-over-requires : tie.Need-a1s-over-requires
+a1s-over-requires c κs = search needs
 
-lit-requires-2 : tie.Need-lit-requires-2
-lit-requires-2 c κs = search needs
+point-requires : tie.Need-point-requires
+point-requires c κs = search needs
+
+add-plain-requires : tie.Need-add-plain-requires
+add-plain-requires c κs = search needs
+
+a1s-under-requires : tie.Need-a1s-under-requires
+a1s-under-requires c κs = search needs
 
 mul-requires : tie.Need-mul-requires
 mul-requires c κs = search needs
 
-add-requires : tie.Need-add-requires
-add-requires c κs = search needs
-
-add-requires-2 : tie.Need-add-requires-2
-add-requires-2 c κs = search needs
-
-pow-up-requires : tie.Need-pow-up-requires
-pow-up-requires c κs = search needs
-
-less-requires : tie.Need-less-requires
-less-requires c κs = search needs
-
 mul-requires-2 : tie.Need-mul-requires-2
 mul-requires-2 c κs = search needs
 
-neg-requires-2 : tie.Need-neg-requires-2
-neg-requires-2 c κs = search needs
+mul-requires-3 : tie.Need-mul-requires-3
+mul-requires-3 c κs = search needs
 
 div-requires : tie.Need-div-requires
 div-requires c κs = search needs
 
+sub-requires : tie.Need-sub-requires
+sub-requires c κs = search needs
+
+div-requires-2 : tie.Need-div-requires-2
+div-requires-2 c κs = search needs
+
 returns : tie.Need-returns
-unfolding a1s decimal ofBits
+unfolding a1sBy decimal ofBits
 returns c =
     rw (
-      c .div .ensures,
-      c .before .neg2 .ensures,
-      c .before .before .mul2 .ensures,
-      c .before .before .before .less .ensures,
-      c .before .before .before .before .pow-up .ensures,
-      c .before .before .before .before .before .add2 .ensures,
-      c .before .before .before .before .before .before .add .ensures,
-      c .before .before .before .before .before .before .before .mul .ensures,
-      c .before .before .before .before .before .before .before .before .lit2 .ensures,
-      c .before .before .before .before .before .before .before .before .before .lit .ensures,
-      c .before .before .before .before .before .before .before .before .before .before .neg .ensures,
-      c .before .before .before .before .before .before .before .before .before .before .before .zeta-eff-dual .ensures,
+      ← c .before .before .before .before .before .before .before .before .before .before .before .zeta-eff-dual .ensures,
+      ← c .before .before .before .before .before .before .before .before .before .before .neg .ensures,
+      ← c .before .before .before .before .before .before .before .before .before .a1s-over .ensures,
+      ← c .before .before .before .before .before .before .before .before .point .ensures,
+      ← c .before .before .before .before .before .before .before .add-plain .ensures,
+      ← c .before .before .before .before .before .before .a1s-under .ensures,
     )
+    (quotient-of _ _ (c .before .before .before .before .before .mul .ensures) (c .before .before .before .before .mul2 .ensures) (c .before .before .before .mul3 .ensures) (c .before .before .div .ensures) (c .before .sub .ensures) (c .div2 .ensures))
 
 pub a1s-ij-dual-spec : {M : Type 1} → statement M
 a1s-ij-dual-spec =
@@ -66,14 +62,14 @@ a1s-ij-dual-spec =
     (tie.spec
     zeta-eff-dual-requires
     neg-requires
-    lit-requires
-    lit-requires-2
+    a1s-over-requires
+    point-requires
+    add-plain-requires
+    a1s-under-requires
     mul-requires
-    add-requires
-    add-requires-2
-    pow-up-requires
-    less-requires
     mul-requires-2
-    neg-requires-2
+    mul-requires-3
     div-requires
+    sub-requires
+    div-requires-2
     returns)

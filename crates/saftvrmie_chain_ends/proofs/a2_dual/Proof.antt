@@ -1,37 +1,31 @@
 -- `saftvrmie_chain_ends::a2_dual` meets its contract. Assumes nothing.
 use Rattle.saftvrmie_dispersion.specs.Terms.{a2Of}
-use Rattle.number.specs.Arith.{decimal}
 use lib.Ieee.{ofBits}
+use Rattle.number.specs.Arith.{decimal}
 use borrow.Author.Needs.{needs}
 use Rattle.saftvrmie_chain_ends.proofs.a2_dual.Statement.{statement}
 use Rattle.saftvrmie_chain_ends.proofs.a2_dual.Tie as tie
 
-plain-requires : tie.Need-plain-requires
-plain-requires c κs = search needs
+mul-plain-requires : tie.Need-mul-plain-requires
+mul-plain-requires c κs = search needs
+
+mul-plain-requires-2 : tie.Need-mul-plain-requires-2
+mul-plain-requires-2 c κs = search needs
 
 mul-requires : tie.Need-mul-requires
 mul-requires c κs = search needs
 
-plain-requires-2 : tie.Need-plain-requires-2
-plain-requires-2 c κs = search needs
+point-requires : tie.Need-point-requires
+point-requires c κs = search needs
 
-mul-requires-2 : tie.Need-mul-requires-2
-mul-requires-2 c κs = search needs
+mul-plain-requires-3 : tie.Need-mul-plain-requires-3
+mul-plain-requires-3 c κs = search needs
 
-mul-requires-3 : tie.Need-mul-requires-3
-mul-requires-3 c κs = search needs
+point-requires-2 : tie.Need-point-requires-2
+point-requires-2 c κs = search needs
 
-lit-requires : tie.Need-lit-requires
-lit-requires c κs = search needs
-
-mul-requires-4 : tie.Need-mul-requires-4
-mul-requires-4 c κs = search needs
-
-lit-requires-2 : tie.Need-lit-requires-2
-lit-requires-2 c κs = search needs
-
-mul-requires-5 : tie.Need-mul-requires-5
-mul-requires-5 c κs = search needs
+mul-plain-requires-4 : tie.Need-mul-plain-requires-4
+mul-plain-requires-4 c κs = search needs
 
 sub-requires : tie.Need-sub-requires
 sub-requires c κs = search needs
@@ -39,41 +33,37 @@ sub-requires c κs = search needs
 add-requires : tie.Need-add-requires
 add-requires c κs = search needs
 
-mul-requires-6 : tie.Need-mul-requires-6
-mul-requires-6 c κs = search needs
+mul-requires-2 : tie.Need-mul-requires-2
+mul-requires-2 c κs = search needs
 
 returns : tie.Need-returns
 unfolding a2Of decimal ofBits
 returns c =
     rw (
-      c .mul6 .ensures,
+      c .mul2 .ensures,
       c .before .add .ensures,
       c .before .before .sub .ensures,
-      c .before .before .before .mul5 .ensures,
-      c .before .before .before .before .lit2 .ensures,
-      c .before .before .before .before .before .mul4 .ensures,
-      c .before .before .before .before .before .before .lit .ensures,
-      c .before .before .before .before .before .before .before .mul3 .ensures,
-      c .before .before .before .before .before .before .before .before .mul2 .ensures,
-      c .before .before .before .before .before .before .before .before .before .plain2 .ensures,
-      c .before .before .before .before .before .before .before .before .before .before .mul .ensures,
-      c .before .before .before .before .before .before .before .before .before .before .before .plain .ensures,
+      c .before .before .before .mul-plain4 .ensures,
+      c .before .before .before .before .point2 .ensures,
+      c .before .before .before .before .before .mul-plain3 .ensures,
+      c .before .before .before .before .before .before .point .ensures,
+      c .before .before .before .before .before .before .before .mul .ensures,
+      c .before .before .before .before .before .before .before .before .mul-plain2 .ensures,
+      c .before .before .before .before .before .before .before .before .before .mul-plain .ensures,
     )
 
 pub a2-dual-spec : {M : Type 1} → statement M
 a2-dual-spec =
     tie.close
     (tie.spec
-    plain-requires
+    mul-plain-requires
+    mul-plain-requires-2
     mul-requires
-    plain-requires-2
-    mul-requires-2
-    mul-requires-3
-    lit-requires
-    mul-requires-4
-    lit-requires-2
-    mul-requires-5
+    point-requires
+    mul-plain-requires-3
+    point-requires-2
+    mul-plain-requires-4
     sub-requires
     add-requires
-    mul-requires-6
+    mul-requires-2
     returns)

@@ -1,10 +1,11 @@
 -- `saftvrmie_chain_ends::chain_pure` meets its contract. Assumes nothing.
-use Rattle.saftvrmie_dispersion.specs.Chain.{chainPure}
+use Rattle.saftvrmie_dispersion_ends.proofs.Shared.{xi-is, a3-is}
 use Rattle.saftvrmie_chain_ends.specs.Duals.{ordersDualAnswer}
+use Rattle.saftvrmie_dispersion.specs.Chain.{chainPure}
 use Rattle.enclosure_dual.specs.Value.{dualOf}
-use Rattle.enclosure.specs.Answer.{answer}
 use Rattle.number.specs.Ans.{_>>=_}
 use Rattle.number.proofs.Walk.{via}
+use Rattle.enclosure.specs.Answer.{answer}
 use borrow.Author.Needs.{needs}
 use Rattle.saftvrmie_chain_ends.proofs.chain_pure.Statement.{statement}
 use Rattle.saftvrmie_chain_ends.proofs.chain_pure.Tie as tie
@@ -21,14 +22,13 @@ enum-told c = search needs
 returns : tie.Need-returns
 unfolding chainPure _>>=_ dualOf
 returns c =
-    rw (
-    via ordersDualAnswer ((c .before .before .orders-dual) .ensures) ((c .enum-told) .given .1))
+    rw (via ordersDualAnswer (c .before .before .orders-dual .ensures) (c .enum-told .given .1))
+
+six-of-requires : tie.Need-six-of-requires
+six-of-requires c κs = search needs
 
 point-requires : tie.Need-point-requires
 point-requires c κs = search needs
-
-point-requires-2 : tie.Need-point-requires-2
-point-requires-2 c κs = search needs
 
 a3-requires : tie.Need-a3-requires
 a3-requires c κs = search needs
@@ -43,10 +43,11 @@ returns-2 : tie.Need-returns-2
 unfolding chainPure _>>=_ dualOf
 returns-2 c =
     rw (
-      via ordersDualAnswer ((c .before .before .before .before .before .before .before .before .before .orders-dual) .ensures) ((c .before .before .before .before .before .before .before .o) .given .1),
-      ← (c .before .before .before .before .before .point) .ensures,
-      ← (c .before .before .before .before .point2) .ensures,
-      via answer ((c .before .before .a3) .ensures) ((c .enum-told2) .given .1),
+      a3-is,
+      via ordersDualAnswer (c .before .before .before .before .before .before .before .before .before .orders-dual .ensures) (c .before .before .before .before .before .before .before .o .given .1),
+      ← c .before .before .before .before .before .six-of .ensures,
+      ← c .before .before .before .before .point .ensures,
+      via answer (c .before .before .a3 .ensures) (c .enum-told2 .given .1),
     )
 
 xi-requires : tie.Need-xi-requires
@@ -68,13 +69,13 @@ returns-3 : tie.Need-returns-3
 unfolding chainPure _>>=_ dualOf
 returns-3 c =
     rw (
-      via ordersDualAnswer ((c .before .before .before .before .before .before .before .before .before .before .before .before .before .before .before .before .before .orders-dual) .ensures) ((c .before .before .before .before .before .before .before .before .before .before .before .before .before .before .before .o) .given .1),
-      ← (c .before .before .before .before .before .before .before .before .before .before .before .before .before .point) .ensures,
-      ← (c .before .before .before .before .before .before .before .before .before .before .before .before .point2) .ensures,
-      via answer ((c .before .before .before .before .before .before .before .before .before .before .a3) .ensures) ((c .before .before .before .before .before .before .before .before .a32) .given .1),
-      (c .before .before .before .before .before .before .before .before .before .before .before .before .point2) .ensures,
-      (c .before .before .before .before .before .before .before .before .before .before .before .before .before .point) .ensures,
-      via answer ((c .before .before .link-term) .ensures) ((c .enum-told3) .given .1),
+      a3-is,
+      via ordersDualAnswer (c .before .before .before .before .before .before .before .before .before .before .before .before .before .before .before .before .before .orders-dual .ensures) (c .before .before .before .before .before .before .before .before .before .before .before .before .before .before .before .o .given .1),
+      ← c .before .before .before .before .before .before .before .before .before .before .before .before .before .six-of .ensures,
+      ← c .before .before .before .before .before .before .before .before .before .before .before .before .point .ensures,
+      via answer (c .before .before .before .before .before .before .before .before .before .before .a3 .ensures) (c .before .before .before .before .before .before .before .before .a32 .given .1),
+      c .before .before .before .before .before .before .before .before .before .before .before .before .point .ensures,
+      via answer (c .before .before .link-term .ensures) (c .enum-told3 .given .1),
     )
 
 add-link-requires : tie.Need-add-link-requires
@@ -84,16 +85,17 @@ returns-4 : tie.Need-returns-4
 unfolding chainPure _>>=_ dualOf
 returns-4 c =
     rw (
-      (c .add-link) .ensures,
-      (c .before .before .before .before .before .add-pure) .ensures,
-      (c .before .before .before .before .before .before .xi) .ensures,
-      via ordersDualAnswer ((c .before .before .before .before .before .before .before .before .before .before .before .before .before .before .before .before .before .before .before .orders-dual) .ensures) ((c .before .before .before .before .before .before .before .before .before .before .before .before .before .before .before .before .before .o) .given .1),
-      ← (c .before .before .before .before .before .before .before .before .before .before .before .before .before .before .before .point) .ensures,
-      ← (c .before .before .before .before .before .before .before .before .before .before .before .before .before .before .point2) .ensures,
-      via answer ((c .before .before .before .before .before .before .before .before .before .before .before .before .a3) .ensures) ((c .before .before .before .before .before .before .before .before .before .before .a32) .given .1),
-      (c .before .before .before .before .before .before .before .before .before .before .before .before .before .before .point2) .ensures,
-      (c .before .before .before .before .before .before .before .before .before .before .before .before .before .before .before .point) .ensures,
-      via answer ((c .before .before .before .before .link-term) .ensures) ((c .before .before .l) .given .1),
+      a3-is,
+      xi-is,
+      c .add-link .ensures,
+      c .before .before .before .before .before .add-pure .ensures,
+      c .before .before .before .before .before .before .xi .ensures,
+      via ordersDualAnswer (c .before .before .before .before .before .before .before .before .before .before .before .before .before .before .before .before .before .before .before .orders-dual .ensures) (c .before .before .before .before .before .before .before .before .before .before .before .before .before .before .before .before .before .o .given .1),
+      ← c .before .before .before .before .before .before .before .before .before .before .before .before .before .before .before .six-of .ensures,
+      ← c .before .before .before .before .before .before .before .before .before .before .before .before .before .before .point .ensures,
+      via answer (c .before .before .before .before .before .before .before .before .before .before .before .before .a3 .ensures) (c .before .before .before .before .before .before .before .before .before .before .a32 .given .1),
+      c .before .before .before .before .before .before .before .before .before .before .before .before .before .before .point .ensures,
+      via answer (c .before .before .before .before .link-term .ensures) (c .before .before .l .given .1),
     )
 
 pub chain-pure-spec : {M : Type 1} → statement M
@@ -104,8 +106,8 @@ chain-pure-spec =
     enum-known-o
     enum-told
     returns
+    six-of-requires
     point-requires
-    point-requires-2
     a3-requires
     enum-known-a3
     enum-told-2

@@ -1,8 +1,8 @@
 -- `saftvrmie_chain_ends::fluid_dual` meets its contract. Assumes nothing.
-use Rattle.saftvrmie_dispersion.specs.Sutherland.{fluidOf}
 use Rattle.saftvrmie_dispersion.specs.Chain.{fluidDual}
-use Rattle.number.specs.Arith.{decimal}
+use Rattle.saftvrmie_dispersion.specs.Sutherland.{fluidOf}
 use lib.Ieee.{ofBits}
+use Rattle.number.specs.Arith.{decimal}
 use borrow.Author.Needs.{needs}
 use Rattle.saftvrmie_chain_ends.proofs.fluid_dual.Statement.{statement}
 use Rattle.saftvrmie_chain_ends.proofs.fluid_dual.Tie as tie
@@ -10,14 +10,14 @@ use Rattle.saftvrmie_chain_ends.proofs.fluid_dual.Tie as tie
 zeta-dual-requires : tie.Need-zeta-dual-requires
 zeta-dual-requires c κs = search needs
 
-lit-requires : tie.Need-lit-requires
-lit-requires c κs = search needs
+point-requires : tie.Need-point-requires
+point-requires c κs = search needs
 
 neg-requires : tie.Need-neg-requires
 neg-requires c κs = search needs
 
-add-requires : tie.Need-add-requires
-add-requires c κs = search needs
+add-plain-requires : tie.Need-add-plain-requires
+add-plain-requires c κs = search needs
 
 mul-requires : tie.Need-mul-requires
 mul-requires c κs = search needs
@@ -28,23 +28,23 @@ rho-dual-requires c κs = search needs
 k-hs-dual-requires : tie.Need-k-hs-dual-requires
 k-hs-dual-requires c κs = search needs
 
-lit-requires-2 : tie.Need-lit-requires-2
-lit-requires-2 c κs = search needs
+point-requires-2 : tie.Need-point-requires-2
+point-requires-2 c κs = search needs
 
-mul-requires-2 : tie.Need-mul-requires-2
-mul-requires-2 c κs = search needs
+mul-plain-requires : tie.Need-mul-plain-requires
+mul-plain-requires c κs = search needs
 
-add-requires-2 : tie.Need-add-requires-2
-add-requires-2 c κs = search needs
+add-plain-requires-2 : tie.Need-add-plain-requires-2
+add-plain-requires-2 c κs = search needs
 
-lit-requires-3 : tie.Need-lit-requires-3
-lit-requires-3 c κs = search needs
+point-requires-3 : tie.Need-point-requires-3
+point-requires-3 c κs = search needs
 
-mul-requires-3 : tie.Need-mul-requires-3
-mul-requires-3 c κs = search needs
+mul-plain-requires-2 : tie.Need-mul-plain-requires-2
+mul-plain-requires-2 c κs = search needs
 
-add-requires-3 : tie.Need-add-requires-3
-add-requires-3 c κs = search needs
+add-plain-requires-3 : tie.Need-add-plain-requires-3
+add-plain-requires-3 c κs = search needs
 
 pow-down-requires : tie.Need-pow-down-requires
 pow-down-requires c κs = search needs
@@ -54,18 +54,18 @@ unfolding fluidDual fluidOf decimal ofBits
 returns c =
     rw (
       c .pow-down .ensures,
-      c .before .add3 .ensures,
-      c .before .before .mul3 .ensures,
-      c .before .before .before .lit3 .ensures,
-      c .before .before .before .before .add2 .ensures,
-      c .before .before .before .before .before .mul2 .ensures,
-      c .before .before .before .before .before .before .lit2 .ensures,
+      c .before .add-plain3 .ensures,
+      c .before .before .mul-plain2 .ensures,
+      c .before .before .before .point3 .ensures,
+      c .before .before .before .before .add-plain2 .ensures,
+      c .before .before .before .before .before .mul-plain .ensures,
+      c .before .before .before .before .before .before .point2 .ensures,
       c .before .before .before .before .before .before .before .k-hs-dual .ensures,
       c .before .before .before .before .before .before .before .before .rho-dual .ensures,
       c .before .before .before .before .before .before .before .before .before .mul .ensures,
-      c .before .before .before .before .before .before .before .before .before .before .add .ensures,
+      c .before .before .before .before .before .before .before .before .before .before .add-plain .ensures,
       c .before .before .before .before .before .before .before .before .before .before .before .neg .ensures,
-      c .before .before .before .before .before .before .before .before .before .before .before .before .lit .ensures,
+      c .before .before .before .before .before .before .before .before .before .before .before .before .point .ensures,
       c .before .before .before .before .before .before .before .before .before .before .before .before .before .zeta-dual .ensures,
     )
 
@@ -74,17 +74,17 @@ fluid-dual-spec =
     tie.close
     (tie.spec
     zeta-dual-requires
-    lit-requires
+    point-requires
     neg-requires
-    add-requires
+    add-plain-requires
     mul-requires
     rho-dual-requires
     k-hs-dual-requires
-    lit-requires-2
-    mul-requires-2
-    add-requires-2
-    lit-requires-3
-    mul-requires-3
-    add-requires-3
+    point-requires-2
+    mul-plain-requires
+    add-plain-requires-2
+    point-requires-3
+    mul-plain-requires-2
+    add-plain-requires-3
     pow-down-requires
     returns)

@@ -1,13 +1,16 @@
 -- `saftvrmie_chain_ends::k_hs_dual` meets its contract. Assumes nothing.
 use Rattle.saftvrmie_dispersion.specs.Sutherland.{kHs}
-use Rattle.number.specs.Arith.{decimal}
 use lib.Ieee.{ofBits}
+use Rattle.number.specs.Arith.{decimal}
 use borrow.Author.Needs.{needs}
 use Rattle.saftvrmie_chain_ends.proofs.k_hs_dual.Statement.{statement}
 use Rattle.saftvrmie_chain_ends.proofs.k_hs_dual.Tie as tie
 
-lit-requires : tie.Need-lit-requires
-lit-requires c κs = search needs
+point-requires : tie.Need-point-requires
+point-requires c κs = search needs
+
+plain-requires : tie.Need-plain-requires
+plain-requires c κs = search needs
 
 sub-requires : tie.Need-sub-requires
 sub-requires c κs = search needs
@@ -27,11 +30,11 @@ pow-up-requires-3 c κs = search needs
 sub-requires-2 : tie.Need-sub-requires-2
 sub-requires-2 c κs = search needs
 
-lit-requires-2 : tie.Need-lit-requires-2
-lit-requires-2 c κs = search needs
+point-requires-2 : tie.Need-point-requires-2
+point-requires-2 c κs = search needs
 
-mul-requires : tie.Need-mul-requires
-mul-requires c κs = search needs
+mul-plain-requires : tie.Need-mul-plain-requires
+mul-plain-requires c κs = search needs
 
 pow-up-requires-4 : tie.Need-pow-up-requires-4
 pow-up-requires-4 c κs = search needs
@@ -39,8 +42,8 @@ pow-up-requires-4 c κs = search needs
 add-requires-2 : tie.Need-add-requires-2
 add-requires-2 c κs = search needs
 
-add-requires-3 : tie.Need-add-requires-3
-add-requires-3 c κs = search needs
+add-plain-requires : tie.Need-add-plain-requires
+add-plain-requires c κs = search needs
 
 div-requires : tie.Need-div-requires
 div-requires c κs = search needs
@@ -50,35 +53,37 @@ unfolding kHs decimal ofBits
 returns c =
     rw (
       c .div .ensures,
-      c .before .add3 .ensures,
+      c .before .add-plain .ensures,
       c .before .before .add2 .ensures,
       c .before .before .before .pow-up4 .ensures,
-      c .before .before .before .before .mul .ensures,
-      c .before .before .before .before .before .lit2 .ensures,
+      c .before .before .before .before .mul-plain .ensures,
+      c .before .before .before .before .before .point2 .ensures,
       c .before .before .before .before .before .before .sub2 .ensures,
       c .before .before .before .before .before .before .before .pow-up3 .ensures,
       c .before .before .before .before .before .before .before .before .add .ensures,
       c .before .before .before .before .before .before .before .before .before .pow-up2 .ensures,
       c .before .before .before .before .before .before .before .before .before .before .pow-up .ensures,
       c .before .before .before .before .before .before .before .before .before .before .before .sub .ensures,
-      c .before .before .before .before .before .before .before .before .before .before .before .before .lit .ensures,
+      c .before .before .before .before .before .before .before .before .before .before .before .before .plain .ensures,
+      c .before .before .before .before .before .before .before .before .before .before .before .before .before .point .ensures,
     )
 
 pub k-hs-dual-spec : {M : Type 1} → statement M
 k-hs-dual-spec =
     tie.close
     (tie.spec
-    lit-requires
+    point-requires
+    plain-requires
     sub-requires
     pow-up-requires
     pow-up-requires-2
     add-requires
     pow-up-requires-3
     sub-requires-2
-    lit-requires-2
-    mul-requires
+    point-requires-2
+    mul-plain-requires
     pow-up-requires-4
     add-requires-2
-    add-requires-3
+    add-plain-requires
     div-requires
     returns)

@@ -1,69 +1,54 @@
 -- `saftvrmie_chain_ends::pref_dual` meets its contract. Assumes nothing.
 use Rattle.saftvrmie_dispersion.specs.Terms.{prefOf}
-use Rattle.number.specs.Arith.{decimal}
 use lib.Ieee.{ofBits}
+use Rattle.number.specs.Arith.{decimal}
 use borrow.Author.Needs.{needs}
 use Rattle.saftvrmie_chain_ends.proofs.pref_dual.Statement.{statement}
 use Rattle.saftvrmie_chain_ends.proofs.pref_dual.Tie as tie
 
-plain-requires : tie.Need-plain-requires
-plain-requires c κs = search needs
+mul-plain-requires : tie.Need-mul-plain-requires
+mul-plain-requires c κs = search needs
 
-mul-requires : tie.Need-mul-requires
-mul-requires c κs = search needs
+mul-plain-requires-2 : tie.Need-mul-plain-requires-2
+mul-plain-requires-2 c κs = search needs
 
-plain-requires-2 : tie.Need-plain-requires-2
-plain-requires-2 c κs = search needs
+point-requires : tie.Need-point-requires
+point-requires c κs = search needs
 
-mul-requires-2 : tie.Need-mul-requires-2
-mul-requires-2 c κs = search needs
+mul-plain-requires-3 : tie.Need-mul-plain-requires-3
+mul-plain-requires-3 c κs = search needs
 
-lit-requires : tie.Need-lit-requires
-lit-requires c κs = search needs
+point-requires-2 : tie.Need-point-requires-2
+point-requires-2 c κs = search needs
 
-mul-requires-3 : tie.Need-mul-requires-3
-mul-requires-3 c κs = search needs
+mul-plain-requires-4 : tie.Need-mul-plain-requires-4
+mul-plain-requires-4 c κs = search needs
 
-lit-requires-2 : tie.Need-lit-requires-2
-lit-requires-2 c κs = search needs
-
-mul-requires-4 : tie.Need-mul-requires-4
-mul-requires-4 c κs = search needs
-
-plain-requires-3 : tie.Need-plain-requires-3
-plain-requires-3 c κs = search needs
-
-mul-requires-5 : tie.Need-mul-requires-5
-mul-requires-5 c κs = search needs
+mul-plain-requires-5 : tie.Need-mul-plain-requires-5
+mul-plain-requires-5 c κs = search needs
 
 returns : tie.Need-returns
 unfolding prefOf decimal ofBits
 returns c =
     rw (
-      c .mul5 .ensures,
-      c .before .plain3 .ensures,
-      c .before .before .mul4 .ensures,
-      c .before .before .before .lit2 .ensures,
-      c .before .before .before .before .mul3 .ensures,
-      c .before .before .before .before .before .lit .ensures,
-      c .before .before .before .before .before .before .mul2 .ensures,
-      c .before .before .before .before .before .before .before .plain2 .ensures,
-      c .before .before .before .before .before .before .before .before .mul .ensures,
-      c .before .before .before .before .before .before .before .before .before .plain .ensures,
+      c .mul-plain5 .ensures,
+      c .before .mul-plain4 .ensures,
+      c .before .before .point2 .ensures,
+      c .before .before .before .mul-plain3 .ensures,
+      c .before .before .before .before .point .ensures,
+      c .before .before .before .before .before .mul-plain2 .ensures,
+      c .before .before .before .before .before .before .mul-plain .ensures,
     )
 
 pub pref-dual-spec : {M : Type 1} → statement M
 pref-dual-spec =
     tie.close
     (tie.spec
-    plain-requires
-    mul-requires
-    plain-requires-2
-    mul-requires-2
-    lit-requires
-    mul-requires-3
-    lit-requires-2
-    mul-requires-4
-    plain-requires-3
-    mul-requires-5
+    mul-plain-requires
+    mul-plain-requires-2
+    point-requires
+    mul-plain-requires-3
+    point-requires-2
+    mul-plain-requires-4
+    mul-plain-requires-5
     returns)

@@ -1,10 +1,12 @@
 -- `saftvrmie_dispersion_ends::a1s_b_ij` meets its contract. Assumes nothing.
+use Rattle.saftvrmie_dispersion_ends.proofs.Shared.{a1sB-is}
 use Rattle.saftvrmie_dispersion.specs.Sutherland.{a1sB}
-use Rattle.enclosure.specs.Answer.{answer}
-use Rattle.number.proofs.Walk.{via}
 use Rattle.number.specs.Ans.{_>>=_}
-use Rattle.number.specs.Arith.{decimal}
+use Rattle.number.proofs.Walk.{via}
+use Rattle.enclosure.specs.Answer.{answer}
 use lib.Ieee.{ofBits, neg}
+use Rattle.enclosure.specs.Enclosure.{enclosures}
+use Rattle.number.specs.Arith.{decimal}
 use borrow.Author.Needs.{needs}
 use Rattle.saftvrmie_dispersion_ends.proofs.a1s_b_ij.Statement.{statement}
 use Rattle.saftvrmie_dispersion_ends.proofs.a1s_b_ij.Tie as tie
@@ -21,8 +23,8 @@ point-requires-2 c κs = search needs
 sub-requires-2 : tie.Need-sub-requires-2
 sub-requires-2 c κs = search needs
 
-powf-requires : tie.Need-powf-requires
-powf-requires c κs = search needs
+power-of-requires : tie.Need-power-of-requires
+power-of-requires c κs = search needs
 
 enum-known-p : tie.Need-enum-known-p
 enum-known-p c = search needs
@@ -38,11 +40,11 @@ returns c =
       ← c .before .before .before .before .before .sub .ensures,
       ← c .before .before .before .before .point2 .ensures,
       ← c .before .before .before .sub2 .ensures,
-      via answer (c .before .before .powf .ensures) (c .enum-told .given .1),
+      via answer (c .before .before .power-of .ensures) (c .enum-told .given .1),
     )
 
-powf-requires-2 : tie.Need-powf-requires-2
-powf-requires-2 c κs = search needs
+power-of-requires-2 : tie.Need-power-of-requires-2
+power-of-requires-2 c κs = search needs
 
 enum-known-p3 : tie.Need-enum-known-p3
 enum-known-p3 c = search needs
@@ -58,12 +60,12 @@ returns-2 c =
       ← c .before .before .before .before .before .before .before .before .before .sub .ensures,
       ← c .before .before .before .before .before .before .before .before .point2 .ensures,
       ← c .before .before .before .before .before .before .before .sub2 .ensures,
-      via answer (c .before .before .before .before .before .before .powf .ensures) (c .before .before .before .before .p .given .1),
-      via answer (c .before .before .powf2 .ensures) (c .enum-told2 .given .1),
+      via answer (c .before .before .before .before .before .before .power-of .ensures) (c .before .before .before .before .p .given .1),
+      via answer (c .before .before .power-of2 .ensures) (c .enum-told2 .given .1),
     )
 
-powf-requires-3 : tie.Need-powf-requires-3
-powf-requires-3 c κs = search needs
+power-of-requires-3 : tie.Need-power-of-requires-3
+power-of-requires-3 c κs = search needs
 
 enum-known-p4 : tie.Need-enum-known-p4
 enum-known-p4 c = search needs
@@ -79,10 +81,13 @@ returns-3 c =
       ← c .before .before .before .before .before .before .before .before .before .before .before .before .before .sub .ensures,
       ← c .before .before .before .before .before .before .before .before .before .before .before .before .point2 .ensures,
       ← c .before .before .before .before .before .before .before .before .before .before .before .sub2 .ensures,
-      via answer (c .before .before .before .before .before .before .before .before .before .before .powf .ensures) (c .before .before .before .before .before .before .before .before .p .given .1),
-      via answer (c .before .before .before .before .before .before .powf2 .ensures) (c .before .before .before .before .p3 .given .1),
-      via answer (c .before .before .powf3 .ensures) (c .enum-told3 .given .1),
+      via answer (c .before .before .before .before .before .before .before .before .before .before .power-of .ensures) (c .before .before .before .before .before .before .before .before .p .given .1),
+      via answer (c .before .before .before .before .before .before .power-of2 .ensures) (c .before .before .before .before .p3 .given .1),
+      via answer (c .before .before .power-of3 .ensures) (c .enum-told3 .given .1),
     )
+
+lambda-of-requires : tie.Need-lambda-of-requires
+lambda-of-requires c κs = search needs
 
 a1s-b-of-requires : tie.Need-a1s-b-of-requires
 a1s-b-of-requires c κs = search needs
@@ -91,13 +96,15 @@ returns-4 : tie.Need-returns-4
 unfolding a1sB _>>=_ decimal ofBits neg
 returns-4 c =
     rw (
-      ← c .before .before .before .before .before .before .before .before .before .before .before .before .before .before .before .before .point .ensures,
-      ← c .before .before .before .before .before .before .before .before .before .before .before .before .before .before .before .sub .ensures,
-      ← c .before .before .before .before .before .before .before .before .before .before .before .before .before .before .point2 .ensures,
-      ← c .before .before .before .before .before .before .before .before .before .before .before .before .before .sub2 .ensures,
-      via answer (c .before .before .before .before .before .before .before .before .before .before .before .before .powf .ensures) (c .before .before .before .before .before .before .before .before .before .before .p .given .1),
-      via answer (c .before .before .before .before .before .before .before .before .powf2 .ensures) (c .before .before .before .before .before .before .p3 .given .1),
-      via answer (c .before .before .before .before .powf3 .ensures) (c .before .before .p4 .given .1),
+      ← c .before .before .before .before .before .before .before .before .before .before .before .before .before .before .before .before .before .point .ensures,
+      ← c .before .before .before .before .before .before .before .before .before .before .before .before .before .before .before .before .sub .ensures,
+      ← c .before .before .before .before .before .before .before .before .before .before .before .before .before .before .before .point2 .ensures,
+      ← c .before .before .before .before .before .before .before .before .before .before .before .before .before .before .sub2 .ensures,
+      via answer (c .before .before .before .before .before .before .before .before .before .before .before .before .before .power-of .ensures) (c .before .before .before .before .before .before .before .before .before .before .before .p .given .1),
+      via answer (c .before .before .before .before .before .before .before .before .before .power-of2 .ensures) (c .before .before .before .before .before .before .before .p3 .given .1),
+      via answer (c .before .before .before .before .before .power-of3 .ensures) (c .before .before .before .p4 .given .1),
+      a1sB-is enclosures (λ x. x),
+      ← c .before .lambda-of .ensures,
       ← c .a1s-b-of .ensures,
     )
 
@@ -109,17 +116,18 @@ a1s-b-ij-spec =
     sub-requires
     point-requires-2
     sub-requires-2
-    powf-requires
+    power-of-requires
     enum-known-p
     enum-told
     returns
-    powf-requires-2
+    power-of-requires-2
     enum-known-p3
     enum-told-2
     returns-2
-    powf-requires-3
+    power-of-requires-3
     enum-known-p4
     enum-told-3
     returns-3
+    lambda-of-requires
     a1s-b-of-requires
     returns-4)

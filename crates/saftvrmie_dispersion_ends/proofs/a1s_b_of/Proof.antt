@@ -1,5 +1,5 @@
 -- `saftvrmie_dispersion_ends::a1s_b_of` meets its contract. Assumes nothing.
-use Rattle.saftvrmie_dispersion.specs.Sutherland.{a1sBOf}
+use Rattle.saftvrmie_dispersion_ends.specs.Shared.{a1sBBy}
 use borrow.Author.Needs.{needs}
 use Rattle.saftvrmie_dispersion_ends.proofs.a1s_b_of.Statement.{statement}
 use Rattle.saftvrmie_dispersion_ends.proofs.a1s_b_of.Tie as tie
@@ -23,7 +23,7 @@ mul-requires : tie.Need-mul-requires
 mul-requires c κs = search needs
 
 returns : tie.Need-returns
-unfolding a1sBOf
+unfolding a1sBBy
 returns c =
     rw (
       c .mul .ensures,

@@ -1,7 +1,8 @@
 -- `saftvrmie_dispersion_ends::a1s_ij` meets its contract. Assumes nothing.
-use Rattle.saftvrmie_dispersion.specs.Sutherland.{a1s}
-use Rattle.number.specs.Arith.{decimal}
+use Rattle.saftvrmie_dispersion_ends.proofs.Shared.{cube-is}
+use Rattle.saftvrmie_dispersion_ends.specs.Shared.{a1sBy}
 use lib.Ieee.{ofBits, neg}
+use Rattle.number.specs.Arith.{decimal}
 use borrow.Author.Needs.{needs}
 use Rattle.saftvrmie_dispersion_ends.proofs.a1s_ij.Statement.{statement}
 use Rattle.saftvrmie_dispersion_ends.proofs.a1s_ij.Tie as tie
@@ -30,30 +31,31 @@ neg-requires-2 c κs = search needs
 add-requires-2 : tie.Need-add-requires-2
 add-requires-2 c κs = search needs
 
-pow-up-requires : tie.Need-pow-up-requires
-pow-up-requires c κs = search needs
-
-point-requires-3 : tie.Need-point-requires-3
-point-requires-3 c κs = search needs
-
-sub-requires : tie.Need-sub-requires
-sub-requires c κs = search needs
-
 mul-requires-2 : tie.Need-mul-requires-2
 mul-requires-2 c κs = search needs
+
+mul-requires-3 : tie.Need-mul-requires-3
+mul-requires-3 c κs = search needs
+
+mul-requires-4 : tie.Need-mul-requires-4
+mul-requires-4 c κs = search needs
+
+mul-requires-5 : tie.Need-mul-requires-5
+mul-requires-5 c κs = search needs
 
 div-requires : tie.Need-div-requires
 div-requires c κs = search needs
 
 returns : tie.Need-returns
-unfolding a1s decimal ofBits neg
+unfolding a1sBy decimal ofBits neg
 returns c =
     rw (
+      cube-is,
       c .div .ensures,
-      c .before .mul2 .ensures,
-      c .before .before .sub .ensures,
-      c .before .before .before .point3 .ensures,
-      c .before .before .before .before .pow-up .ensures,
+      c .before .mul5 .ensures,
+      c .before .before .mul4 .ensures,
+      c .before .before .before .mul3 .ensures,
+      c .before .before .before .before .mul2 .ensures,
       c .before .before .before .before .before .add2 .ensures,
       c .before .before .before .before .before .before .neg2 .ensures,
       c .before .before .before .before .before .before .before .add .ensures,
@@ -76,9 +78,9 @@ a1s-ij-spec =
     add-requires
     neg-requires-2
     add-requires-2
-    pow-up-requires
-    point-requires-3
-    sub-requires
     mul-requires-2
+    mul-requires-3
+    mul-requires-4
+    mul-requires-5
     div-requires
     returns)

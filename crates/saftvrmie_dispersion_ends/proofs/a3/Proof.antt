@@ -1,31 +1,13 @@
 -- `saftvrmie_dispersion_ends::a3` meets its contract. Assumes nothing.
-use Rattle.saftvrmie_dispersion.specs.Terms.{a3Of}
-use Rattle.enclosure.specs.Answer.{answer}
-use Rattle.number.proofs.Walk.{via}
+use Rattle.saftvrmie_dispersion_ends.specs.Shared.{a3By}
 use Rattle.number.specs.Ans.{_>>=_}
-use Rattle.number.specs.Arith.{decimal}
+use Rattle.number.proofs.Walk.{via}
+use Rattle.enclosure.specs.Answer.{answer}
 use lib.Ieee.{ofBits, neg}
+use Rattle.number.specs.Arith.{decimal}
 use borrow.Author.Needs.{needs}
 use Rattle.saftvrmie_dispersion_ends.proofs.a3.Statement.{statement}
 use Rattle.saftvrmie_dispersion_ends.proofs.a3.Tie as tie
-
-array-copy-out-f : tie.Need-array-copy-out-f
-array-copy-out-f c = search needs
-
-f-requires : tie.Need-f-requires
-f-requires c κs = search needs
-
-array-copy-out-f-2 : tie.Need-array-copy-out-f-2
-array-copy-out-f-2 c = search needs
-
-f-requires-2 : tie.Need-f-requires-2
-f-requires-2 c κs = search needs
-
-array-copy-out-f-3 : tie.Need-array-copy-out-f-3
-array-copy-out-f-3 c = search needs
-
-f-requires-3 : tie.Need-f-requires-3
-f-requires-3 c κs = search needs
 
 mul-requires : tie.Need-mul-requires
 mul-requires c κs = search needs
@@ -46,12 +28,9 @@ enum-told : tie.Need-enum-told
 enum-told c = search needs
 
 returns : tie.Need-returns
-unfolding a3Of _>>=_ decimal ofBits neg
+unfolding a3By _>>=_ decimal ofBits neg
 returns c =
     rw (
-      ← c .before .before .before .before .before .before .before .before .before .before .f .ensures,
-      ← c .before .before .before .before .before .before .before .before .f2 .ensures,
-      ← c .before .before .before .before .before .before .f3 .ensures,
       ← c .before .before .before .before .before .mul .ensures,
       ← c .before .before .before .before .add .ensures,
       ← c .before .before .before .mul2 .ensures,
@@ -74,12 +53,9 @@ mul-requires-5 : tie.Need-mul-requires-5
 mul-requires-5 c κs = search needs
 
 returns-2 : tie.Need-returns-2
-unfolding a3Of _>>=_ decimal ofBits neg
+unfolding a3By _>>=_ decimal ofBits neg
 returns-2 c =
     rw (
-      ← c .before .before .before .before .before .before .before .before .before .before .before .before .before .before .before .before .f .ensures,
-      ← c .before .before .before .before .before .before .before .before .before .before .before .before .before .before .f2 .ensures,
-      ← c .before .before .before .before .before .before .before .before .before .before .before .before .f3 .ensures,
       ← c .before .before .before .before .before .before .before .before .before .before .before .mul .ensures,
       ← c .before .before .before .before .before .before .before .before .before .before .add .ensures,
       ← c .before .before .before .before .before .before .before .before .before .mul2 .ensures,
@@ -95,12 +71,6 @@ pub a3-spec : {M : Type 1} → statement M
 a3-spec =
     tie.close
     (tie.spec
-    array-copy-out-f
-    f-requires
-    array-copy-out-f-2
-    f-requires-2
-    array-copy-out-f-3
-    f-requires-3
     mul-requires
     add-requires
     mul-requires-2

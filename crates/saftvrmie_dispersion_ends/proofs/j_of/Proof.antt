@@ -1,7 +1,7 @@
 -- `saftvrmie_dispersion_ends::j_of` meets its contract. Assumes nothing.
-use Rattle.saftvrmie_dispersion.specs.Sutherland.{jOf}
-use Rattle.number.specs.Arith.{decimal}
+use Rattle.saftvrmie_dispersion_ends.specs.Shared.{jBy}
 use lib.Ieee.{ofBits, neg}
+use Rattle.number.specs.Arith.{decimal}
 use borrow.Author.Needs.{needs}
 use Rattle.saftvrmie_dispersion_ends.proofs.j_of.Statement.{statement}
 use Rattle.saftvrmie_dispersion_ends.proofs.j_of.Tie as tie
@@ -9,29 +9,17 @@ use Rattle.saftvrmie_dispersion_ends.proofs.j_of.Tie as tie
 point-requires : tie.Need-point-requires
 point-requires c κs = search needs
 
-point-requires-2 : tie.Need-point-requires-2
-point-requires-2 c κs = search needs
-
-sub-requires : tie.Need-sub-requires
-sub-requires c κs = search needs
-
-point-requires-3 : tie.Need-point-requires-3
-point-requires-3 c κs = search needs
-
-sub-requires-2 : tie.Need-sub-requires-2
-sub-requires-2 c κs = search needs
-
 mul-requires : tie.Need-mul-requires
 mul-requires c κs = search needs
 
 mul-requires-2 : tie.Need-mul-requires-2
 mul-requires-2 c κs = search needs
 
-sub-requires-3 : tie.Need-sub-requires-3
-sub-requires-3 c κs = search needs
+sub-requires : tie.Need-sub-requires
+sub-requires c κs = search needs
 
-sub-requires-4 : tie.Need-sub-requires-4
-sub-requires-4 c κs = search needs
+sub-requires-2 : tie.Need-sub-requires-2
+sub-requires-2 c κs = search needs
 
 neg-requires : tie.Need-neg-requires
 neg-requires c κs = search needs
@@ -43,21 +31,17 @@ div-requires : tie.Need-div-requires
 div-requires c κs = search needs
 
 returns : tie.Need-returns
-unfolding jOf decimal ofBits neg
+unfolding jBy decimal ofBits neg
 returns c =
     rw (
       c .div .ensures,
       c .before .mul3 .ensures,
       c .before .before .neg .ensures,
-      c .before .before .before .sub4 .ensures,
-      c .before .before .before .before .sub3 .ensures,
+      c .before .before .before .sub2 .ensures,
+      c .before .before .before .before .sub .ensures,
       c .before .before .before .before .before .mul2 .ensures,
       c .before .before .before .before .before .before .mul .ensures,
-      c .before .before .before .before .before .before .before .sub2 .ensures,
-      c .before .before .before .before .before .before .before .before .point3 .ensures,
-      c .before .before .before .before .before .before .before .before .before .sub .ensures,
-      c .before .before .before .before .before .before .before .before .before .before .point2 .ensures,
-      c .before .before .before .before .before .before .before .before .before .before .before .point .ensures,
+      c .before .before .before .before .before .before .before .point .ensures,
     )
 
 pub j-of-spec : {M : Type 1} → statement M
@@ -65,14 +49,10 @@ j-of-spec =
     tie.close
     (tie.spec
     point-requires
-    point-requires-2
-    sub-requires
-    point-requires-3
-    sub-requires-2
     mul-requires
     mul-requires-2
-    sub-requires-3
-    sub-requires-4
+    sub-requires
+    sub-requires-2
     neg-requires
     mul-requires-3
     div-requires

@@ -1,12 +1,16 @@
 -- `saftvrmie_dispersion_ends::pair_terms` meets its contract. Assumes nothing.
-use Rattle.saftvrmie_dispersion.specs.Terms.{ordersOf, termsOf}
+use Rattle.saftvrmie_dispersion_ends.proofs.Shared.{xi-is, a3-is}
 use Rattle.saftvrmie_dispersion_ends.specs.Answer.{fiveAnswer}
-use Rattle.enclosure.specs.Answer.{answer}
-use Rattle.number.proofs.Walk.{via}
+use Rattle.saftvrmie_dispersion.specs.Terms.{ordersOf, termsOf}
 use Rattle.number.specs.Ans.{_>>=_}
+use Rattle.number.proofs.Walk.{via}
+use Rattle.enclosure.specs.Answer.{answer}
 use borrow.Author.Needs.{needs}
 use Rattle.saftvrmie_dispersion_ends.proofs.pair_terms.Statement.{statement}
 use Rattle.saftvrmie_dispersion_ends.proofs.pair_terms.Tie as tie
+
+six-of-requires : tie.Need-six-of-requires
+six-of-requires c κs = search needs
 
 point-requires : tie.Need-point-requires
 point-requires c κs = search needs
@@ -17,17 +21,14 @@ point-requires-2 c κs = search needs
 point-requires-3 : tie.Need-point-requires-3
 point-requires-3 c κs = search needs
 
-point-requires-4 : tie.Need-point-requires-4
-point-requires-4 c κs = search needs
-
 x0-of-requires : tie.Need-x0-of-requires
 x0-of-requires c κs = search needs
 
+point-requires-4 : tie.Need-point-requires-4
+point-requires-4 c κs = search needs
+
 point-requires-5 : tie.Need-point-requires-5
 point-requires-5 c κs = search needs
-
-point-requires-6 : tie.Need-point-requires-6
-point-requires-6 c κs = search needs
 
 five-sums-requires : tie.Need-five-sums-requires
 five-sums-requires c κs = search needs
@@ -42,13 +43,12 @@ returns : tie.Need-returns
 unfolding termsOf ordersOf _>>=_
 returns c =
     rw (
-      ← c .before .before .before .before .before .before .before .before .before .point .ensures,
-      ← c .before .before .before .before .before .before .before .before .point2 .ensures,
-      ← c .before .before .before .before .before .before .before .point3 .ensures,
-      ← c .before .before .before .before .before .before .point4 .ensures,
+      ← c .before .before .before .before .before .before .before .before .point .ensures,
+      ← c .before .before .before .before .before .before .before .point2 .ensures,
+      ← c .before .before .before .before .before .before .point3 .ensures,
       ← c .before .before .before .before .before .x0-of .ensures,
-      ← c .before .before .before .before .point5 .ensures,
-      ← c .before .before .before .point6 .ensures,
+      ← c .before .before .before .before .point4 .ensures,
+      ← c .before .before .before .point5 .ensures,
       via fiveAnswer (c .before .before .five-sums .ensures) (c .enum-told .given .1),
     )
 
@@ -71,13 +71,14 @@ returns-2 : tie.Need-returns-2
 unfolding termsOf ordersOf _>>=_
 returns-2 c =
     rw (
-      ← c .before .before .before .before .before .before .before .before .before .before .before .before .before .before .before .point .ensures,
-      ← c .before .before .before .before .before .before .before .before .before .before .before .before .before .before .point2 .ensures,
-      ← c .before .before .before .before .before .before .before .before .before .before .before .before .before .point3 .ensures,
-      ← c .before .before .before .before .before .before .before .before .before .before .before .before .point4 .ensures,
+      a3-is,
+      ← c .before .before .before .before .before .before .before .before .before .before .before .before .before .before .before .six-of .ensures,
+      ← c .before .before .before .before .before .before .before .before .before .before .before .before .before .before .point .ensures,
+      ← c .before .before .before .before .before .before .before .before .before .before .before .before .before .point2 .ensures,
+      ← c .before .before .before .before .before .before .before .before .before .before .before .before .point3 .ensures,
       ← c .before .before .before .before .before .before .before .before .before .before .before .x0-of .ensures,
-      ← c .before .before .before .before .before .before .before .before .before .before .point5 .ensures,
-      ← c .before .before .before .before .before .before .before .before .before .point6 .ensures,
+      ← c .before .before .before .before .before .before .before .before .before .before .point4 .ensures,
+      ← c .before .before .before .before .before .before .before .before .before .point5 .ensures,
       via fiveAnswer (c .before .before .before .before .before .before .before .before .five-sums .ensures) (c .before .before .before .before .before .before .s .given .1),
       ← c .before .before .before .before .pow-up .ensures,
       ← c .before .before .before .pref .ensures,
@@ -97,13 +98,15 @@ returns-3 : tie.Need-returns-3
 unfolding termsOf ordersOf _>>=_
 returns-3 c =
     rw (
-      ← c .before .before .before .before .before .before .before .before .before .before .before .before .before .before .before .before .before .before .before .point .ensures,
-      ← c .before .before .before .before .before .before .before .before .before .before .before .before .before .before .before .before .before .before .point2 .ensures,
-      ← c .before .before .before .before .before .before .before .before .before .before .before .before .before .before .before .before .before .point3 .ensures,
-      ← c .before .before .before .before .before .before .before .before .before .before .before .before .before .before .before .before .point4 .ensures,
+      a3-is,
+      xi-is,
+      ← c .before .before .before .before .before .before .before .before .before .before .before .before .before .before .before .before .before .before .before .six-of .ensures,
+      ← c .before .before .before .before .before .before .before .before .before .before .before .before .before .before .before .before .before .before .point .ensures,
+      ← c .before .before .before .before .before .before .before .before .before .before .before .before .before .before .before .before .before .point2 .ensures,
+      ← c .before .before .before .before .before .before .before .before .before .before .before .before .before .before .before .before .point3 .ensures,
       ← c .before .before .before .before .before .before .before .before .before .before .before .before .before .before .before .x0-of .ensures,
-      ← c .before .before .before .before .before .before .before .before .before .before .before .before .before .before .point5 .ensures,
-      ← c .before .before .before .before .before .before .before .before .before .before .before .before .before .point6 .ensures,
+      ← c .before .before .before .before .before .before .before .before .before .before .before .before .before .before .point4 .ensures,
+      ← c .before .before .before .before .before .before .before .before .before .before .before .before .before .point5 .ensures,
       via fiveAnswer (c .before .before .before .before .before .before .before .before .before .before .before .before .five-sums .ensures) (c .before .before .before .before .before .before .before .before .before .before .s .given .1),
       ← c .before .before .before .before .before .before .before .before .pow-up .ensures,
       ← c .before .before .before .before .before .before .before .pref .ensures,
@@ -117,13 +120,13 @@ pub pair-terms-spec : {M : Type 1} → statement M
 pair-terms-spec =
     tie.close
     (tie.spec
+    six-of-requires
     point-requires
     point-requires-2
     point-requires-3
-    point-requires-4
     x0-of-requires
+    point-requires-4
     point-requires-5
-    point-requires-6
     five-sums-requires
     enum-known-s
     enum-told

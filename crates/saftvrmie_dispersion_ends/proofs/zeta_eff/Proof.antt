@@ -1,110 +1,52 @@
 -- `saftvrmie_dispersion_ends::zeta_eff` meets its contract. Assumes nothing.
-use Rattle.saftvrmie_dispersion.specs.Sutherland.{zetaEff}
-use Rattle.number.specs.Arith.{decimal}
-use lib.Ieee.{ofBits, neg}
+use Rattle.saftvrmie_dispersion_ends.specs.Shared.{zetaEffBy}
 use borrow.Author.Needs.{needs}
 use Rattle.saftvrmie_dispersion_ends.proofs.zeta_eff.Statement.{statement}
 use Rattle.saftvrmie_dispersion_ends.proofs.zeta_eff.Tie as tie
 
-point-requires : tie.Need-point-requires
-point-requires c κs = search needs
-
-div-requires : tie.Need-div-requires
-div-requires c κs = search needs
-
 mul-requires : tie.Need-mul-requires
 mul-requires c κs = search needs
-
-mul-requires-2 : tie.Need-mul-requires-2
-mul-requires-2 c κs = search needs
-
-array-copy-out-c-row : tie.Need-array-copy-out-c-row
-array-copy-out-c-row c = search needs
-
-c-row-requires : tie.Need-c-row-requires
-c-row-requires c κs = search needs
-
-array-copy-out-c-row-2 : tie.Need-array-copy-out-c-row-2
-array-copy-out-c-row-2 c = search needs
-
-c-row-requires-2 : tie.Need-c-row-requires-2
-c-row-requires-2 c κs = search needs
-
-array-copy-out-c-row-3 : tie.Need-array-copy-out-c-row-3
-array-copy-out-c-row-3 c = search needs
-
-c-row-requires-3 : tie.Need-c-row-requires-3
-c-row-requires-3 c κs = search needs
-
-array-copy-out-c-row-4 : tie.Need-array-copy-out-c-row-4
-array-copy-out-c-row-4 c = search needs
-
-c-row-requires-4 : tie.Need-c-row-requires-4
-c-row-requires-4 c κs = search needs
-
-mul-requires-3 : tie.Need-mul-requires-3
-mul-requires-3 c κs = search needs
 
 add-requires : tie.Need-add-requires
 add-requires c κs = search needs
 
-mul-requires-4 : tie.Need-mul-requires-4
-mul-requires-4 c κs = search needs
+mul-requires-2 : tie.Need-mul-requires-2
+mul-requires-2 c κs = search needs
 
 add-requires-2 : tie.Need-add-requires-2
 add-requires-2 c κs = search needs
 
-mul-requires-5 : tie.Need-mul-requires-5
-mul-requires-5 c κs = search needs
+mul-requires-3 : tie.Need-mul-requires-3
+mul-requires-3 c κs = search needs
 
 add-requires-3 : tie.Need-add-requires-3
 add-requires-3 c κs = search needs
 
-mul-requires-6 : tie.Need-mul-requires-6
-mul-requires-6 c κs = search needs
+mul-requires-4 : tie.Need-mul-requires-4
+mul-requires-4 c κs = search needs
 
 returns : tie.Need-returns
-unfolding zetaEff decimal ofBits neg
+unfolding zetaEffBy
 returns c =
     rw (
-      c .mul6 .ensures,
+      c .mul4 .ensures,
       c .before .add3 .ensures,
-      c .before .before .mul5 .ensures,
+      c .before .before .mul3 .ensures,
       c .before .before .before .add2 .ensures,
-      c .before .before .before .before .mul4 .ensures,
+      c .before .before .before .before .mul2 .ensures,
       c .before .before .before .before .before .add .ensures,
-      c .before .before .before .before .before .before .mul3 .ensures,
-      c .before .before .before .before .before .before .before .c-row4 .ensures,
-      c .before .before .before .before .before .before .before .before .before .c-row3 .ensures,
-      c .before .before .before .before .before .before .before .before .before .before .before .c-row2 .ensures,
-      c .before .before .before .before .before .before .before .before .before .before .before .before .before .c-row .ensures,
-      c .before .before .before .before .before .before .before .before .before .before .before .before .before .before .before .mul2 .ensures,
-      c .before .before .before .before .before .before .before .before .before .before .before .before .before .before .before .before .mul .ensures,
-      c .before .before .before .before .before .before .before .before .before .before .before .before .before .before .before .before .before .div .ensures,
-      c .before .before .before .before .before .before .before .before .before .before .before .before .before .before .before .before .before .before .point .ensures,
+      c .before .before .before .before .before .before .mul .ensures,
     )
 
 pub zeta-eff-spec : {M : Type 1} → statement M
 zeta-eff-spec =
     tie.close
     (tie.spec
-    point-requires
-    div-requires
     mul-requires
-    mul-requires-2
-    array-copy-out-c-row
-    c-row-requires
-    array-copy-out-c-row-2
-    c-row-requires-2
-    array-copy-out-c-row-3
-    c-row-requires-3
-    array-copy-out-c-row-4
-    c-row-requires-4
-    mul-requires-3
     add-requires
-    mul-requires-4
+    mul-requires-2
     add-requires-2
-    mul-requires-5
+    mul-requires-3
     add-requires-3
-    mul-requires-6
+    mul-requires-4
     returns)
