@@ -12,10 +12,6 @@ unfoldable pub _>>=_ : {S T : Type 0} → Ans S → (S → Ans T) → Ans T
 _>>=_ (held x) f = f x
 _>>=_ (refused n) f = refused n
 
-abbrev pub mapAns : {S T : Type 0} → (S → T) → Ans S → Ans T
-mapAns f (held x) = held (f x)
-mapAns f (refused n) = refused n
-
 -- refuses with n unless t
 unfoldable pub demand : ℕ → Bool → Ans Bool
 demand n t = cond t (held true) (refused n)
