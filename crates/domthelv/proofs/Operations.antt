@@ -1,14 +1,18 @@
 -- The operations behind the boundary, test by test, over plain values. Assumes nothing.
-use Prim.Native.Nat.{ℕ}
+use Prim.Native.Nat.{ℕ, _*_}
 use lib.Dec.{eqb}
 use lib.Ieee.{Float}
-use lib.ListN.{length}
+use lib.ListN.{length, set}
 use borrow.Author.Tests.{eqb-true}
 use Rattle.mie_parameters.proofs.Laws.{and-left, and-right}
 use mathlib.Core.List.{List}
-use mathlib.Core.Path.{_≡_, refl, ap, _∙_}
+use mathlib.Core.Path.{_≡_, refl, ap, _∙_, fun-ext}
+use native.Mathlib.Nat.{zero-add}
 use mathlib.Core.Bool.{Bool, true, false}
 use Rattle.number.specs.Ans.{Ans, held, refused, _>>=_, demand}
+use Rattle.number.specs.Lists.{at}
+use Rattle.number.specs.Walk.{turns}
+use Rattle.number.specs.Side.{side, sheet}
 use Rattle.mie_parameters.specs.declared.ParameterAnswer.{ParameterAnswer}
 use Rattle.mie_parameters.specs.Answer.{numberOf, verdict, kept}
 use Rattle.saftvrqmie_parameters.specs.Parameters as Quantum
@@ -24,13 +28,13 @@ use Rattle.enclosure.specs.declared.Ends.{Ends}
 use Rattle.saftvrqmie_energies_ends.specs.Operation.{energiesEnds}
 use Rattle.saftvrqmie_diameter_ends.specs.Operations.{diameterEnds}
 use Rattle.stages.specs.Stages.{quantumStage}
-use Rattle.saftvrmie.specs.Diameters.{diameters}
+use Rattle.saftvrmie.specs.Diameters.{written, diameters}
 use Rattle.saftvrmie.specs.Pairs.{radiusIj}
 use Rattle.saftvrmie_energies.specs.Energies.{energy}
 use Rattle.saftvrmie_energies_ends.specs.Operation.{dispersionEnds}
 use Rattle.saftvrmie_diameter_ends.specs.Operations as MieDiameter
 use Rattle.domthelv.specs.Boundary.{status, stored}
-use Rattle.domthelv.specs.Sets.{quantumLengths, quantumSet, mieLengths, mieSet}
+use Rattle.domthelv.specs.Sets.{copied, taken, quantumLengths, quantumSet, mieLengths, mieSet}
 use Rattle.domthelv.specs.Operations.{QuantumLent, MieLent, setWritten, vrqParameters, vrqTable, radiiLengths, radiiWritten, vrqRadii, energiesWritten, vrqEnergies, endsWritten, vrqEnergiesEnds, pairWritten, vrqDiameterEnds, vrqStage, mieWritten, vrParameters, vrDiameters, vrRadius, vrDispersion, vrDispersionEnds, vrDiameterEnds}
 
 -- an operation that gives a parameter answer and leaves its lists by `kept`
@@ -201,14 +205,30 @@ module _ (x : Mie.Lists) (l : MieLent) where
   unfolding vrParameters demand _>>=_
   mie-parameters-held s p q = rw (p, q)
 
+-- what is copied from the first place on is what the operation writes
+pub copied-written : (n : ℕ) (d l : List Float) → copied n d 0 l ≡ written n d l
+unfolding copied written
+copied-written n d l = ap (λ (f : ℕ → List Float → List Float). turns n f l) (fun-ext (λ i. fun-ext (λ s. ap (λ (k : ℕ). set s i (at d k)) (zero-add i))))
+
 module _ (n : ℕ) (lists sheets : List Float) where
   pub diameters-refused : (t : Float) (l : List Float) (k : ℕ) → mieSet n lists sheets ≡ refused k → vrDiameters n lists sheets t l ≡ refused k
   unfolding vrDiameters _>>=_
   diameters-refused t l k p = rw p
 
-  pub diameters-are : (t : Float) (l : List Float) (s : SaftVRMiePars) → mieSet n lists sheets ≡ held s → vrDiameters n lists sheets t l ≡ diameters (s .count) (s .sheets) t l
-  unfolding vrDiameters _>>=_
-  diameters-are t l s p = rw p
+  -- of the lists as they are lent, taken apart without a set
+  pub mie-set-1 : mieLengths lists sheets ≡ false → mieSet n lists sheets ≡ refused 1
+  unfolding mieSet demand _>>=_
+  mie-set-1 p = rw p
+
+  pub diameters-from : (t : Float) (l y : List Float) → mieLengths lists sheets ≡ true → y ≡ taken (6 * sheet) sheets 0 → vrDiameters n lists sheets t l ≡ diameters n y t l
+  unfolding vrDiameters mieSet demand _>>=_
+  diameters-from t l y p e = rw (p, e)
+
+  pub dispersion-from : (t : Float) (x rho d : List Float) (chain : Bool) (m sigma epsilon-k lr la y : List Float) → mieLengths lists sheets ≡ true → m ≡ taken side lists 0 → sigma ≡ taken side lists (1 * side) → epsilon-k ≡ taken side lists (2 * side) → lr ≡ taken side lists (3 * side) → la ≡ taken side lists (4 * side)
+      → y ≡ taken (6 * sheet) sheets 0
+      → vrDispersion n lists sheets t x rho d chain ≡ energy (record { count = n; m = m; sigma = sigma; «epsilon_k» = epsilon-k; lr = lr; la = la; sheets = y }) t x rho d chain
+  unfolding vrDispersion mieSet demand _>>=_
+  dispersion-from t x rho d chain m sigma epsilon-k lr la y p a b c f g h = rw (p, a, b, c, f, g, h)
 
   pub radius-refused : (i j : ℕ) (t : Float) (k : ℕ) → mieSet n lists sheets ≡ refused k → vrRadius n lists sheets i j t ≡ refused k
   unfolding vrRadius _>>=_
@@ -221,10 +241,6 @@ module _ (n : ℕ) (lists sheets : List Float) where
   pub dispersion-refused : (t : Float) (x rho d : List Float) (chain : Bool) (k : ℕ) → mieSet n lists sheets ≡ refused k → vrDispersion n lists sheets t x rho d chain ≡ refused k
   unfolding vrDispersion _>>=_
   dispersion-refused t x rho d chain k p = rw p
-
-  pub dispersion-is : (t : Float) (x rho d : List Float) (chain : Bool) (s : SaftVRMiePars) → mieSet n lists sheets ≡ held s → vrDispersion n lists sheets t x rho d chain ≡ energy s t x rho d chain
-  unfolding vrDispersion _>>=_
-  dispersion-is t x rho d chain s p = rw p
 
 module _ (n : ℕ) (lists sheets : List Float) (t : Float) (x rho d : List Float) (chain : Bool) (l : List Float) where
   pub mie-dispersion-ends-1 : eqb (length l) 2 ≡ false → vrDispersionEnds n lists sheets t x rho d chain l ≡ refused 1

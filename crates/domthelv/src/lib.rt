@@ -676,13 +676,19 @@ pub extern "C" fn domthelv_vr_diameters(
 ) -> u8
     ensures { λ r. ⌜ (r ≡ status (vrDiameters count (now (lists .entry)) (now (sheets .entry)) temperature (now (diameters .entry)))) × (now (diameters .exit) ≡ stored (now (diameters .entry)) (vrDiameters count (now (lists .entry)) (now (sheets .entry)) temperature (now (diameters .entry)))) ⌝ }
 {
-    let read = mie_set(count, lists, sheets);
-    let answer = read.answer;
+    if !mie_lengths(lists, sheets) {
+        return 1;
+    }
+    let mut flat = [0.0; 384];
+    copy(6 * SHEET, sheets, 0, &mut flat);
+    let own = saftvrmie::diameters_of(count, &flat, temperature, diameters.len());
+    let answer = own.answer;
     let ParameterAnswer::Held = answer else {
         return mie_parameters::number(answer);
     };
-    let worked = saftvrmie::hs_diameter(read.set, temperature, diameters);
-    mie_parameters::number(worked)
+    let d = own.d;
+    copy(count, &d, 0, diameters);
+    0
 }
 
 // One pair's reduced lower limit. 1 for the set's lists, then 1, 2, 6.
@@ -728,13 +734,24 @@ pub extern "C" fn domthelv_vr_dispersion(
 ) -> u8
     ensures { λ r. ⌜ (r ≡ status (vrDispersion count (now (lists .entry)) (now (sheets .entry)) temperature (now (fractions .entry)) (now (densities .entry)) (now (diameters .entry)) chain)) × (now (out .exit) ≡ stored (now (out .entry)) (vrDispersion count (now (lists .entry)) (now (sheets .entry)) temperature (now (fractions .entry)) (now (densities .entry)) (now (diameters .entry)) chain)) ⌝ }
 {
-    let read = mie_set(count, lists, sheets);
-    let answer = read.answer;
-    let ParameterAnswer::Held = answer else {
-        return mie_parameters::number(answer);
-    };
-    let worked = saftvrmie_energies::dispersion(
-        read.set,
+    if !mie_lengths(lists, sheets) {
+        return 1;
+    }
+    let m = places(lists, 0);
+    let sigma = places(lists, SIDE);
+    let epsilon_k = places(lists, 2 * SIDE);
+    let lr = places(lists, 3 * SIDE);
+    let la = places(lists, 4 * SIDE);
+    let mut flat = [0.0; 384];
+    copy(6 * SHEET, sheets, 0, &mut flat);
+    let worked = saftvrmie_energies::dispersion_of(
+        count,
+        &m,
+        &sigma,
+        &epsilon_k,
+        &lr,
+        &la,
+        &flat,
         temperature,
         fractions,
         densities,

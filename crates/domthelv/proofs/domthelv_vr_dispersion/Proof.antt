@@ -1,31 +1,56 @@
 -- `domthelv::domthelv_vr_dispersion` meets its contract. Assumes nothing.
-use Rattle.stages.proofs.Given.{mie-held, mie-refused}
-use Rattle.domthelv.proofs.Operations.{dispersion-refused, dispersion-is, refused-status, refused-stored, held-status, held-stored}
+use Rattle.domthelv.proofs.Sets.{mie-lengths}
+use Rattle.number.proofs.Walk.{told, via}
+use borrow.Author.Tests.{not-true, not-false}
+use native.Mathlib.Omega.{arith}
+use mathlib.Core.Path.{refl, _∙_}
+use Rattle.domthelv.proofs.Operations.{dispersion-refused, mie-set-1, dispersion-from, refused-status, refused-stored, held-status, held-stored}
 use Rattle.saftvrmie_energies.specs.Energies.{energyAnswer}
-use Rattle.number.proofs.Walk.{via}
-use mathlib.Core.Path.{refl, ap, _∙_}
-use Rattle.mie_parameters.specs.Answer.{numberOf}
 use borrow.Author.Needs.{needs}
 use Rattle.domthelv.proofs.domthelv_vr_dispersion.Statement.{statement}
 use Rattle.domthelv.proofs.domthelv_vr_dispersion.Tie as tie
 
-mie-set-requires : tie.Need-mie-set-requires
-mie-set-requires c κs = search needs
-
-enum-told : tie.Need-enum-told
-enum-told c = search needs
-
-enum-told-2 : tie.Need-enum-told-2
-enum-told-2 c = search needs
-
-number-requires : tie.Need-number-requires
-number-requires c κs = search needs
+mie-lengths-requires : tie.Need-mie-lengths-requires
+mie-lengths-requires c κs = search needs
 
 returns : tie.Need-returns
-returns c = let q = (dispersion-refused _ _ _ _ _ _ _ _ _ (mie-refused _ _ _ ((c .before .before .before .mie-set) .ensures) ((c .before .enum-told2) .given .1))) in (refused-status _ _ _ (((c .number) .ensures) ∙ ap numberOf ((c .before .enum-told2) .given .1)) q, refused-stored _ _ _ q)
+returns c = let q = dispersion-refused _ _ _ _ _ _ _ _ _ (mie-set-1 _ _ _ (told ((c .before .mie-lengths) .ensures) (not-true _ ((c .if1) .taken)))) in (refused-status _ _ _ refl q, refused-stored _ _ _ q)
 
-dispersion-requires : tie.Need-dispersion-requires
-dispersion-requires c κs = search needs
+places-requires : tie.Need-places-requires
+places-requires c κs = let h = mie-lengths _ _ (told ((c .before .mie-lengths) .ensures) (not-false _ ((c .if1) .left))) .places in omega (arith, h)
+
+places-requires-2 : tie.Need-places-requires-2
+places-requires-2 c κs = let h = mie-lengths _ _ (told ((c .before .before .mie-lengths) .ensures) (not-false _ ((c .before .if1) .left))) .places in omega (arith, h)
+
+mul-places : tie.Need-mul-places
+mul-places c = search needs
+
+places-requires-3 : tie.Need-places-requires-3
+places-requires-3 c κs = let h = mie-lengths _ _ (told ((c .before .before .before .mie-lengths) .ensures) (not-false _ ((c .before .before .if1) .left))) .places in omega (arith, h)
+
+mul-places-2 : tie.Need-mul-places-2
+mul-places-2 c = search needs
+
+places-requires-4 : tie.Need-places-requires-4
+places-requires-4 c κs = let h = mie-lengths _ _ (told ((c .before .before .before .before .mie-lengths) .ensures) (not-false _ ((c .before .before .before .if1) .left))) .places in omega (arith, h)
+
+mul-places-3 : tie.Need-mul-places-3
+mul-places-3 c = search needs
+
+places-requires-5 : tie.Need-places-requires-5
+places-requires-5 c κs = let h = mie-lengths _ _ (told ((c .before .before .before .before .before .mie-lengths) .ensures) (not-false _ ((c .before .before .before .before .if1) .left))) .places in omega (arith, h)
+
+mul-copy : tie.Need-mul-copy
+mul-copy c = search needs
+
+slice-aggregate-copy : tie.Need-slice-aggregate-copy
+slice-aggregate-copy c = search needs
+
+copy-requires : tie.Need-copy-requires
+copy-requires c κs = let h = mie-lengths _ _ (told ((c .before .before .before .before .before .before .before .mie-lengths) .ensures) (not-false _ ((c .before .before .before .before .before .before .if1) .left))) .flat in (omega (arith, h), search needs)
+
+dispersion-of-requires : tie.Need-dispersion-of-requires
+dispersion-of-requires c κs = search needs
 
 enum-known-worked : tie.Need-enum-known-worked
 enum-known-worked c = search needs
@@ -34,21 +59,29 @@ enum-known-worked-2 : tie.Need-enum-known-worked-2
 enum-known-worked-2 c = search needs
 
 returns-2 : tie.Need-returns-2
-returns-2 c = let q = (dispersion-is _ _ _ _ _ _ _ _ _ (mie-held _ _ ((c .before .before .before .before .before .before .mie-set) .ensures) ((c .before .before .before .before .enum-told) .given .1))) ∙ via energyAnswer ((c .before .before .before .dispersion) .ensures) ((c .before .worked) .given .1) in (refused-status _ _ _ refl q, refused-stored _ _ _ q)
+returns-2 c = let q = dispersion-from _ _ _ _ _ _ _ _ _ _ _ _ _ _ (told ((c .before .before .before .before .before .before .before .before .before .before .before .before .before .before .before .before .before .before .before .mie-lengths) .ensures) (not-false _ ((c .before .before .before .before .before .before .before .before .before .before .before .before .before .before .before .before .before .before .if1) .left))) ((c .before .before .before .before .before .before .before .before .before .before .before .before .before .before .before .before .before .places) .ensures) ((c .before .before .before .before .before .before .before .before .before .before .before .before .before .before .before .before .places2) .ensures) ((c .before .before .before .before .before .before .before .before .before .before .before .before .before .before .before .places3) .ensures) ((c .before .before .before .before .before .before .before .before .before .before .before .before .before .before .places4) .ensures) ((c .before .before .before .before .before .before .before .before .before .before .before .before .before .places5) .ensures) ((c .before .before .before .before .before .before .before .before .before .before .before .copy) .ensures) ∙ via energyAnswer ((c .before .before .before .dispersion-of) .ensures) ((c .before .worked) .given .1) in (refused-status _ _ _ refl q, refused-stored _ _ _ q)
 
 returns-3 : tie.Need-returns-3
-returns-3 c = let q = (dispersion-is _ _ _ _ _ _ _ _ _ (mie-held _ _ ((c .before .before .before .before .before .before .mie-set) .ensures) ((c .before .before .before .before .enum-told) .given .1))) ∙ via energyAnswer ((c .before .before .before .dispersion) .ensures) ((c .before .worked2) .given .1) in (held-status _ _ q, held-stored _ _ _ q)
+returns-3 c = let q = dispersion-from _ _ _ _ _ _ _ _ _ _ _ _ _ _ (told ((c .before .before .before .before .before .before .before .before .before .before .before .before .before .before .before .before .before .before .before .mie-lengths) .ensures) (not-false _ ((c .before .before .before .before .before .before .before .before .before .before .before .before .before .before .before .before .before .before .if1) .left))) ((c .before .before .before .before .before .before .before .before .before .before .before .before .before .before .before .before .before .places) .ensures) ((c .before .before .before .before .before .before .before .before .before .before .before .before .before .before .before .before .places2) .ensures) ((c .before .before .before .before .before .before .before .before .before .before .before .before .before .before .before .places3) .ensures) ((c .before .before .before .before .before .before .before .before .before .before .before .before .before .before .places4) .ensures) ((c .before .before .before .before .before .before .before .before .before .before .before .before .before .places5) .ensures) ((c .before .before .before .before .before .before .before .before .before .before .before .copy) .ensures) ∙ via energyAnswer ((c .before .before .before .dispersion-of) .ensures) ((c .before .worked2) .given .1) in (held-status _ _ q, held-stored _ _ _ q)
 
 pub domthelv-vr-dispersion-spec : {M : Type 1} → statement M
 domthelv-vr-dispersion-spec =
     tie.close
     (tie.spec
-    mie-set-requires
-    enum-told
-    enum-told-2
-    number-requires
+    mie-lengths-requires
     returns
-    dispersion-requires
+    places-requires
+    places-requires-2
+    mul-places
+    places-requires-3
+    mul-places-2
+    places-requires-4
+    mul-places-3
+    places-requires-5
+    mul-copy
+    slice-aggregate-copy
+    copy-requires
+    dispersion-of-requires
     enum-known-worked
     enum-known-worked-2
     returns-2
