@@ -1,16 +1,16 @@
 -- Of a tame pair, at a sound radius from 1 to 32, both derivatives of the potential are sound, and u is what the code works alone. Assumes nothing.
 use mathlib.Core.Path.{_≡_, refl, sym, ap, subst}
-use mathlib.Core.Bool.{Bool, true, false, not, _&&_}
+use mathlib.Core.Bool.{Bool, true, false, _&&_}
 use Prim.Native.Nat.{ℕ, suc, _+_, _*_, _^_, _≤_, _<_}
 use native.Mathlib.Omega.{arith}
 use lib.IntN.{pos}
 use lib.Dec.{T, lit<, lit≤}
-use lib.Ieee.{Float, fin, binary64, up, down, fits, le, neg, add, ofBits}
+use lib.Ieee.{Float, fin, binary64, up, down, fits, le, lt, neg, add, ofBits}
 use lib.Ieee.Fits.{and-l, and-r}
-use lib.Ieee.Bits.{is-true, is-false}
+use lib.Ieee.Bits.{is-true}
 use lib.Ieee.Scale.{finite}
 use Rattle.number.specs.Ans.{held, _>>=_, demand}
-use Rattle.number.specs.Arith.{decimal}
+use Rattle.number.specs.Arith.{one64, decimal}
 use Rattle.number.specs.Functions.{calls, answered₂}
 use Rattle.elementary.specs.Port.{port}
 use Rattle.exponential.proofs.Decode.{inside-is}
@@ -31,7 +31,7 @@ use Rattle.saftvrqmie_potential_ends.specs.Shared.{Sharing}
 use Rattle.saftvrqmie_alone_ends.specs.Alone.{big, withinOf, smallOf, plainOf, plainFrom, tameOf, aloneOf, sureOf, soundOf, powerAt, uAlone, uAfter}
 use Rattle.saftvrqmie_alone_ends.proofs.Tame.{both-true, Within, Tame, top, mul-tame, add-tame, sub-tame, neg-tame, recip-tame, widened}
 use Rattle.saftvrqmie_alone_ends.proofs.Same.{Same, same, add-same, sub-same, mul-same, div-same, one-flag, flags}
-use Rattle.saftvrqmie_alone_ends.proofs.Raised.{power-from-one}
+use Rattle.saftvrqmie_alone_ends.proofs.Raised.{above-one, power-from-one}
 
 -- ---- what the tests tell
 within-100 : (x : Float) → T (le (neg big) x && le x big) → T (fits binary64 x) → Within 100 x
@@ -72,10 +72,11 @@ plain-is : (y : Float) → T (plainOf y) → Plain y
 unfolding plainOf
 plain-is y t =
     let a = exponentInside y in
-    let b = not (exponentOf y .negative) in
-    let c = not (exponentOf y .one) in
+    let b = lt one64 y in
+    let c = fits binary64 y in
     let s = and-l (a && b) c t in
-    record { inside = is-true a (and-l a b s); from-zero = is-false (exponentOf y .negative) (and-r a b s); not-one = is-false (exponentOf y .one) (and-r (a && b) c t) }
+    let k = above-one y (and-l a b s) (and-r (a && b) c t) (and-r a b s) in
+    record { inside = is-true a (and-l a b s); from-zero = k .0; not-one = k .1 }
 
 -- l plus k
 abbrev up-by : Enclosure → ℕ → Enclosure

@@ -219,6 +219,10 @@ rounded-within k h r q x Q l u =
     }
 
 -- ---- the operations
+pub and-true : (b : Bool) → (b && true) ≡ b
+and-true true = refl
+and-true false = refl
+
 pub both-true : (a b : Bool) → T a → T b → T (a && b)
 both-true true true p q = tt
 both-true true false p q = q

@@ -1,8 +1,8 @@
 -- What `u_alone` and `u_after` work, step by step, is what their contracts say. Assumes nothing.
 use mathlib.Core.Path.{_≡_, refl, sym, ap, _∙_, subst}
-use mathlib.Core.Bool.{Bool, true, false, not, _&&_}
+use mathlib.Core.Bool.{Bool, true, false, _&&_}
 use lib.Dec.{T}
-use lib.Ieee.Bits.{is-true, is-false}
+use lib.Ieee.Bits.{is-true}
 use lib.Ieee.Fits.{and-l, and-r}
 use Rattle.number.specs.Ans.{held}
 use Rattle.number.specs.Functions.{calls}
@@ -58,16 +58,13 @@ module _ (w : PairShared) (x : Alone) (l : Log) (u : Enclosure) where
       order-2 u₂ m r s h i g = i ∙ (ap sureOf h ∙ (mul-same s (same {x = w .ce}) .is ∙ (mul-same (add-same with-first same) (same {x = w .ce}) .is ∙ rw (f, g, is))))
 
 -- ---- after the radius
-module _ (w : PairShared) (x : Alone) (r : Enclosure) (l : Log) (b : Bool) (s : Sharing w) (is : x ≡ aloneOf w) (at : l ≡ logOf (r .value)) (in-base : b ≡ baseInside (r .value)) (t : (x .tame && b && not (l .negative)) ≡ true) where
-  all : T (x .tame && b && not (l .negative))
+module _ (w : PairShared) (x : Alone) (r : Enclosure) (l : Log) (b : Bool) (s : Sharing w) (is : x ≡ aloneOf w) (in-base : b ≡ baseInside (r .value)) (t : (x .tame && b) ≡ true) (at : l ≡ logOf (r .value)) (upward : l .negative ≡ false) where
+  all : T (x .tame && b)
   all = subst T (sym t) tt
 
   tame : T (tameOf w)
   unfolding aloneOf
-  tame = subst T (ap (λ (y : Alone). y .tame) is) (and-l (x .tame) b (and-l (x .tame && b) (not (l .negative)) all))
+  tame = subst T (ap (λ (y : Alone). y .tame) is) (and-l (x .tame) b all)
 
   pub worked-alone : (u : Sure) (e a : Enclosure) → u ≡ sureOf (uAlone w x l) → e ≡ soundOf u → a ≡ afterE r e → held a ≡ uAfter (potential enclosures (calls enclosures port) (pairIn (w .pair)) r)
-  worked-alone u e a h i j =
-      let base = sym in-base ∙ is-true b (and-r (x .tame) b (and-l (x .tame && b) (not (l .negative)) all)) in
-      let upward = ap (λ (y : Log). y .negative) (sym at) ∙ is-false (l .negative) (and-r (x .tame && b) (not (l .negative)) all) in
-      rw (j, i, h, is, at) (alone-is w s tame r base upward)
+  worked-alone u e a h i j = rw (j, i, h, is, at) (alone-is w s tame r (sym in-base ∙ is-true b (and-r (x .tame) b all)) (ap (λ (y : Log). y .negative) (sym at) ∙ upward))

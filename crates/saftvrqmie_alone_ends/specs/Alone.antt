@@ -1,8 +1,8 @@
 -- What the code asks of a pair so that u's derivatives need not be worked, and u alone: the contracts of helpers. That the derivatives are then sound, and u so worked is the potential's, is shown in proofs/Derivatives (`alone-is`).
-use mathlib.Core.Bool.{Bool, true, false, not, _&&_, cond}
-use lib.Ieee.{Float, binary64, ofBits, fits, le, neg, add}
+use mathlib.Core.Bool.{Bool, true, false, _&&_, cond}
+use lib.Ieee.{Float, binary64, ofBits, fits, le, lt, neg, add}
 use Rattle.number.specs.Ans.{Ans, held, _>>=_}
-use Rattle.number.specs.Arith.{decimal}
+use Rattle.number.specs.Arith.{one64, decimal}
 use Rattle.binary_log.specs.declared.Log.{Log}
 use Rattle.power.specs.declared.FixedExponent.{FixedExponent}
 use Rattle.power.specs.Power.{exponentInside, exponentOf, powerOf}
@@ -17,7 +17,7 @@ use Rattle.saftvrqmie_alone_ends.specs.declared.Sure.{Sure}
 abbrev pub big : Float
 big = ofBits binary64 0x4630_0000_0000_0000
 
--- no further from zero than 2 ^ 100 (every f64 fits the format, so that the last test is for the logic alone)
+-- no further from zero than 2 ^ 100 (every f64 fits the format, so that the last test, here and below, is for the logic alone)
 unfoldable pub withinOf : Float → Bool
 withinOf a = le (neg big) a && le a big && fits binary64 a
 
@@ -25,9 +25,9 @@ withinOf a = le (neg big) a && le a big && fits binary64 a
 unfoldable pub smallOf : Enclosure → Bool
 smallOf x = x .ends .sound && withinOf (x .ends .lower) && withinOf (x .ends .upper)
 
--- an exponent of the power's domain that is neither negative nor 1
+-- an exponent of the power's domain above 1
 unfoldable pub plainOf : Float → Bool
-plainOf y = exponentInside y && not (exponentOf y .negative) && not (exponentOf y .one)
+plainOf y = exponentInside y && lt one64 y && fits binary64 y
 
 -- so are l to l + 6
 unfoldable pub plainFrom : Float → Bool

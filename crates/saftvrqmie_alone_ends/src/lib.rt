@@ -52,12 +52,11 @@ fn small(x: Enclosure) -> bool
     x.ends.sound & within(x.ends.lower) & within(x.ends.upper)
 }
 
-// An exponent of the power's domain that is neither negative nor 1.
+// An exponent of the power's domain above 1.
 fn plain(y: f64) -> bool
     ensures { λ r. ⌜ r ≡ plainOf y ⌝ }
 {
-    let e = power::exponent(y);
-    power::exponent_inside(y) & !e.negative & !e.one
+    power::exponent_inside(y) & (1.0 < y)
 }
 
 // So are l to l + 6.
@@ -180,8 +179,11 @@ fn u_whole(w: PairShared, r: Enclosure) -> EnclosureAnswer
 pub fn u_after(w: PairShared, x: Alone, r: Enclosure) -> EnclosureAnswer
     ensures { λ v. ⌜ (Sharing w → x ≡ aloneOf w → answer v ≡ uAfter (potential enclosures (calls enclosures port) (pairIn (w .pair)) r)) ⌝ }
 {
+    if !(x.tame & binary_log::base_inside(r.value)) {
+        return u_whole(w, r);
+    }
     let l = binary_log::log_base(r.value);
-    if !(x.tame & binary_log::base_inside(r.value) & !l.negative) {
+    if l.negative {
         return u_whole(w, r);
     }
     EnclosureAnswer::Value(enclosure::after(r, sound(u_alone(w, x, l))))

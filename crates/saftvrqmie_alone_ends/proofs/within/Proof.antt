@@ -1,14 +1,11 @@
 -- `saftvrqmie_alone_ends::within` meets its contract. Assumes nothing.
-use mathlib.Core.Path.{_≡_, refl}
-use mathlib.Core.Bool.{Bool, true, false, _&&_}
+use mathlib.Core.Path.{_≡_}
+use mathlib.Core.Bool.{true, _&&_}
 use lib.Ieee.{Float, binary64, fits, le, neg}
 use Rattle.saftvrqmie_alone_ends.specs.Alone.{big, withinOf}
+use Rattle.saftvrqmie_alone_ends.proofs.Tame.{and-true}
 use Rattle.saftvrqmie_alone_ends.proofs.within.Statement.{statement}
 use Rattle.saftvrqmie_alone_ends.proofs.within.Tie as tie
-
-and-true : (b : Bool) → (b && true) ≡ b
-and-true true = refl
-and-true false = refl
 
 -- every f64 fits
 within-is : (a : Float) → fits binary64 a ≡ true → (le (neg big) a && le a big) ≡ withinOf a
