@@ -1,2 +1,3 @@
 pub mod Slope
 pub mod Sums
+pub mod Powers

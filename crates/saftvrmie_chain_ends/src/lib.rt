@@ -56,6 +56,13 @@ pub struct OrdersDuals {
     pub a2: EnclosureDual,
 }
 
+// The powers 2, 3 and 4 of a number.
+struct PowersDuals {
+    second: EnclosureDual,
+    third: EnclosureDual,
+    fourth: EnclosureDual,
+}
+
 // What only the chain reads of a component and of the state; t_inv is 1/T.
 pub struct LinkEnclosures {
     pub m: Enclosure,
@@ -80,18 +87,60 @@ pub enum OrdersDualsAnswer {
 
 // ---- the Sutherland sums with slopes by the segment density
 
+// The power 4 alone.
+fn fourth_dual(x: EnclosureDual) -> EnclosureDual
+    ensures { λ r. ⌜ dualOf r ≡ powD enclosures (dualOf x) 4 ⌝ }
+{
+    let one = enclosure::point(1.0);
+    let square = enclosure::mul(x.re, x.re);
+    let cube = enclosure::mul(enclosure::mul(one, x.re), square);
+    let factor = enclosure::mul(enclosure::point(4.0), cube);
+    EnclosureDual {
+        re: enclosure::mul(one, enclosure::mul(square, square)),
+        eps: enclosure::mul(factor, x.eps),
+    }
+}
+
+// They share their products.
+fn powers_dual(x: EnclosureDual) -> PowersDuals
+    ensures second { λ r. ⌜ dualOf (r .second) ≡ powD enclosures (dualOf x) 2 ⌝ }
+    ensures third { λ r. ⌜ dualOf (r .third) ≡ powD enclosures (dualOf x) 3 ⌝ }
+    ensures fourth { λ r. ⌜ dualOf (r .fourth) ≡ powD enclosures (dualOf x) 4 ⌝ }
+{
+    let one = enclosure::point(1.0);
+    let itself = enclosure::mul(one, x.re);
+    let times = enclosure::mul(x.re, x.re);
+    let square = enclosure::mul(one, times);
+    let cube = enclosure::mul(itself, times);
+    let fourth = enclosure::mul(one, enclosure::mul(times, times));
+    let a = enclosure::mul(enclosure::point(2.0), itself);
+    let b = enclosure::mul(enclosure::point(3.0), square);
+    let c = enclosure::mul(enclosure::point(4.0), cube);
+    PowersDuals {
+        second: EnclosureDual {
+            re: square,
+            eps: enclosure::mul(a, x.eps),
+        },
+        third: EnclosureDual {
+            re: cube,
+            eps: enclosure::mul(b, x.eps),
+        },
+        fourth: EnclosureDual {
+            re: fourth,
+            eps: enclosure::mul(c, x.eps),
+        },
+    }
+}
+
 fn k_hs_dual(zeta_x: EnclosureDual) -> EnclosureDual
     ensures { λ r. ⌜ dualOf r ≡ kHs (duals enclosures) (dualOf «zeta_x») ⌝ }
 {
     let one = enclosure::point(1.0);
-    let less = enclosure_dual::sub(zeta_x, enclosure_dual::plain(one));
-    let a = enclosure_dual::pow_up(less, 4);
-    let z = enclosure_dual::sub(
-        enclosure_dual::add(zeta_x, enclosure_dual::pow_up(zeta_x, 2)),
-        enclosure_dual::pow_up(zeta_x, 3),
-    );
+    let a = fourth_dual(enclosure_dual::sub(zeta_x, enclosure_dual::plain(one)));
+    let p = powers_dual(zeta_x);
+    let z = enclosure_dual::sub(enclosure_dual::add(zeta_x, p.second), p.third);
     let c = enclosure_dual::mul_plain(z, enclosure::point(4.0));
-    let s = enclosure_dual::add(c, enclosure_dual::pow_up(zeta_x, 4));
+    let s = enclosure_dual::add(c, p.fourth);
     enclosure_dual::div(a, enclosure_dual::add_plain(s, one))
 }
 
@@ -242,26 +291,7 @@ fn b_dual(w: FluidDuals, i: EnclosureDual, j: EnclosureDual) -> EnclosureDual
     }
 }
 
-// `a1s_b_ij` from its powers of x0: p to lambda, p3 to 3 - lambda, p4 to 4 - lambda.
-fn a1s_b_of(
-    w: FluidDuals,
-    of: LambdaEnclosures,
-    p: Enclosure,
-    p3: Enclosure,
-    p4: Enclosure,
-) -> EnclosureDual
-    ensures { λ r. ⌜ dualOf r ≡ a1sBBy (duals enclosures) (plainD enclosures) (fluidDualIn w) of p p3 p4 ⌝ }
-{
-    let b = b_dual(w, i_dual(p3, of.l3), j_dual(p4, p3, of.l3, of.l4));
-    let a = a1s_ij_dual(w.zeta_x, of);
-    let s = enclosure::add(a.re, b.re);
-    let right = enclosure::mul(p, enclosure::add(a.eps, b.eps));
-    EnclosureDual {
-        re: enclosure::mul(p, s),
-        eps: enclosure::add(enclosure_dual::zero_times(s), right),
-    }
-}
-
+// x0 to lambda, to 3 - lambda and to 4 - lambda, then the sum.
 fn a1s_b_ij_dual(l: Log, x0: Enclosure, w: FluidDuals, lambda: Enclosure) -> DualsAnswer
     ensures { λ r. ⌜ dualAnswer r ≡ a1sB enclosures (duals enclosures) (plainD enclosures) (powerAt l x0) (fluidDualIn w) lambda ⌝ }
 {
@@ -277,7 +307,14 @@ fn a1s_b_ij_dual(l: Log, x0: Enclosure, w: FluidDuals, lambda: Enclosure) -> Dua
         return DualsAnswer::Outside;
     };
     let of = saftvrmie_dispersion_ends::lambda_of(lambda);
-    DualsAnswer::At(a1s_b_of(w, of, p, p3, p4))
+    let b = b_dual(w, i_dual(p3, of.l3), j_dual(p4, p3, of.l3, of.l4));
+    let a = a1s_ij_dual(w.zeta_x, of);
+    let s = enclosure::add(a.re, b.re);
+    let right = enclosure::mul(p, enclosure::add(a.eps, b.eps));
+    DualsAnswer::At(EnclosureDual {
+        re: enclosure::mul(p, s),
+        eps: enclosure::add(enclosure_dual::zero_times(s), right),
+    })
 }
 
 // The powers of x0 share its logarithm, l.

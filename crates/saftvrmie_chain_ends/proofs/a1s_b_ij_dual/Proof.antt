@@ -5,7 +5,10 @@ use lib.Ieee.{ofBits}
 use Rattle.number.specs.Arith.{decimal}
 use Rattle.enclosure.specs.Enclosure.{enclosures}
 use Rattle.dual.specs.Dual.{duals, plainD}
-use Rattle.number.specs.Ans.{_>>=_}
+use mathlib.Core.Path.{ap}
+use Rattle.number.specs.Ans.{held, _>>=_}
+use Rattle.saftvrmie_dispersion_ends.specs.Shared.{a1sBBy}
+use Rattle.saftvrmie_chain_ends.proofs.Sums.{plain-times-sum}
 use Rattle.number.proofs.Walk.{via}
 use Rattle.enclosure.specs.Answer.{answer}
 use borrow.Author.Needs.{needs}
@@ -90,24 +93,55 @@ returns-3 c =
 lambda-of-requires : tie.Need-lambda-of-requires
 lambda-of-requires c κs = search needs
 
-a1s-b-of-requires : tie.Need-a1s-b-of-requires
-a1s-b-of-requires c κs = search needs
+i-dual-requires : tie.Need-i-dual-requires
+i-dual-requires c κs = search needs
+
+j-dual-requires : tie.Need-j-dual-requires
+j-dual-requires c κs = search needs
+
+b-dual-requires : tie.Need-b-dual-requires
+b-dual-requires c κs = search needs
+
+a1s-ij-dual-requires : tie.Need-a1s-ij-dual-requires
+a1s-ij-dual-requires c κs = search needs
+
+add-requires : tie.Need-add-requires
+add-requires c κs = search needs
+
+add-requires-2 : tie.Need-add-requires-2
+add-requires-2 c κs = search needs
+
+mul-requires : tie.Need-mul-requires
+mul-requires c κs = search needs
+
+mul-requires-2 : tie.Need-mul-requires-2
+mul-requires-2 c κs = search needs
+
+zero-times-requires : tie.Need-zero-times-requires
+zero-times-requires c κs = search needs
+
+add-requires-3 : tie.Need-add-requires-3
+add-requires-3 c κs = search needs
 
 returns-4 : tie.Need-returns-4
-unfolding a1sB _>>=_ decimal ofBits
+unfolding a1sB a1sBBy _>>=_ decimal ofBits
 returns-4 c =
     rw (
-      ← c .before .before .before .before .before .before .before .before .before .before .before .before .before .before .before .before .before .point .ensures,
-      ← c .before .before .before .before .before .before .before .before .before .before .before .before .before .before .before .before .sub .ensures,
-      ← c .before .before .before .before .before .before .before .before .before .before .before .before .before .before .before .point2 .ensures,
-      ← c .before .before .before .before .before .before .before .before .before .before .before .before .before .before .sub2 .ensures,
-      via answer (c .before .before .before .before .before .before .before .before .before .before .before .before .before .power-of .ensures) (c .before .before .before .before .before .before .before .before .before .before .before .p .given .1),
-      via answer (c .before .before .before .before .before .before .before .before .before .power-of2 .ensures) (c .before .before .before .before .before .before .before .p3 .given .1),
-      via answer (c .before .before .before .before .before .power-of3 .ensures) (c .before .before .before .p4 .given .1),
+      ← c .before .before .before .before .before .before .before .before .before .before .before .before .before .before .before .before .before .before .before .before .before .before .before .before .before .before .point .ensures,
+      ← c .before .before .before .before .before .before .before .before .before .before .before .before .before .before .before .before .before .before .before .before .before .before .before .before .before .sub .ensures,
+      ← c .before .before .before .before .before .before .before .before .before .before .before .before .before .before .before .before .before .before .before .before .before .before .before .before .point2 .ensures,
+      ← c .before .before .before .before .before .before .before .before .before .before .before .before .before .before .before .before .before .before .before .before .before .before .before .sub2 .ensures,
+      via answer (c .before .before .before .before .before .before .before .before .before .before .before .before .before .before .before .before .before .before .before .before .before .before .power-of .ensures) (c .before .before .before .before .before .before .before .before .before .before .before .before .before .before .before .before .before .before .before .before .p .given .1),
+      via answer (c .before .before .before .before .before .before .before .before .before .before .before .before .before .before .before .before .before .before .power-of2 .ensures) (c .before .before .before .before .before .before .before .before .before .before .before .before .before .before .before .before .p3 .given .1),
+      via answer (c .before .before .before .before .before .before .before .before .before .before .before .before .before .before .power-of3 .ensures) (c .before .before .before .before .before .before .before .before .before .before .before .before .p4 .given .1),
       a1sB-is (duals enclosures) (plainD enclosures),
-      ← c .before .lambda-of .ensures,
-      ← c .a1s-b-of .ensures,
+      ← c .before .before .before .before .before .before .before .before .before .before .lambda-of .ensures,
+      ← c .before .before .before .before .before .before .before .before .before .i-dual .ensures,
+      ← c .before .before .before .before .before .before .before .before .j-dual .ensures,
+      ← c .before .before .before .before .before .before .before .b-dual .ensures,
+      ← c .before .before .before .before .before .before .a1s-ij-dual .ensures,
     )
+    (ap (λ x. held x) (plain-times-sum _ _ _ (c .before .before .before .before .before .add .ensures) (c .before .before .before .before .add2 .ensures) (c .before .before .before .mul .ensures) (c .before .before .mul2 .ensures) (c .before .zero-times .ensures) (c .add3 .ensures)))
 
 pub a1s-b-ij-dual-spec : {M : Type 1} → statement M
 a1s-b-ij-dual-spec =
@@ -130,5 +164,14 @@ a1s-b-ij-dual-spec =
     enum-told-3
     returns-3
     lambda-of-requires
-    a1s-b-of-requires
+    i-dual-requires
+    j-dual-requires
+    b-dual-requires
+    a1s-ij-dual-requires
+    add-requires
+    add-requires-2
+    mul-requires
+    mul-requires-2
+    zero-times-requires
+    add-requires-3
     returns-4)

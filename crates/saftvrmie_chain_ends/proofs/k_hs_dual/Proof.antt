@@ -15,17 +15,14 @@ plain-requires c κs = search needs
 sub-requires : tie.Need-sub-requires
 sub-requires c κs = search needs
 
-pow-up-requires : tie.Need-pow-up-requires
-pow-up-requires c κs = search needs
+fourth-dual-requires : tie.Need-fourth-dual-requires
+fourth-dual-requires c κs = search needs
 
-pow-up-requires-2 : tie.Need-pow-up-requires-2
-pow-up-requires-2 c κs = search needs
+powers-dual-requires : tie.Need-powers-dual-requires
+powers-dual-requires c κs = search needs
 
 add-requires : tie.Need-add-requires
 add-requires c κs = search needs
-
-pow-up-requires-3 : tie.Need-pow-up-requires-3
-pow-up-requires-3 c κs = search needs
 
 sub-requires-2 : tie.Need-sub-requires-2
 sub-requires-2 c κs = search needs
@@ -35,9 +32,6 @@ point-requires-2 c κs = search needs
 
 mul-plain-requires : tie.Need-mul-plain-requires
 mul-plain-requires c κs = search needs
-
-pow-up-requires-4 : tie.Need-pow-up-requires-4
-pow-up-requires-4 c κs = search needs
 
 add-requires-2 : tie.Need-add-requires-2
 add-requires-2 c κs = search needs
@@ -51,22 +45,7 @@ div-requires c κs = search needs
 returns : tie.Need-returns
 unfolding kHs decimal ofBits
 returns c =
-    rw (
-      c .div .ensures,
-      c .before .add-plain .ensures,
-      c .before .before .add2 .ensures,
-      c .before .before .before .pow-up4 .ensures,
-      c .before .before .before .before .mul-plain .ensures,
-      c .before .before .before .before .before .point2 .ensures,
-      c .before .before .before .before .before .before .sub2 .ensures,
-      c .before .before .before .before .before .before .before .pow-up3 .ensures,
-      c .before .before .before .before .before .before .before .before .add .ensures,
-      c .before .before .before .before .before .before .before .before .before .pow-up2 .ensures,
-      c .before .before .before .before .before .before .before .before .before .before .pow-up .ensures,
-      c .before .before .before .before .before .before .before .before .before .before .before .sub .ensures,
-      c .before .before .before .before .before .before .before .before .before .before .before .before .plain .ensures,
-      c .before .before .before .before .before .before .before .before .before .before .before .before .before .point .ensures,
-    )
+    rw (c .div .ensures, c .before .add-plain .ensures, c .before .before .add2 .ensures, c .before .before .before .before .before .before .before .powers-dual .ensures .1 .1, c .before .before .before .mul-plain .ensures, c .before .before .before .before .point2 .ensures, c .before .before .before .before .before .sub2 .ensures, c .before .before .before .before .before .before .before .powers-dual .ensures .1 .0, c .before .before .before .before .before .before .add .ensures, c .before .before .before .before .before .before .before .powers-dual .ensures .0, c .before .before .before .before .before .before .before .before .fourth-dual .ensures, c .before .before .before .before .before .before .before .before .before .sub .ensures, c .before .before .before .before .before .before .before .before .before .before .plain .ensures, c .before .before .before .before .before .before .before .before .before .before .before .point .ensures)
 
 pub k-hs-dual-spec : {M : Type 1} → statement M
 k-hs-dual-spec =
@@ -75,14 +54,12 @@ k-hs-dual-spec =
     point-requires
     plain-requires
     sub-requires
-    pow-up-requires
-    pow-up-requires-2
+    fourth-dual-requires
+    powers-dual-requires
     add-requires
-    pow-up-requires-3
     sub-requires-2
     point-requires-2
     mul-plain-requires
-    pow-up-requires-4
     add-requires-2
     add-plain-requires
     div-requires
