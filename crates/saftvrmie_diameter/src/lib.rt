@@ -28,40 +28,54 @@ pub enum HalleyAnswer {
     Outside,
 }
 
-// 10-point Gauss-Legendre quadrature (GLQ10): positions, and weights below. A match, since a const array would be rebuilt at every call. The index is the turn of a loop over the 10 nodes, and beyond them there is no entry; so for the weights.
+// 10-point Gauss-Legendre quadrature: positions and weights.
+pub const GLQ10: [[f64; 2]; 10] = [
+    [-0.1488743389816312, 0.2955242247147529],
+    [0.1488743389816312, 0.2955242247147529],
+    [-0.4333953941292472, 0.2692667193099963],
+    [0.4333953941292472, 0.2692667193099963],
+    [-0.6794095682990244, 0.219086362515982],
+    [0.6794095682990244, 0.219086362515982],
+    [-0.8650633666889845, 0.1494513491505806],
+    [0.8650633666889845, 0.1494513491505806],
+    [-0.9739065285171717, 0.0666713443086881],
+    [0.9739065285171717, 0.0666713443086881],
+];
+
+// An entry, 0 beyond the table. Read at literal places, since at a place worked at run time the table would be rebuilt at every call.
 pub fn position(k: usize) -> f64
-    requires { ⌜ k < 10 ⌝ }
     ensures { λ r. ⌜ r ≡ entry (calls floats port) positions k ⌝ }
 {
     match k {
-        0 => -0.1488743389816312,
-        1 => 0.1488743389816312,
-        2 => -0.4333953941292472,
-        3 => 0.4333953941292472,
-        4 => -0.6794095682990244,
-        5 => 0.6794095682990244,
-        6 => -0.8650633666889845,
-        7 => 0.8650633666889845,
-        8 => -0.9739065285171717,
-        _ => 0.9739065285171717,
+        0 => GLQ10[0][0],
+        1 => GLQ10[1][0],
+        2 => GLQ10[2][0],
+        3 => GLQ10[3][0],
+        4 => GLQ10[4][0],
+        5 => GLQ10[5][0],
+        6 => GLQ10[6][0],
+        7 => GLQ10[7][0],
+        8 => GLQ10[8][0],
+        9 => GLQ10[9][0],
+        _ => 0.0,
     }
 }
 
 pub fn weight(k: usize) -> f64
-    requires { ⌜ k < 10 ⌝ }
     ensures { λ r. ⌜ r ≡ entry (calls floats port) weights k ⌝ }
 {
     match k {
-        0 => 0.2955242247147529,
-        1 => 0.2955242247147529,
-        2 => 0.2692667193099963,
-        3 => 0.2692667193099963,
-        4 => 0.219086362515982,
-        5 => 0.219086362515982,
-        6 => 0.1494513491505806,
-        7 => 0.1494513491505806,
-        8 => 0.0666713443086881,
-        _ => 0.0666713443086881,
+        0 => GLQ10[0][1],
+        1 => GLQ10[1][1],
+        2 => GLQ10[2][1],
+        3 => GLQ10[3][1],
+        4 => GLQ10[4][1],
+        5 => GLQ10[5][1],
+        6 => GLQ10[6][1],
+        7 => GLQ10[7][1],
+        8 => GLQ10[8][1],
+        9 => GLQ10[9][1],
+        _ => 0.0,
     }
 }
 
