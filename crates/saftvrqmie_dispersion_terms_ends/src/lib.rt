@@ -4,11 +4,19 @@ ghost use Rattle.number.specs.Functions.{calls};
 ghost use Rattle.elementary.specs.Port.{port};
 ghost use Rattle.enclosure.specs.Answer.{answer};
 ghost use Rattle.enclosure.specs.Enclosure.{enclosures};
-ghost use Rattle.saftvrqmie_dispersion_terms.specs.Terms.{lamSum, etaEff, sutherlandOf, ilambdaOf, jlambdaOf, factorI, factorJ, bOf, combineSutherlandAndB};
-ghost use Rattle.saftvrqmie_dispersion_terms_ends.specs.Shared.{combineAt};
+ghost use Rattle.saftvrqmie_dispersion_terms.specs.Terms.{lamSum, etaEff, factorI, factorJ, bOf, combineSutherlandAndB};
+ghost use Rattle.saftvrqmie_dispersion_terms_ends.specs.Shared.{powfAt, sutherlandBy, ilambdaBy, jlambdaBy, combineAt};
+use binary_log::Log;
 use enclosure::Enclosure;
 use enclosure::EnclosureAnswer;
 use saftvrqmie_dispersion_terms::LAM_COEFF;
+
+// A base of powers with its logarithm, which holds where the base is inside the power's domain.
+pub struct Base {
+    pub x: Enclosure,
+    pub inside: bool,
+    pub log: Log,
+}
 
 // What all exponents of a pair share.
 pub struct PairTerms {
@@ -16,8 +24,8 @@ pub struct PairTerms {
     pub zeta: Enclosure,
     pub factor_i: Enclosure,
     pub factor_j: Enclosure,
-    pub x0: Enclosure,
-    pub x0_eff: Enclosure,
+    pub x0: Base,
+    pub x0_eff: Base,
 }
 
 fn lam_sum_0(l0: Enclosure, l1: Enclosure, l2: Enclosure, l3: Enclosure) -> Enclosure
@@ -65,8 +73,9 @@ pub fn eta_eff(lambda: Enclosure, zeta: Enclosure) -> Enclosure
 {
     let one = enclosure::point(1.0);
     let l1 = enclosure::div(one, lambda);
-    let l2 = enclosure::div(one, enclosure::pow_up(lambda, 2));
-    let l3 = enclosure::div(one, enclosure::pow_up(lambda, 3));
+    let square = enclosure::mul(lambda, lambda);
+    let l2 = enclosure::div(one, enclosure::mul(one, square));
+    let l3 = enclosure::div(one, enclosure::mul(enclosure::mul(one, lambda), square));
     let c0 = lam_sum_0(one, l1, l2, l3);
     let c1 = lam_sum_1(one, l1, l2, l3);
     let c2 = lam_sum_2(one, l1, l2, l3);
@@ -77,43 +86,34 @@ pub fn eta_eff(lambda: Enclosure, zeta: Enclosure) -> Enclosure
     enclosure::mul(zeta, s1)
 }
 
-fn sutherland_of(lambda: Enclosure, epsilon_k: Enclosure, ef: Enclosure, p: Enclosure) -> Enclosure
-    ensures { λ r. ⌜ r ≡ sutherlandOf enclosures lambda «epsilon_k» ef p ⌝ }
+fn sutherland_of(l3: Enclosure, epsilon_k: Enclosure, ef: Enclosure, p: Enclosure) -> Enclosure
+    ensures { λ r. ⌜ r ≡ sutherlandBy l3 «epsilon_k» ef p ⌝ }
 {
     let half = enclosure::point(0.5);
     let one = enclosure::point(1.0);
     let a = enclosure::add(enclosure::mul(enclosure::neg(ef), half), one);
     let minus_twelve = enclosure::point(-12.0);
-    let three = enclosure::point(3.0);
     let c = enclosure::div(
         enclosure::mul(
             enclosure::mul(enclosure::mul(a, minus_twelve), p),
             epsilon_k,
         ),
-        enclosure::sub(lambda, three),
+        l3,
     );
     let d = enclosure::pow_up(enclosure::add(enclosure::neg(ef), one), 3);
     enclosure::div(c, d)
 }
 
-fn ilambda_of(lambda: Enclosure, p3: Enclosure) -> Enclosure
-    ensures { λ r. ⌜ r ≡ ilambdaOf enclosures lambda p3 ⌝ }
+fn ilambda_of(l3: Enclosure, p3: Enclosure) -> Enclosure
+    ensures { λ r. ⌜ r ≡ ilambdaBy l3 p3 ⌝ }
 {
     let one = enclosure::point(1.0);
-    let three = enclosure::point(3.0);
-    enclosure::div(
-        enclosure::neg(enclosure::sub(p3, one)),
-        enclosure::sub(lambda, three),
-    )
+    enclosure::div(enclosure::neg(enclosure::sub(p3, one)), l3)
 }
 
-fn jlambda_of(lambda: Enclosure, p4: Enclosure, p3: Enclosure) -> Enclosure
-    ensures { λ r. ⌜ r ≡ jlambdaOf enclosures lambda p4 p3 ⌝ }
+fn jlambda_of(l3: Enclosure, l4: Enclosure, p4: Enclosure, p3: Enclosure) -> Enclosure
+    ensures { λ r. ⌜ r ≡ jlambdaBy l3 l4 p4 p3 ⌝ }
 {
-    let three = enclosure::point(3.0);
-    let l3 = enclosure::sub(lambda, three);
-    let four = enclosure::point(4.0);
-    let l4 = enclosure::sub(lambda, four);
     let one = enclosure::point(1.0);
     enclosure::div(
         enclosure::neg(enclosure::sub(
@@ -171,6 +171,26 @@ fn b_of(
     )
 }
 
+// The logarithm is worked once for all exponents.
+fn base_of(x: Enclosure) -> Base
+    ensures { λ r. ⌜ powfAt r ≡ calls enclosures port .powf x ⌝ }
+{
+    Base {
+        x: x,
+        inside: binary_log::base_inside(x.value),
+        log: binary_log::log_base(x.value),
+    }
+}
+
+fn powf_at(b: Base, y: Enclosure) -> EnclosureAnswer
+    ensures { λ r. ⌜ answer r ≡ powfAt b y ⌝ }
+{
+    if !b.inside {
+        return EnclosureAnswer::Outside;
+    }
+    enclosure::answered_two(saftvrqmie_dispersion_terms::powf_at(b.log, y.value), b.x, y)
+}
+
 pub fn combine_at(w: PairTerms, lambda: Enclosure) -> EnclosureAnswer
     ensures { λ r. ⌜ answer r ≡ combineAt w lambda ⌝ }
 {
@@ -178,18 +198,20 @@ pub fn combine_at(w: PairTerms, lambda: Enclosure) -> EnclosureAnswer
     let e3 = enclosure::sub(three, lambda);
     let four = enclosure::point(4.0);
     let e4 = enclosure::sub(four, lambda);
-    let EnclosureAnswer::Value(p) = elementary_ends::powf(w.x0, lambda) else {
+    let EnclosureAnswer::Value(p) = powf_at(w.x0, lambda) else {
         return EnclosureAnswer::Outside;
     };
-    let EnclosureAnswer::Value(p3) = elementary_ends::powf(w.x0_eff, e3) else {
+    let EnclosureAnswer::Value(p3) = powf_at(w.x0_eff, e3) else {
         return EnclosureAnswer::Outside;
     };
-    let EnclosureAnswer::Value(p4) = elementary_ends::powf(w.x0_eff, e4) else {
+    let EnclosureAnswer::Value(p4) = powf_at(w.x0_eff, e4) else {
         return EnclosureAnswer::Outside;
     };
-    let int_as = sutherland_of(lambda, w.epsilon_k, eta_eff(lambda, w.zeta), p);
-    let i = ilambda_of(lambda, p3);
-    let j = jlambda_of(lambda, p4, p3);
+    let l3 = enclosure::sub(lambda, three);
+    let l4 = enclosure::sub(lambda, four);
+    let int_as = sutherland_of(l3, w.epsilon_k, eta_eff(lambda, w.zeta), p);
+    let i = ilambda_of(l3, p3);
+    let j = jlambda_of(l3, l4, p4, p3);
     let int_b = b_of(w.epsilon_k, w.factor_i, w.factor_j, i, j, p);
     EnclosureAnswer::Value(enclosure::add(int_as, int_b))
 }
@@ -208,8 +230,8 @@ pub fn terms_of(
         zeta: zeta,
         factor_i: factor_i(zeta),
         factor_j: factor_j(zeta),
-        x0: x0,
-        x0_eff: x0_eff,
+        x0: base_of(x0),
+        x0_eff: base_of(x0_eff),
     }
 }
 

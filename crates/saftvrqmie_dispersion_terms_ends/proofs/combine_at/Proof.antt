@@ -1,11 +1,13 @@
 -- `saftvrqmie_dispersion_terms_ends::combine_at` meets its contract. Assumes nothing.
-use Rattle.enclosure.specs.Answer.{answer}
-use Rattle.number.proofs.Walk.{via}
-use Rattle.number.specs.Ans.{_>>=_}
-use Rattle.saftvrqmie_dispersion_terms_ends.specs.Shared.{combineAt}
-use Rattle.saftvrqmie_dispersion_terms.specs.Terms.{sutherland, ilambda, jlambda, b, combine}
-use Rattle.number.specs.Arith.{decimal}
 use lib.Ieee.{ofBits, neg}
+use Rattle.number.specs.Arith.{decimal}
+use Rattle.saftvrqmie_dispersion_terms.specs.Terms.{sutherland, ilambda, jlambda, b, combine}
+use Rattle.saftvrqmie_dispersion_terms_ends.specs.Shared.{combineAt}
+use Rattle.number.specs.Ans.{_>>=_}
+use Rattle.number.proofs.Walk.{via}
+use Rattle.enclosure.specs.Answer.{answer}
+use mathlib.Core.Path.{_∙_}
+use Rattle.saftvrqmie_dispersion_terms_ends.proofs.Shared.{sutherland-is, ilambda-is, jlambda-is}
 use borrow.Author.Needs.{needs}
 use Rattle.saftvrqmie_dispersion_terms_ends.proofs.combine_at.Statement.{statement}
 use Rattle.saftvrqmie_dispersion_terms_ends.proofs.combine_at.Tie as tie
@@ -22,8 +24,8 @@ point-requires-2 c κs = search needs
 sub-requires-2 : tie.Need-sub-requires-2
 sub-requires-2 c κs = search needs
 
-powf-requires : tie.Need-powf-requires
-powf-requires c κs = search needs
+powf-at-requires : tie.Need-powf-at-requires
+powf-at-requires c κs = search needs
 
 enum-known-p : tie.Need-enum-known-p
 enum-known-p c = search needs
@@ -39,11 +41,11 @@ returns c =
       ← c .before .before .before .before .before .sub .ensures,
       ← c .before .before .before .before .point2 .ensures,
       ← c .before .before .before .sub2 .ensures,
-      via answer (c .before .before .powf .ensures) (c .enum-told .given .1),
+      via answer (c .before .before .powf-at .ensures) (c .enum-told .given .1),
     )
 
-powf-requires-2 : tie.Need-powf-requires-2
-powf-requires-2 c κs = search needs
+powf-at-requires-2 : tie.Need-powf-at-requires-2
+powf-at-requires-2 c κs = search needs
 
 enum-known-p3 : tie.Need-enum-known-p3
 enum-known-p3 c = search needs
@@ -59,12 +61,12 @@ returns-2 c =
       ← c .before .before .before .before .before .before .before .before .before .sub .ensures,
       ← c .before .before .before .before .before .before .before .before .point2 .ensures,
       ← c .before .before .before .before .before .before .before .sub2 .ensures,
-      via answer (c .before .before .before .before .before .before .powf .ensures) (c .before .before .before .before .p .given .1),
-      via answer (c .before .before .powf2 .ensures) (c .enum-told2 .given .1),
+      via answer (c .before .before .before .before .before .before .powf-at .ensures) (c .before .before .before .before .p .given .1),
+      via answer (c .before .before .powf-at2 .ensures) (c .enum-told2 .given .1),
     )
 
-powf-requires-3 : tie.Need-powf-requires-3
-powf-requires-3 c κs = search needs
+powf-at-requires-3 : tie.Need-powf-at-requires-3
+powf-at-requires-3 c κs = search needs
 
 enum-known-p4 : tie.Need-enum-known-p4
 enum-known-p4 c = search needs
@@ -80,10 +82,16 @@ returns-3 c =
       ← c .before .before .before .before .before .before .before .before .before .before .before .before .before .sub .ensures,
       ← c .before .before .before .before .before .before .before .before .before .before .before .before .point2 .ensures,
       ← c .before .before .before .before .before .before .before .before .before .before .before .sub2 .ensures,
-      via answer (c .before .before .before .before .before .before .before .before .before .before .powf .ensures) (c .before .before .before .before .before .before .before .before .p .given .1),
-      via answer (c .before .before .before .before .before .before .powf2 .ensures) (c .before .before .before .before .p3 .given .1),
-      via answer (c .before .before .powf3 .ensures) (c .enum-told3 .given .1),
+      via answer (c .before .before .before .before .before .before .before .before .before .before .powf-at .ensures) (c .before .before .before .before .before .before .before .before .p .given .1),
+      via answer (c .before .before .before .before .before .before .powf-at2 .ensures) (c .before .before .before .before .p3 .given .1),
+      via answer (c .before .before .powf-at3 .ensures) (c .enum-told3 .given .1),
     )
+
+sub-requires-3 : tie.Need-sub-requires-3
+sub-requires-3 c κs = search needs
+
+sub-requires-4 : tie.Need-sub-requires-4
+sub-requires-4 c κs = search needs
 
 eta-eff-requires : tie.Need-eta-eff-requires
 eta-eff-requires c κs = search needs
@@ -107,17 +115,17 @@ returns-4 : tie.Need-returns-4
 unfolding combineAt combine sutherland b ilambda jlambda _>>=_ decimal ofBits neg
 returns-4 c =
     rw (
-      ← c .before .before .before .before .before .before .before .before .before .before .before .before .before .before .before .before .before .before .before .before .before .point .ensures,
-      ← c .before .before .before .before .before .before .before .before .before .before .before .before .before .before .before .before .before .before .before .before .sub .ensures,
-      ← c .before .before .before .before .before .before .before .before .before .before .before .before .before .before .before .before .before .before .before .point2 .ensures,
-      ← c .before .before .before .before .before .before .before .before .before .before .before .before .before .before .before .before .before .before .sub2 .ensures,
-      via answer (c .before .before .before .before .before .before .before .before .before .before .before .before .before .before .before .before .before .powf .ensures) (c .before .before .before .before .before .before .before .before .before .before .before .before .before .before .before .p .given .1),
-      via answer (c .before .before .before .before .before .before .before .before .before .before .before .before .before .powf2 .ensures) (c .before .before .before .before .before .before .before .before .before .before .before .p3 .given .1),
-      via answer (c .before .before .before .before .before .before .before .before .before .powf3 .ensures) (c .before .before .before .before .before .before .before .p4 .given .1),
+      ← c .before .before .before .before .before .before .before .before .before .before .before .before .before .before .before .before .before .before .before .before .before .before .before .point .ensures,
+      ← c .before .before .before .before .before .before .before .before .before .before .before .before .before .before .before .before .before .before .before .before .before .before .sub .ensures,
+      ← c .before .before .before .before .before .before .before .before .before .before .before .before .before .before .before .before .before .before .before .before .before .point2 .ensures,
+      ← c .before .before .before .before .before .before .before .before .before .before .before .before .before .before .before .before .before .before .before .before .sub2 .ensures,
+      via answer (c .before .before .before .before .before .before .before .before .before .before .before .before .before .before .before .before .before .before .before .powf-at .ensures) (c .before .before .before .before .before .before .before .before .before .before .before .before .before .before .before .before .before .p .given .1),
+      via answer (c .before .before .before .before .before .before .before .before .before .before .before .before .before .before .before .powf-at2 .ensures) (c .before .before .before .before .before .before .before .before .before .before .before .before .before .p3 .given .1),
+      via answer (c .before .before .before .before .before .before .before .before .before .before .before .powf-at3 .ensures) (c .before .before .before .before .before .before .before .before .before .p4 .given .1),
       ← c .before .before .before .before .before .eta-eff .ensures,
-      ← c .before .before .before .before .sutherland-of .ensures,
-      ← c .before .before .before .ilambda-of .ensures,
-      ← c .before .before .jlambda-of .ensures,
+      ← (c .before .before .before .before .sutherland-of .ensures ∙ sutherland-is _ _ (rw (c .before .before .before .before .before .before .before .before .before .before .before .before .before .before .before .before .before .before .before .before .before .before .before .point .ensures) at (c .before .before .before .before .before .before .before .sub3 .ensures)) _ _ _),
+      ← (c .before .before .before .ilambda-of .ensures ∙ ilambda-is _ _ (rw (c .before .before .before .before .before .before .before .before .before .before .before .before .before .before .before .before .before .before .before .before .before .before .before .point .ensures) at (c .before .before .before .before .before .before .before .sub3 .ensures)) _),
+      ← (c .before .before .jlambda-of .ensures ∙ jlambda-is _ _ (rw (c .before .before .before .before .before .before .before .before .before .before .before .before .before .before .before .before .before .before .before .before .before .before .before .point .ensures) at (c .before .before .before .before .before .before .before .sub3 .ensures)) _ (rw (c .before .before .before .before .before .before .before .before .before .before .before .before .before .before .before .before .before .before .before .before .before .point2 .ensures) at (c .before .before .before .before .before .before .sub4 .ensures)) _ _),
       ← c .before .b-of .ensures,
       ← c .add .ensures,
     )
@@ -130,18 +138,20 @@ combine-at-spec =
     sub-requires
     point-requires-2
     sub-requires-2
-    powf-requires
+    powf-at-requires
     enum-known-p
     enum-told
     returns
-    powf-requires-2
+    powf-at-requires-2
     enum-known-p3
     enum-told-2
     returns-2
-    powf-requires-3
+    powf-at-requires-3
     enum-known-p4
     enum-told-3
     returns-3
+    sub-requires-3
+    sub-requires-4
     eta-eff-requires
     sutherland-of-requires
     ilambda-of-requires

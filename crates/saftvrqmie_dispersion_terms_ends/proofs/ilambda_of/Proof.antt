@@ -1,7 +1,7 @@
 -- `saftvrqmie_dispersion_terms_ends::ilambda_of` meets its contract. Assumes nothing.
-use Rattle.saftvrqmie_dispersion_terms.specs.Terms.{ilambdaOf}
-use Rattle.number.specs.Arith.{decimal}
 use lib.Ieee.{ofBits, neg}
+use Rattle.number.specs.Arith.{decimal}
+use Rattle.saftvrqmie_dispersion_terms_ends.specs.Shared.{ilambdaBy}
 use borrow.Author.Needs.{needs}
 use Rattle.saftvrqmie_dispersion_terms_ends.proofs.ilambda_of.Statement.{statement}
 use Rattle.saftvrqmie_dispersion_terms_ends.proofs.ilambda_of.Tie as tie
@@ -9,41 +9,25 @@ use Rattle.saftvrqmie_dispersion_terms_ends.proofs.ilambda_of.Tie as ti
 point-requires : tie.Need-point-requires
 point-requires c κs = search needs
 
-point-requires-2 : tie.Need-point-requires-2
-point-requires-2 c κs = search needs
-
 sub-requires : tie.Need-sub-requires
 sub-requires c κs = search needs
 
 neg-requires : tie.Need-neg-requires
 neg-requires c κs = search needs
 
-sub-requires-2 : tie.Need-sub-requires-2
-sub-requires-2 c κs = search needs
-
 div-requires : tie.Need-div-requires
 div-requires c κs = search needs
 
 returns : tie.Need-returns
-unfolding ilambdaOf decimal ofBits neg
+unfolding ilambdaBy decimal ofBits neg
 returns c =
     rw (
       c .div .ensures,
-      c .before .sub2 .ensures,
-      c .before .before .neg .ensures,
-      c .before .before .before .sub .ensures,
-      c .before .before .before .before .point2 .ensures,
-      c .before .before .before .before .before .point .ensures,
+      c .before .neg .ensures,
+      c .before .before .sub .ensures,
+      c .before .before .before .point .ensures,
     )
 
 pub ilambda-of-spec : {M : Type 1} → statement M
 ilambda-of-spec =
-    tie.close
-    (tie.spec
-    point-requires
-    point-requires-2
-    sub-requires
-    neg-requires
-    sub-requires-2
-    div-requires
-    returns)
+    tie.close (tie.spec point-requires sub-requires neg-requires div-requires returns)

@@ -1,7 +1,7 @@
 -- `saftvrqmie_dispersion_terms_ends::sutherland_of` meets its contract. Assumes nothing.
-use Rattle.saftvrqmie_dispersion_terms.specs.Terms.{sutherlandOf}
-use Rattle.number.specs.Arith.{decimal}
 use lib.Ieee.{ofBits, neg}
+use Rattle.number.specs.Arith.{decimal}
+use Rattle.saftvrqmie_dispersion_terms_ends.specs.Shared.{sutherlandBy}
 use borrow.Author.Needs.{needs}
 use Rattle.saftvrqmie_dispersion_terms_ends.proofs.sutherland_of.Statement.{statement}
 use Rattle.saftvrqmie_dispersion_terms_ends.proofs.sutherland_of.Tie as tie
@@ -24,9 +24,6 @@ add-requires c κs = search needs
 point-requires-3 : tie.Need-point-requires-3
 point-requires-3 c κs = search needs
 
-point-requires-4 : tie.Need-point-requires-4
-point-requires-4 c κs = search needs
-
 mul-requires-2 : tie.Need-mul-requires-2
 mul-requires-2 c κs = search needs
 
@@ -35,9 +32,6 @@ mul-requires-3 c κs = search needs
 
 mul-requires-4 : tie.Need-mul-requires-4
 mul-requires-4 c κs = search needs
-
-sub-requires : tie.Need-sub-requires
-sub-requires c κs = search needs
 
 div-requires : tie.Need-div-requires
 div-requires c κs = search needs
@@ -55,7 +49,7 @@ div-requires-2 : tie.Need-div-requires-2
 div-requires-2 c κs = search needs
 
 returns : tie.Need-returns
-unfolding sutherlandOf decimal ofBits neg
+unfolding sutherlandBy decimal ofBits neg
 returns c =
     rw (
       c .div2 .ensures,
@@ -63,17 +57,15 @@ returns c =
       c .before .before .add2 .ensures,
       c .before .before .before .neg2 .ensures,
       c .before .before .before .before .div .ensures,
-      c .before .before .before .before .before .sub .ensures,
-      c .before .before .before .before .before .before .mul4 .ensures,
-      c .before .before .before .before .before .before .before .mul3 .ensures,
-      c .before .before .before .before .before .before .before .before .mul2 .ensures,
-      c .before .before .before .before .before .before .before .before .before .point4 .ensures,
-      c .before .before .before .before .before .before .before .before .before .before .point3 .ensures,
-      c .before .before .before .before .before .before .before .before .before .before .before .add .ensures,
-      c .before .before .before .before .before .before .before .before .before .before .before .before .mul .ensures,
-      c .before .before .before .before .before .before .before .before .before .before .before .before .before .neg .ensures,
-      c .before .before .before .before .before .before .before .before .before .before .before .before .before .before .point2 .ensures,
-      c .before .before .before .before .before .before .before .before .before .before .before .before .before .before .before .point .ensures,
+      c .before .before .before .before .before .mul4 .ensures,
+      c .before .before .before .before .before .before .mul3 .ensures,
+      c .before .before .before .before .before .before .before .mul2 .ensures,
+      c .before .before .before .before .before .before .before .before .point3 .ensures,
+      c .before .before .before .before .before .before .before .before .before .add .ensures,
+      c .before .before .before .before .before .before .before .before .before .before .mul .ensures,
+      c .before .before .before .before .before .before .before .before .before .before .before .neg .ensures,
+      c .before .before .before .before .before .before .before .before .before .before .before .before .point2 .ensures,
+      c .before .before .before .before .before .before .before .before .before .before .before .before .before .point .ensures,
     )
 
 pub sutherland-of-spec : {M : Type 1} → statement M
@@ -86,11 +78,9 @@ sutherland-of-spec =
     mul-requires
     add-requires
     point-requires-3
-    point-requires-4
     mul-requires-2
     mul-requires-3
     mul-requires-4
-    sub-requires
     div-requires
     neg-requires-2
     add-requires-2
