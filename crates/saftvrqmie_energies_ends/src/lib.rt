@@ -13,7 +13,7 @@ ghost use Rattle.enclosure.specs.Enclosure.{enclosures, addE, mulE, divE, point
 ghost use Rattle.saftvrqmie_potential.specs.Potential.{whole};
 ghost use Rattle.saftvrqmie_dispersion.specs.Perturbation.{dispersionPair};
 ghost use Rattle.saftvrqmie_energies.specs.State.{heldOr6, diagonal, points, sheetOf, pairOf, sheetsOf, nth, segmentDensity};
-ghost use Rattle.saftvrqmie_energies.specs.HardSphere.{zetaAdded, zeta, frac1mz3, zeta23Added, zeta23, hardSphereOf, hardSphere};
+ghost use Rattle.saftvrqmie_energies.specs.HardSphere.{zetaAdded, zeta, frac1mz3, zeta23Added, zeta23, hardSphereOf};
 ghost use Rattle.saftvrqmie_energies.specs.NonAdditive.{gHs, nonAdditiveIj, nonAdditiveColumn, nonAdditiveSum, densityShares, nonAdditive};
 ghost use Rattle.saftvrqmie_energies.specs.Dispersion.{invXsSum, segmentFractions, lead, perturbation, packingRow, packing, alphaRow, alphas, firstRow, first, secondRow, second, thirdRow, third, mixture, dispersion};
 ghost use Rattle.saftvrqmie_alpha_ends.specs.Pair.{pairIn};
@@ -21,7 +21,7 @@ ghost use Rattle.saftvrqmie_dispersion_ends.specs.Pair.{dispersionIn};
 ghost use Rattle.enclosure.specs.Ends.{endsIn};
 ghost use Rattle.saftvrqmie_energies.specs.Energies.{allFinite};
 ghost use Rattle.saftvrqmie_energies_ends.specs.Operation.{together, valuesOf, allSound, energiesEnds, energiesEndsAnswer};
-ghost use Rattle.saftvrqmie_energies_ends.specs.Parts.{zetaIn, zeta23In, mixtureIn};
+ghost use Rattle.saftvrqmie_energies_ends.specs.Parts.{zetaIn, zeta23In, mixtureIn, hardSphereAt};
 use enclosure::Enclosure;
 use enclosure::EnclosureAnswer;
 use enclosure::Ends;
@@ -222,11 +222,17 @@ fn hard_sphere_of(z: ZetaEnclosures, z23: Enclosure, l: Enclosure) -> Enclosure
     enclosure::div(enclosure::mul(sum, six), pi)
 }
 
-fn hard_sphere(n: usize, x: &[f64], rho: &[f64], table: &[f64], m: &[f64; 8]) -> EnclosureAnswer
-    requires { ⌜ (n ≤ side) × (length (now x) ≡ n) × (length (now rho) ≡ n) × (length (now table) ≡ 4 * sheet) ⌝ }
-    ensures { λ r. ⌜ answer r ≡ hardSphere enclosures (calls enclosures port) n (points enclosures (now (x .entry))) (points enclosures (now (rho .entry))) (diagonal (sheetOf enclosures (now (table .entry)) 1)) (points enclosures (now (m .entry))) ⌝ }
+// From the zetas, which the non-additive part takes too.
+fn hard_sphere(
+    n: usize,
+    x: &[f64],
+    table: &[f64],
+    m: &[f64; 8],
+    z: ZetaEnclosures,
+) -> EnclosureAnswer
+    requires { ⌜ (n ≤ side) × (length (now x) ≡ n) × (length (now table) ≡ 4 * sheet) ⌝ }
+    ensures { λ r. ⌜ answer r ≡ hardSphereAt n (points enclosures (now (x .entry))) (diagonal (sheetOf enclosures (now (table .entry)) 1)) (points enclosures (now (m .entry))) (zetaIn z) ⌝ }
 {
-    let z = zeta(n, rho, table, m);
     let v = enclosure::mul(z.z3, enclosure::point(-1.0));
     let EnclosureAnswer::Value(l) = elementary_ends::ln_1p(v) else {
         return EnclosureAnswer::Outside;
@@ -334,11 +340,10 @@ fn non_additive_sum(
     r
 }
 
-fn non_additive(n: usize, rho: &[f64], m: &[f64; 8], table: &[f64]) -> Enclosure
-    requires { ⌜ (n ≤ side) × (length (now table) ≡ 4 * sheet) × (length (now rho) ≡ n) ⌝ }
+fn non_additive(n: usize, rho: &[f64], m: &[f64; 8], table: &[f64], z: ZetaEnclosures) -> Enclosure
+    requires { ⌜ (n ≤ side) × (length (now table) ≡ 4 * sheet) × (length (now rho) ≡ n) × (zetaIn z ≡ zeta enclosures (calls enclosures port) n (points enclosures (now rho)) (diagonal (sheetOf enclosures (now table) 1)) (points enclosures (now m))) ⌝ }
     ensures { λ r. ⌜ r ≡ nonAdditive enclosures (calls enclosures port) n (points enclosures (now (rho .entry))) (points enclosures (now (m .entry))) (sheetOf enclosures (now (table .entry)) 1) ⌝ }
 {
-    let z = zeta(n, rho, table, m);
     let f = frac_1mz3(z.z3);
     let rho_s = segment_density(n, rho, m);
     let xs = density_shares(n, rho_s, rho, m);
@@ -784,14 +789,21 @@ fn dispersion(
 }
 
 // Not wanted: +0, and nothing of it is worked.
-fn wanted_part(n: usize, rho: &[f64], m: &[f64; 8], table: &[f64], wanted: bool) -> Enclosure
-    requires { ⌜ (n ≤ side) × (length (now table) ≡ 4 * sheet) × (length (now rho) ≡ n) ⌝ }
+fn wanted_part(
+    n: usize,
+    rho: &[f64],
+    m: &[f64; 8],
+    table: &[f64],
+    z: ZetaEnclosures,
+    wanted: bool,
+) -> Enclosure
+    requires { ⌜ (n ≤ side) × (length (now table) ≡ 4 * sheet) × (length (now rho) ≡ n) × (zetaIn z ≡ zeta enclosures (calls enclosures port) n (points enclosures (now rho)) (diagonal (sheetOf enclosures (now table) 1)) (points enclosures (now m))) ⌝ }
     ensures { λ r. ⌜ r ≡ cond wanted (nonAdditive enclosures (calls enclosures port) n (points enclosures (now (rho .entry))) (points enclosures (now (m .entry))) (sheetOf enclosures (now (table .entry)) 1)) (point zero64) ⌝ }
 {
     if !wanted {
         return enclosure::point(0.0);
     }
-    non_additive(n, rho, m, table)
+    non_additive(n, rho, m, table, z)
 }
 
 // ---- the operation
@@ -821,34 +833,34 @@ fn all_sound(h: Enclosure, d: Enclosure, a: Enclosure) -> bool
     x.sound & y.sound & z.sound
 }
 
-// The two ends of hard sphere, dispersion and, if wanted, non-additive. 1, 2, 6, 7, 8.
-pub fn helmholtz_energy_densities_ends(
-    set: SaftVRQMiePars,
+// The two ends of hard sphere, dispersion and, if wanted, non-additive, over a set's parts. 1, 2, 6, 7, 8.
+pub fn energies_ends_of(
+    n: usize,
+    m: &[f64; 8],
+    sheets: &[f64; 384],
+    orders: [OrderRecord; 64],
     temperature: f64,
     fractions: &[f64],
     densities: &[f64],
     table: &[f64],
     non_additive: bool,
 ) -> EnergiesEndsAnswer
-    ensures { λ r. ⌜ energiesEndsAnswer r ≡ energiesEnds port set temperature (now (fractions .entry)) (now (densities .entry)) (now (table .entry)) «non_additive» ⌝ }
+    ensures { λ r. ⌜ energiesEndsAnswer r ≡ energiesEnds port (record { count = n; m = now (m .entry); sheets = now (sheets .entry); orders = orders }) temperature (now (fractions .entry)) (now (densities .entry)) (now (table .entry)) «non_additive» ⌝ }
 {
-    let n = set.count;
     if !saftvrqmie_energies::right_lengths(n, fractions, densities, table) {
         return EnergiesEndsAnswer::Refused(1);
     }
     if !saftvrqmie_energies::within_limits(n, temperature, fractions, densities) {
         return EnergiesEndsAnswer::Refused(2);
     }
-    let m = set.m;
-    let sheets = set.sheets;
-    let orders = set.orders;
-    let EnclosureAnswer::Value(h) = hard_sphere(n, fractions, densities, table, &m) else {
+    let z = zeta(n, densities, table, m);
+    let EnclosureAnswer::Value(h) = hard_sphere(n, fractions, table, m, z) else {
         return EnergiesEndsAnswer::Refused(6);
     };
     let EnclosureAnswer::Value(d) = dispersion(
         n,
-        &m,
-        &sheets,
+        m,
+        sheets,
         orders,
         temperature,
         fractions,
@@ -857,7 +869,7 @@ pub fn helmholtz_energy_densities_ends(
     ) else {
         return EnergiesEndsAnswer::Refused(6);
     };
-    let a = wanted_part(n, densities, &m, table, non_additive);
+    let a = wanted_part(n, densities, m, table, z, non_additive);
     if !all_finite(h, d, a) {
         return EnergiesEndsAnswer::Refused(7);
     }
@@ -869,4 +881,30 @@ pub fn helmholtz_energy_densities_ends(
         dispersion: ends_in(d),
         non_additive: ends_in(a),
     })
+}
+
+pub fn helmholtz_energy_densities_ends(
+    set: SaftVRQMiePars,
+    temperature: f64,
+    fractions: &[f64],
+    densities: &[f64],
+    table: &[f64],
+    non_additive: bool,
+) -> EnergiesEndsAnswer
+    ensures { λ r. ⌜ energiesEndsAnswer r ≡ energiesEnds port set temperature (now (fractions .entry)) (now (densities .entry)) (now (table .entry)) «non_additive» ⌝ }
+{
+    let m = set.m;
+    let sheets = set.sheets;
+    let orders = set.orders;
+    energies_ends_of(
+        set.count,
+        &m,
+        &sheets,
+        orders,
+        temperature,
+        fractions,
+        densities,
+        table,
+        non_additive,
+    )
 }

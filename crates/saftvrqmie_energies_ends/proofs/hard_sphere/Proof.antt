@@ -1,16 +1,13 @@
 -- `saftvrqmie_energies_ends::hard_sphere` meets its contract. Assumes nothing.
 use Rattle.enclosure.specs.Answer.{answer}
-use Rattle.enclosure.specs.Enclosure.{enclosures}
-use mathlib.Core.Path.{ap}
+use Rattle.number.proofs.Walk.{via}
+use Rattle.number.specs.Ans.{_>>=_}
 use lib.Ieee.{ofBits, neg}
 use Rattle.number.specs.Arith.{decimal}
-use Rattle.saftvrqmie_energies.proofs.Turns.{hs-outside, hs-held}
+use Rattle.saftvrqmie_energies_ends.specs.Parts.{hardSphereAt}
 use borrow.Author.Needs.{needs}
 use Rattle.saftvrqmie_energies_ends.proofs.hard_sphere.Statement.{statement}
 use Rattle.saftvrqmie_energies_ends.proofs.hard_sphere.Tie as tie
-
-zeta-requires : tie.Need-zeta-requires
-zeta-requires c κs = search needs
 
 point-requires : tie.Need-point-requires
 point-requires c κs = search needs
@@ -28,8 +25,8 @@ enum-told : tie.Need-enum-told
 enum-told c = search needs
 
 returns : tie.Need-returns
-unfolding decimal ofBits neg
-returns c = hs-outside enclosures _ _ _ _ _ _ _ ((c .before .before .before .before .before .zeta) .ensures) _ (rw ((c .before .before .before .before .point) .ensures) at ((c .before .before .before .mul) .ensures)) _ ((c .before .before .ln-1p) .ensures) _ (ap answer ((c .enum-told) .given .1))
+unfolding hardSphereAt _>>=_ decimal ofBits neg
+returns c = rw (← (c .before .before .before .before .point) .ensures, ← (c .before .before .before .mul) .ensures, via answer ((c .before .before .ln-1p) .ensures) ((c .enum-told) .given .1))
 
 zeta-23-requires : tie.Need-zeta-23-requires
 zeta-23-requires c κs = search needs
@@ -38,14 +35,13 @@ hard-sphere-of-requires : tie.Need-hard-sphere-of-requires
 hard-sphere-of-requires c κs = search needs
 
 returns-2 : tie.Need-returns-2
-unfolding decimal ofBits neg
-returns-2 c = hs-held enclosures _ _ _ _ _ _ _ ((c .before .before .before .before .before .before .before .before .zeta) .ensures) _ (rw ((c .before .before .before .before .before .before .before .point) .ensures) at ((c .before .before .before .before .before .before .mul) .ensures)) _ ((c .before .before .before .before .before .ln-1p) .ensures) _ _ _ (ap answer ((c .before .before .before .l) .given .1)) ((c .before .zeta-23) .ensures) ((c .hard-sphere-of) .ensures)
+unfolding hardSphereAt _>>=_ decimal ofBits neg
+returns-2 c = rw (← (c .before .before .before .before .before .before .before .point) .ensures, ← (c .before .before .before .before .before .before .mul) .ensures, via answer ((c .before .before .before .before .before .ln-1p) .ensures) ((c .before .before .before .l) .given .1), ← (c .before .zeta-23) .ensures, ← (c .hard-sphere-of) .ensures)
 
 pub hard-sphere-spec : {M : Type 1} → statement M
 hard-sphere-spec =
     tie.close
     (tie.spec
-    zeta-requires
     point-requires
     mul-requires
     ln-1p-requires

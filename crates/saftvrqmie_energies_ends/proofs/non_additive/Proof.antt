@@ -5,9 +5,6 @@ use borrow.Author.Needs.{needs}
 use Rattle.saftvrqmie_energies_ends.proofs.non_additive.Statement.{statement}
 use Rattle.saftvrqmie_energies_ends.proofs.non_additive.Tie as tie
 
-zeta-requires : tie.Need-zeta-requires
-zeta-requires c κs = search needs
-
 frac-1mz3-requires : tie.Need-frac-1mz3-requires
 frac-1mz3-requires c κs = search needs
 
@@ -30,13 +27,12 @@ after-requires-2 : tie.Need-after-requires-2
 after-requires-2 c κs = search needs
 
 returns : tie.Need-returns
-returns c = non-additive-is enclosures _ _ _ _ _ _ _ _ _ _ _ _ _ ((c .before .before .before .before .before .before .before .zeta) .ensures) ((c .before .before .before .before .before .segment-density) .ensures) ((c .before .before .before .before .density-shares) .ensures) ((c .before .before .before .before .before .before .frac-1mz3) .ensures) ((c .before .before .before .non-additive-sum) .ensures) ((c .before .before .mul) .ensures) ((c .before .after) .ensures) ((c .after2) .ensures)
+returns c = non-additive-is enclosures _ _ _ _ _ _ _ _ _ _ _ _ _ ((c .before .before .before .before .before .before .before .before .before .pre) .3) ((c .before .before .before .before .before .segment-density) .ensures) ((c .before .before .before .before .density-shares) .ensures) ((c .before .before .before .before .before .before .frac-1mz3) .ensures) ((c .before .before .before .non-additive-sum) .ensures) ((c .before .before .mul) .ensures) ((c .before .after) .ensures) ((c .after2) .ensures)
 
 pub non-additive-spec : {M : Type 1} → statement M
 non-additive-spec =
     tie.close
     (tie.spec
-    zeta-requires
     frac-1mz3-requires
     segment-density-requires
     density-shares-requires
