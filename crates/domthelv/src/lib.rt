@@ -444,13 +444,22 @@ pub extern "C" fn domthelv_vrq_energies_ends(
     if out.len() != 6 {
         return 1;
     }
-    let read = quantum_set(count, m, sheets, orders);
-    let answer = read.answer;
-    let ParameterAnswer::Held = answer else {
-        return mie_parameters::number(answer);
-    };
-    let worked = saftvrqmie_energies_ends::helmholtz_energy_densities_ends(
-        read.set,
+    if !quantum_lengths(m, sheets, orders) {
+        return 1;
+    }
+    if !orders_within(orders) {
+        return 4;
+    }
+    let mut places = [0.0; 8];
+    copy(SIDE, m, 0, &mut places);
+    let mut flat = [0.0; 384];
+    copy(6 * SHEET, sheets, 0, &mut flat);
+    let records = orders_read(orders);
+    let worked = saftvrqmie_energies_ends::energies_ends_of(
+        count,
+        &places,
+        &flat,
+        records,
         temperature,
         fractions,
         densities,
