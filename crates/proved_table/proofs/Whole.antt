@@ -27,7 +27,7 @@ use Rattle.saftvrqmie_parameters.specs.Parameters as Quantum
 use Rattle.saftvrqmie_parameters.proofs.Laws as QuantumLaws
 use Rattle.saftvrqmie_parameters.proofs.Rows as QuantumRows
 use Rattle.saftvrmie_parameters.specs.Parameters as Mie
-use Rattle.proved_table.specs.Table.{Accepted, Within, two, Table}
+use Rattle.proved_table.specs.Table.{Accepted, Within, alike, Table}
 
 -- an order that the walk refuses, the operation refuses
 walked : (l : Quantum.Lists) (fh : List ℕ) (n : ℕ) → Within l → allOne (l .count) (at (l .m)) ≡ true → l .fh ≡ fh → Quantum.orderWalk (length fh) fh ≡ refused n → Quantum.saftVRQMiePars l ≡ refused n
@@ -56,9 +56,17 @@ orders-1-2-walk : Quantum.orderWalk 2 (1 ∷ 2 ∷ []) ≡ refused 5
 unfolding Quantum.orderWalk Quantum.orderRow walk Quantum.pairOrders demand _>>=_
 orders-1-2-walk = refl
 
-accepted-0-1 : Accepted (Quantum.saftVRQMiePars (two (0 ∷ 1 ∷ [])))
+accepted-0-1 : Accepted (Quantum.saftVRQMiePars (alike (0 ∷ 1 ∷ [])))
 unfolding Quantum.saftVRQMiePars Quantum.rightLengths countWithin Quantum.withinLimits componentsWithin componentWithin within massesWithin allWithin pairsWithin pairWithin sameBits allOne every turns Quantum.orderWalk Quantum.orderRow walk Quantum.pairOrders Quantum.sheetsOf Quantum.sheetsRow Quantum.sheetsTurn Quantum.pairParameters epsilonKIj lambdaIj cIj sigmaIj answered answered₂ root positiveRoot wholeRoot powfOf baseInside exponentInside demand _>>=_ decimal digits powDigits powUp Ieee.round Ieee.ofBits Ieee.le Ieee.lt Ieee.eq Ieee.isNan Ieee.toBits Ieee.neg Ieee.add Ieee.sub Ieee.mul Ieee.div Ieee.size
 accepted-0-1 = record { result = _; is = refl }
+
+within-2 : (a b : ℕ) → Within (alike (a ∷ b ∷ []))
+unfolding Quantum.rightLengths countWithin Quantum.withinLimits componentsWithin componentWithin within massesWithin allWithin pairsWithin pairWithin sameBits every turns decimal Ieee.round Ieee.ofBits Ieee.le Ieee.lt Ieee.eq Ieee.isNan Ieee.toBits Ieee.neg Ieee.size
+within-2 a b = record { lengths = refl; limits = refl }
+
+within-3 : (a b c : ℕ) → Within (alike (a ∷ b ∷ c ∷ []))
+unfolding Quantum.rightLengths countWithin Quantum.withinLimits componentsWithin componentWithin within massesWithin allWithin pairsWithin pairWithin sameBits every turns decimal Ieee.round Ieee.ofBits Ieee.le Ieee.lt Ieee.eq Ieee.isNan Ieee.toBits Ieee.neg Ieee.size
+within-3 a b c = record { lengths = refl; limits = refl }
 
 base-32 : (y : Ieee.Float) → T (exponentInside y) → Accepted (port .powf (decimal false 32 0) y)
 unfolding decimal Ieee.round Ieee.ofBits
@@ -96,6 +104,8 @@ pub table : Table
 table =
     record {
       orders-0-1 = accepted-0-1;
+      within-2 = within-2;
+      within-3 = within-3;
       orders-1-2 = λ l w m f. walked l _ _ w m f orders-1-2-walk;
       orders-1-2-3 = λ l w m f. walked l _ _ w m f QuantumRows.orders-1-2-3;
       orders-1-3-2 = λ l w m f. walked l _ _ w m f QuantumRows.orders-1-3-2;

@@ -4,7 +4,7 @@ use mathlib.Core.Path.{_≡_}
 use mathlib.Core.Bool.{true, false}
 use mathlib.Core.List.{List, [], _∷_}
 use lib.Dec.{T}
-use lib.ListN.{replicate}
+use lib.ListN.{length, replicate}
 use lib.Ieee.{Float}
 use Rattle.number.specs.Ans.{Ans, held, refused}
 use Rattle.number.specs.Arith.{floats, bits, decimal, zero64, one64}
@@ -30,25 +30,29 @@ pub record Within (l : Quantum.Lists) : Type 0 where
 abbrev pub Orders : List ℕ → ℕ → Type 0
 Orders fh n = (l : Quantum.Lists) → Within l → allOne (l .count) (at (l .m)) ≡ true → l .fh ≡ fh → Quantum.saftVRQMiePars l ≡ refused n
 
--- two components for the row that is accepted: sigma 3, epsilon_k 30, lr 12, la 6, mass 3e-27, pair values +0
-abbrev pub two : List ℕ → Quantum.Lists
-two fh =
+-- components alike, as many as there are orders, for the row that is accepted: sigma 3, epsilon_k 30, lr 12, la 6, mass 3e-27, pair values +0
+abbrev pub alike : List ℕ → Quantum.Lists
+alike fh =
+    let n = length fh in
     record {
-      count = 2;
-      m = replicate 2 one64;
-      sigma = replicate 2 (decimal false 3 0);
-      epsilon-k = replicate 2 (decimal false 30 0);
-      lr = replicate 2 (decimal false 12 0);
-      la = replicate 2 (decimal false 6 0);
-      mass = replicate 2 (decimal false 3 27);
+      count = n;
+      m = replicate n one64;
+      sigma = replicate n (decimal false 3 0);
+      epsilon-k = replicate n (decimal false 30 0);
+      lr = replicate n (decimal false 12 0);
+      la = replicate n (decimal false 6 0);
+      mass = replicate n (decimal false 3 27);
       fh = fh;
-      k-ij = replicate (2 * 2) zero64;
-      l-ij = replicate (2 * 2) zero64;
+      k-ij = replicate (n * n) zero64;
+      l-ij = replicate (n * n) zero64;
     }
 
 pub record Table : Type 0 where
   -- 'orders (0,1) accepted'
-  pub orders-0-1 : Accepted (Quantum.saftVRQMiePars (two (0 ∷ 1 ∷ [])))
+  pub orders-0-1 : Accepted (Quantum.saftVRQMiePars (alike (0 ∷ 1 ∷ [])))
+  -- such lists of two and of three components pass the tests 1 and 2 whatever their orders: the rows below speak of some
+  pub within-2 : (a b : ℕ) → Within (alike (a ∷ b ∷ []))
+  pub within-3 : (a b c : ℕ) → Within (alike (a ∷ b ∷ c ∷ []))
   -- '(1,2) 5; (1,2,3) 5; (1,3,2) 4; (0,3) 4'
   pub orders-1-2 : Orders (1 ∷ 2 ∷ []) 5
   pub orders-1-2-3 : Orders (1 ∷ 2 ∷ 3 ∷ []) 5
