@@ -24,7 +24,7 @@ use Rattle.number.proofs.Ops.{add-rounds, sub-rounds, mul-rounds, div-rounds, n
 use Rattle.number.proofs.Rank.{mag, place, rank, mag-inf, bits64, rank-lt}
 use Rattle.number.proofs.Neighbour.{up-below, up-zero, up-onto-zero, up-above, down-above, down-zero, down-minus-zero, down-below, nextUp-lt, nextDown-lt, nextUp-least, nextDown-greatest, nextUp-fits, nextDown-fits}
 use Rattle.interval.specs.declared.Interval.{Interval}
-use Rattle.interval.specs.Interval.{point, outward, around, oneSign, addI, subI, mulI, divI, negI, afterI}
+use Rattle.interval.specs.Interval.{point, outward, around, oneSign, addI, subI, mulI, divI, negI}
 
 -- ---- the neighbour of what is below, or above, a finite f64 is finite
 inf-bits : (s : Bool) → toBits binary64 (inf s) ≡ cond s 0x8000_0000_0000_0000 0 + 0x7ff0_0000_0000_0000
@@ -343,10 +343,6 @@ neg-within k x w =
 pub neg-tame : (k : ℕ) (x : Interval) → Tame k x → Tame k (negI x)
 unfolding negI
 neg-tame k x t = record { is-sound = t .is-sound; at-lower = neg-within k (x .upper) (t .at-upper); at-upper = neg-within k (x .lower) (t .at-lower) }
-
-pub after-tame : (k : ℕ) (u x : Interval) → T (u .sound) → Tame k x → Tame k (afterI u x)
-unfolding afterI
-after-tame k u x s t = record { is-sound = both-true (u .sound) (x .sound) s (t .is-sound); at-lower = t .at-lower; at-upper = t .at-upper }
 
 -- ---- 1 / y, its ends from 1 on
 pub record FromOne (x : Float) : Type 0 where
