@@ -12,8 +12,8 @@ import mpmath as mp
 mp.mp.prec = 200
 POWERS = [int(x) for x in re.search(r"powers = (.*) ∷ \[\]", open("crates/exponential/specs/Powers.antt").read()).group(1).split(" ∷ ")]
 CORE = [12786308645202655659, 34620288231216698, 62492070775105, 84601958330, 91627513]
-ODD = [9223372036854775808, 1537228672809129301, 76861433640456465, 1830034134296582, 25417140754119, 231064915946]
-EVEN = [4611686018427387904, 384307168202282325, 12810238940076077, 228754266787072, 2541714075411, 19255409662]
+OVER = [8511803295730238385, 236438980436951066, 562949953421312]
+UNDER = [8511803295730238385, 945755921747804265, 8444249301319680]
 ONES = 2**52 - 1
 REFUSED = 2**64 - 1
 
@@ -59,11 +59,12 @@ def exp_m1(b):
     if f < 969:
         return b
     if f < 1021:
-        m = (b & ONES) + 2**52 << 11
-        s = m >> 1022 - f
+        s = (b & ONES) + 2**52 << 11 >> 1022 - f
         q = s * s >> 64
-        g, h = horner(ODD, q), s * horner(EVEN, q) >> 64
-        return pack(b >> 63, m * (g - h if b >> 63 else g + h) >> 64, f)
+        a = horner(OVER, q)
+        h = (s * a >> 64) // 2
+        d = horner(UNDER, q) + (h if b >> 63 else -h)
+        return bits(value(b) * float(a // 2048) / float(d // 2048))
     w = exponent(b)
     y = significand(w)
     if b >> 63:

@@ -122,7 +122,7 @@ module _ (x : Float) where
   abbrev b : ℕ
   b = toBits binary64 x
 
-  pub away-small : (v : Float) → fieldOf b < 1021 → v ≡ smallOf b → v ≡ awayOf x
+  pub away-small : (v : Float) → fieldOf b < 1021 → v ≡ smallOf x b → v ≡ awayOf x
   unfolding awayOf
   away-small v h e = rw (holds (fieldOf b) 1021 h, e)
 

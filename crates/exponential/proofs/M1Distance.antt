@@ -9,7 +9,6 @@ use lib.IntN.{ℤ}
 use lib.Dec.{T, leb, ltb, leb→le, le→leb, lit<, lit≤}
 use lib.Pow.{pow-mono, pow-pos}
 use lib.Ieee.{Float, fin, up, down, binary64, fits, toBits}
-use lib.Ieee.Bits.{toBits-lt}
 use lib.Ieee.Fits.{down-pos}
 use Rattle.number.specs.Ans.{Ans, held, refused}
 use Rattle.number.specs.Frac.{Frac, sgn, valF}
@@ -17,7 +16,7 @@ use Rattle.number.proofs.Frac.{valF-pos}
 use Rattle.series.specs.Exact.{ExpValue, ExpM1Value}
 use Rattle.series.specs.Distance.{within}
 use Rattle.exponential.specs.Exp.{expInside, binaryOf, exponentAt, exponentOf}
-use Rattle.exponential.specs.ExpM1.{fieldOf, ratioOf, smallOf, belowOf, aboveOf, awayOf, expM1Of}
+use Rattle.exponential.specs.ExpM1.{fieldOf, smallOf, belowOf, aboveOf, awayOf, expM1Of}
 use Rattle.exponential.proofs.Decode.{unitsOf, decoded}
 use Rattle.exponential.proofs.Argument.{exp-inside-is, negative-at, positive-at}
 use Rattle.exponential.proofs.ExpNear.{argument-near}
@@ -61,9 +60,6 @@ module _ (s : Bool) (m : ℕ) (e : ℤ) (fit : T (fits binary64 (fin s m e))) (b
       go : (b : ℕ) → b % 4503599627370496 < 4503599627370496
       go b = omega arith
 
-  bits-lt : b < 2 ^ 64
-  bits-lt = toBits-lt binary64 (fin s m e) fit
-
   negative : s ≡ true → 2 ^ 63 ≤ b
   negative p = leb→le (2 ^ 63) b (subst T (sym p ∙ sign-is) tt)
 
@@ -94,23 +90,17 @@ module _ (s : Bool) (m : ℕ) (e : ℤ) (fit : T (fits binary64 (fin s m e))) (b
           turn n = ap (λ (z : ℕ). z * 2 ^ 1020) (mul-comm (2 ^ 54) n) ∙ mul-assoc n (2 ^ 54) (2 ^ 1020)
 
   -- ---- below 1/4
-  near-small : 969 ≤ fieldOf b → fieldOf b < 1021 → within (2 ^ 48) (valF (smallOf b)) x
-  unfolding smallOf ratioOf
+  near-small : 969 ≤ fieldOf b → fieldOf b < 1021 → within (2 ^ 48) (valF (smallOf (fin s m e) b)) x
+  unfolding smallOf
   near-small l h = go s refl
     where
-      none : (b : ℕ) → b < 2 ^ 63 → b / 2 ^ 63 ≡ 0
-      none b h = omega arith
-
-      one : (b : ℕ) → 2 ^ 63 ≤ b → b < 2 ^ 64 → b / 2 ^ 63 ≡ 1
-      one b h k = omega arith
-
-      go : (t : Bool) → s ≡ t → within (2 ^ 48) (valF (smallOf b)) x
+      go : (t : Bool) → s ≡ t → within (2 ^ 48) (valF (smallOf (fin s m e) b)) x
       go false p =
-          rw (none b (positive p), sym sign-is ∙ p)
-          (plus-near (m * up e) (down e) (fieldOf b) (b % 4503599627370496) (down-pos e) l h digits-lt size-is (value .e) x (value .proper) (subst (λ (t : Bool). ExpValue (sgn t (m * up e) (down e)) (value .e)) p (value .isExp)) (value .same))
+          rw (sym sign-is ∙ p)
+          (plus-near (m * up e) (down e) (fieldOf b) (b % 4503599627370496) (down-pos e) l h digits-lt size-is (fin s m e) (value .e) x (p, refl) (value .proper) (subst (λ (t : Bool). ExpValue (sgn t (m * up e) (down e)) (value .e)) p (value .isExp)) (value .same))
       go true p =
-          rw (one b (negative p) bits-lt, sym sign-is ∙ p)
-          (minus-near (m * up e) (down e) (fieldOf b) (b % 4503599627370496) (down-pos e) l h digits-lt size-is (value .e) x (value .proper) (subst (λ (t : Bool). ExpValue (sgn t (m * up e) (down e)) (value .e)) p (value .isExp)) (value .same))
+          rw (sym sign-is ∙ p)
+          (minus-near (m * up e) (down e) (fieldOf b) (b % 4503599627370496) (down-pos e) l h digits-lt size-is (fin s m e) (value .e) x (p, refl) (value .proper) (subst (λ (t : Bool). ExpValue (sgn t (m * up e) (down e)) (value .e)) p (value .isExp)) (value .same))
 
   -- ---- from 1/4 on
   bracket : Bracket (exponentOf (fin s m e)) 242 (value .e)

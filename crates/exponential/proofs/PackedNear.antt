@@ -1,4 +1,4 @@
--- A packed number against a true value that is within a units of it: the distance 2 ^ -48. Assumes nothing.
+-- A packed number, or one that was rounded on a grid, against a true value that is within a units of it: the distance 2 ^ -48. Assumes nothing.
 use mathlib.Core.Path.{_≡_, sym, ap, _∙_, subst}
 use mathlib.Core.Bool.{true, false}
 use Prim.Native.Nat.{ℕ, _+_, _-_, _*_, _^_, _≤_, _<_}
@@ -6,6 +6,8 @@ use native.Mathlib.Nat.{add-mul, mul-add, mul-assoc, mul-comm, mul-left-comm, ze
 use native.Mathlib.Omega.{arith}
 use lib.Dec.{lit<}
 use lib.Pow.{pow-pos}
+use lib.Ieee.{Float}
+use lib.Ieee.Exact.{HasValue}
 use Rattle.number.specs.Frac.{Frac, frac, Pos, leF, negF, subF, mulF, valF}
 use Rattle.number.proofs.Frac.{ring, le-reflF, add-monoF, neg-antiF, addF-pos, negF-pos, valF-pos}
 use Rattle.series.specs.Sums.{eqF}
@@ -52,10 +54,23 @@ near-nums y a e N P w k l u p q =
         times : P ≤ y + a + N → 2 ^ 48 * P ≤ 2 ^ 48 * y + 2 ^ 48 * a + 2 ^ 48 * N
         times h = le-trans (mul-le-mul-left (2 ^ 48) h) (le-of-eq (mul-add (2 ^ 48) (y + a) N ∙ ap (λ (x : ℕ). x + 2 ^ 48 * N) (mul-add (2 ^ 48) y a)))
 
+-- the distance as a bound, r = z / c
+abbrev Both : ℕ → ℕ → ℕ → ℕ → ℕ → Type 0
+Both z c p n d = (2 ^ 48 * (z * 2048 * d + n * (c * 2048)) + n * (c * 2048) ≤ p * (c * 2048) + 2 ^ 48 * (p * (c * 2048))) × (2 ^ 48 * (p * (c * 2048)) + n * (c * 2048) ≤ p * (c * 2048) + 2 ^ 48 * (z * 2048 * d + n * (c * 2048)))
+
+bound-of : (z c p n d : ℕ) → Both z c p n d → Bound (subF (frac z 0 c) (frac p n d)) (mulF (frac 1 0 (2 ^ 48)) (frac p n d))
+bound-of z c p n d b = (first z c p n d (mul-le-mul-right d (b .0)), second z c p n d (mul-le-mul-right d (b .1)))
+  where
+    first : (z c p n d : ℕ) → (2 ^ 48 * (z * 2048 * d + n * (c * 2048)) + n * (c * 2048)) * d ≤ (p * (c * 2048) + 2 ^ 48 * (p * (c * 2048))) * d → leF (subF (frac z 0 c) (frac p n d)) (mulF (frac 1 0 (2 ^ 48)) (frac p n d))
+    first z c p n d h = let k = simp ring at h in simp (ring, one-mul, zero-mul, add-zero, zero-add) (omega arith)
+
+    second : (z c p n d : ℕ) → (2 ^ 48 * (p * (c * 2048)) + n * (c * 2048)) * d ≤ (p * (c * 2048) + 2 ^ 48 * (z * 2048 * d + n * (c * 2048))) * d → leF (negF (subF (frac z 0 c) (frac p n d))) (mulF (frac 1 0 (2 ^ 48)) (frac p n d))
+    second z c p n d h = let k = simp ring at h in simp (ring, one-mul, zero-mul, add-zero, zero-add) (omega arith)
+
 -- ---- as fractions: W / D the unit, r = z / c, D = 2048 c
 module _ (y a z c W p n d : ℕ) (C : 0 < c) (budget : 32 * (2 ^ 48 + 1) * a ≤ 31 * y) (l : leF (frac (y * W) (a * W) (c * 2048)) (frac p n d)) (u : leF (frac p n d) (frac ((y + a) * W) 0 (c * 2048)))
     (up : z * 2048 * 2 ^ 53 ≤ y * W * (2 ^ 53 + 1)) (down : y * W * (2 ^ 53 - 1) ≤ z * 2048 * 2 ^ 53) where
-  both : (2 ^ 48 * (z * 2048 * d + n * (c * 2048)) + n * (c * 2048) ≤ p * (c * 2048) + 2 ^ 48 * (p * (c * 2048))) × (2 ^ 48 * (p * (c * 2048)) + n * (c * 2048) ≤ p * (c * 2048) + 2 ^ 48 * (z * 2048 * d + n * (c * 2048)))
+  both : Both z c p n d
   both =
       near-nums y a (z * 2048 * d) (n * (c * 2048)) (p * (c * 2048)) (W * d) budget
       (le-trans (le-of-eq (ap (λ (x : ℕ). x + n * (c * 2048)) (sym (mul-assoc y W d)))) (le-trans l (le-of-eq (ap (λ (x : ℕ). p * (c * 2048) + x) (mul-assoc a W d)))))
@@ -72,15 +87,6 @@ module _ (y a z c W p n d : ℕ) (C : 0 < c) (budget : 32 * (2 ^ 48 + 1) * a ≤
       move : (y w d k : ℕ) → y * w * k * d ≡ y * (w * d) * k
       move y w d k = simp (mul-assoc, mul-comm, mul-left-comm)
 
-  pub near-bound : Bound (subF (frac z 0 c) (frac p n d)) (mulF (frac 1 0 (2 ^ 48)) (frac p n d))
-  near-bound = (first z c p n d (mul-le-mul-right d (both .0)), second z c p n d (mul-le-mul-right d (both .1)))
-    where
-      first : (z c p n d : ℕ) → (2 ^ 48 * (z * 2048 * d + n * (c * 2048)) + n * (c * 2048)) * d ≤ (p * (c * 2048) + 2 ^ 48 * (p * (c * 2048))) * d → leF (subF (frac z 0 c) (frac p n d)) (mulF (frac 1 0 (2 ^ 48)) (frac p n d))
-      first z c p n d h = let k = simp ring at h in simp (ring, one-mul, zero-mul, add-zero, zero-add) (omega arith)
-
-      second : (z c p n d : ℕ) → (2 ^ 48 * (p * (c * 2048)) + n * (c * 2048)) * d ≤ (p * (c * 2048) + 2 ^ 48 * (z * 2048 * d + n * (c * 2048))) * d → leF (negF (subF (frac z 0 c) (frac p n d))) (mulF (frac 1 0 (2 ^ 48)) (frac p n d))
-      second z c p n d h = let k = simp ring at h in simp (ring, one-mul, zero-mul, add-zero, zero-add) (omega arith)
-
 -- ---- the packed number, with its sign
 -- t's size is from (y - a) 2 ^ (e - 1085) to (y + a) 2 ^ (e - 1085)
 abbrev pub Sized : ℕ → ℕ → ℕ → Frac → Type 0
@@ -92,14 +98,65 @@ one-times (frac p n d) (frac q m c) h = go (2 ^ 48 * ((p * c + m * d - (n * c + 
     go : (x y z c u : ℕ) → x * (1 * c) + (1 * 0 + 0 * y) * z ≤ (1 * y + 0 * 0) * z + u * (1 * c) → x * c + 0 * z ≤ y * z + u * c
     go x y z c u h = let k = simp (one-mul, zero-mul, add-zero, zero-add) at h in simp (zero-mul, add-zero) k
 
-pos-near : (r t : Frac) (y a z e : ℕ) → Pos r → Pos t → 32 * (2 ^ 48 + 1) * a ≤ 31 * y → Sized y a e t → eqF r (frac z 0 (2 ^ 1074)) → z * 2048 * 2 ^ 53 ≤ y * 2 ^ e * (2 ^ 53 + 1) → y * 2 ^ e * (2 ^ 53 - 1) ≤ z * 2048 * 2 ^ 53 → within (2 ^ 48) r t
-pos-near r (frac p n d) y a z e R T₁ k (l, u) q up down =
+of-both : (r : Frac) (z p n d : ℕ) → Pos r → Pos (frac p n d) → eqF r (frac z 0 (2 ^ 1074)) → Both z (2 ^ 1074) p n d → within (2 ^ 48) r (frac p n d)
+of-both r z p n d R T₁ q b =
     let t = frac p n d in
     let s = frac z 0 (2 ^ 1074) in
     one-times r t (within-of r t 1 (2 ^ 48) T₁ (lit< tt)
     (bound-eq (subF s t) (subF r t) (mulF (frac 1 0 (2 ^ 48)) t) (addF-pos s (negF t) (pow-pos 1074) (negF-pos t T₁))
     (add-monoF r s (negF t) (negF t) (q .0) (le-reflF (negF t)), add-monoF s r (negF t) (negF t) (q .1) (le-reflF (negF t)))
-    (near-bound y a z (2 ^ 1074) (2 ^ e) p n d (pow-pos 1074) k l u up down)))
+    (bound-of z (2 ^ 1074) p n d b)))
+
+pos-near : (r t : Frac) (y a z e : ℕ) → Pos r → Pos t → 32 * (2 ^ 48 + 1) * a ≤ 31 * y → Sized y a e t → eqF r (frac z 0 (2 ^ 1074)) → z * 2048 * 2 ^ 53 ≤ y * 2 ^ e * (2 ^ 53 + 1) → y * 2 ^ e * (2 ^ 53 - 1) ≤ z * 2048 * 2 ^ 53 → within (2 ^ 48) r t
+pos-near r (frac p n d) y a z e R T₁ k (l, u) q up down = of-both r z p n d R T₁ q (both y a z (2 ^ 1074) (2 ^ e) p n d (pow-pos 1074) k l u up down)
+
+-- ---- a number of the grid from y to y + 2048 units
+grid-nums : (y a e N P w : ℕ) → 2 ^ 48 * (a + 2048) + a ≤ y → y * w + N ≤ P + a * w → P ≤ (y + a) * w + N → y * w ≤ e → e ≤ (y + 2048) * w
+    → (2 ^ 48 * (e + N) + N ≤ P + 2 ^ 48 * P) × (2 ^ 48 * P + N ≤ P + 2 ^ 48 * (e + N))
+grid-nums y a e N P w k l u p q =
+    let k' = le-trans (le-of-eq (sym (parts a w))) (mul-le-mul-right w k) in
+    let u' = le-trans u (le-of-eq (ap (λ (z : ℕ). z + N) (add-mul y a w))) in
+    let q' = le-trans q (le-of-eq (add-mul y 2048 w)) in
+    (one (y * w) (a * w) e N P w k' l q', two (y * w) (a * w) e N P w k' l u' p)
+  where
+    parts : (a w : ℕ) → (2 ^ 48 * (a + 2048) + a) * w ≡ 2 ^ 48 * (a * w + 2048 * w) + a * w
+    parts a w = simp ring (omega arith)
+
+    -- x the error in units, X its 2 ^ 48 times, so are T and Q
+    lin : (y a N P X T Q : ℕ) → X + a ≤ y → y + N ≤ P + a → T ≤ Q + X → T + N ≤ P + Q
+    lin y a N P X T Q h k l = omega arith
+
+    lin-too : (y a N P X T Q : ℕ) → X + a ≤ y → y + N ≤ P + a → Q ≤ T + X → Q + N ≤ P + T
+    lin-too y a N P X T Q h k l = omega arith
+
+    times : (u v x : ℕ) → u ≤ v + x → 2 ^ 48 * u ≤ 2 ^ 48 * v + 2 ^ 48 * x
+    times u v x h = le-trans (mul-le-mul-left (2 ^ 48) h) (le-of-eq (mul-add (2 ^ 48) v x))
+
+    one : (y a e N P w : ℕ) → 2 ^ 48 * (a + 2048 * w) + a ≤ y → y + N ≤ P + a → e ≤ y + 2048 * w → 2 ^ 48 * (e + N) + N ≤ P + 2 ^ 48 * P
+    one y a e N P w k l q = lin y a N P (2 ^ 48 * (a + 2048 * w)) (2 ^ 48 * (e + N)) (2 ^ 48 * P) k l (times (e + N) P (a + 2048 * w) (go y a e N P w l q))
+      where
+        go : (y a e N P w : ℕ) → y + N ≤ P + a → e ≤ y + 2048 * w → e + N ≤ P + (a + 2048 * w)
+        go y a e N P w l q = omega arith
+
+    two : (y a e N P w : ℕ) → 2 ^ 48 * (a + 2048 * w) + a ≤ y → y + N ≤ P + a → P ≤ y + a + N → y ≤ e → 2 ^ 48 * P + N ≤ P + 2 ^ 48 * (e + N)
+    two y a e N P w k l u p = lin-too y a N P (2 ^ 48 * (a + 2048 * w)) (2 ^ 48 * (e + N)) (2 ^ 48 * P) k l (times P (e + N) (a + 2048 * w) (go y a e N P w u p))
+      where
+        go : (y a e N P w : ℕ) → P ≤ y + a + N → y ≤ e → P ≤ e + N + (a + 2048 * w)
+        go y a e N P w u p = omega arith
+
+grid-near : (r t : Frac) (y a z e : ℕ) → Pos r → Pos t → 2 ^ 48 * (a + 2048) + a ≤ y → Sized y a e t → eqF r (frac z 0 (2 ^ 1074)) → y * 2 ^ e ≤ z * 2048 → z * 2048 ≤ (y + 2048) * 2 ^ e → within (2 ^ 48) r t
+grid-near r (frac p n d) y a z e R T₁ k (l, u) q lo hi = of-both r z p n d R T₁ q (go (2 ^ 1074) (2 ^ e) l u lo hi)
+  where
+    drop : (x d : ℕ) → x + 0 * d ≡ x
+    drop x d = ap (λ (y : ℕ). x + y) (zero-mul d) ∙ add-zero x
+
+    go : (c W : ℕ) → leF (frac (y * W) (a * W) (c * 2048)) (frac p n d) → leF (frac p n d) (frac ((y + a) * W) 0 (c * 2048)) → y * W ≤ z * 2048 → z * 2048 ≤ (y + 2048) * W → Both z c p n d
+    go c W l u lo hi =
+        grid-nums y a (z * 2048 * d) (n * (c * 2048)) (p * (c * 2048)) (W * d) k
+        (le-trans (le-of-eq (ap (λ (x : ℕ). x + n * (c * 2048)) (sym (mul-assoc y W d)))) (le-trans l (le-of-eq (ap (λ (x : ℕ). p * (c * 2048) + x) (mul-assoc a W d)))))
+        (le-trans (le-of-eq (sym (drop (p * (c * 2048)) d))) (le-trans u (le-of-eq (ap (λ (x : ℕ). x + n * (c * 2048)) (mul-assoc (y + a) W d)))))
+        (le-trans (le-of-eq (sym (mul-assoc y W d))) (mul-le-mul-right d lo))
+        (le-trans (mul-le-mul-right d hi) (le-of-eq (mul-assoc (y + 2048) W d)))
 
 -- the size of a difference does not know its sign
 pub turned : (r t : Frac) → within (2 ^ 48) (negF r) (negF t) → within (2 ^ 48) r t
@@ -109,6 +166,9 @@ turned (frac p n d) (frac q m c) h = go (p * c + m * d) (n * c + q * d) q m c (1
         → (2 ^ 48 * ((x - y) + (y - x)) + 0 * 0) * c + 0 * z ≤ ((q - m) + (m - q)) * z + (2 ^ 48 * 0 + 0 * ((x - y) + (y - x))) * c
     go x y q m c z h = subst (λ (u : ℕ). (2 ^ 48 * u + 0 * 0) * c + 0 * z ≤ ((q - m) + (m - q)) * z + (2 ^ 48 * 0 + 0 * u) * c) (add-comm (y - x) (x - y)) (subst (λ (u : ℕ). (2 ^ 48 * ((y - x) + (x - y)) + 0 * 0) * c + 0 * z ≤ u * z + (2 ^ 48 * 0 + 0 * ((y - x) + (x - y))) * c) (add-comm (m - q) (q - m)) h)
 
+turn-value : (x : Frac) (z : ℕ) → eqF x (frac 0 z (2 ^ 1074)) → eqF (negF x) (frac z 0 (2 ^ 1074))
+turn-value x z h = (neg-antiF (frac 0 z (2 ^ 1074)) x (h .1), neg-antiF x (frac 0 z (2 ^ 1074)) (h .0))
+
 -- the law: the packed number is within 2 ^ -48 of a true value, or of its negative
 module _ (y a e : ℕ) (t : Frac) (P : 0 < y) (F : y < 2 ^ 64) (E : 64 ≤ e) (E' : e ≤ 2044) (T₁ : Pos t) (budget : 32 * (2 ^ 48 + 1) * a ≤ 31 * y) where
   pub packed-plus : Sized y a e t → within (2 ^ 48) (valF (packed 0 y e)) t
@@ -117,7 +177,12 @@ module _ (y a e : ℕ) (t : Frac) (P : 0 < y) (F : y < 2 ^ 64) (E : 64 ≤ e) (E
   pub packed-minus : Sized y a e (negF t) → within (2 ^ 48) (valF (packed 1 y e)) t
   packed-minus s =
       turned (valF (packed 1 y e)) t
-      (pos-near (negF (valF (packed 1 y e))) (negF t) y a (size y e) e (negF-pos (valF (packed 1 y e)) (valF-pos (packed 1 y e))) (negF-pos t T₁) budget s (flip (valF (packed 1 y e)) (size y e) (value-of (packed 1 y e) true (size y e) (2 ^ 1074) (pow-pos 1074) (packed-value true y e P F E'))) (packed-up y e P F E) (packed-down y e P F E))
-    where
-      flip : (x : Frac) (z : ℕ) → eqF x (frac 0 z (2 ^ 1074)) → eqF (negF x) (frac z 0 (2 ^ 1074))
-      flip x z h = (neg-antiF (frac 0 z (2 ^ 1074)) x (h .1), neg-antiF x (frac 0 z (2 ^ 1074)) (h .0))
+      (pos-near (negF (valF (packed 1 y e))) (negF t) y a (size y e) e (negF-pos (valF (packed 1 y e)) (valF-pos (packed 1 y e))) (negF-pos t T₁) budget s (turn-value (valF (packed 1 y e)) (size y e) (value-of (packed 1 y e) true (size y e) (2 ^ 1074) (pow-pos 1074) (packed-value true y e P F E'))) (packed-up y e P F E) (packed-down y e P F E))
+
+-- the law for a number r of the grid, with its sign
+module _ (y a z e : ℕ) (r : Float) (t : Frac) (T₁ : Pos t) (budget : 2 ^ 48 * (a + 2048) + a ≤ y) (lo : y * 2 ^ e ≤ z * 2048) (hi : z * 2048 ≤ (y + 2048) * 2 ^ e) where
+  pub rounded-plus : HasValue r false z (2 ^ 1074) → Sized y a e t → within (2 ^ 48) (valF r) t
+  rounded-plus v s = grid-near (valF r) t y a z e (valF-pos r) T₁ budget s (value-of r false z (2 ^ 1074) (pow-pos 1074) v) lo hi
+
+  pub rounded-minus : HasValue r true z (2 ^ 1074) → Sized y a e (negF t) → within (2 ^ 48) (valF r) t
+  rounded-minus v s = turned (valF r) t (grid-near (negF (valF r)) (negF t) y a z e (negF-pos (valF r) (valF-pos r)) (negF-pos t T₁) budget s (turn-value (valF r) z (value-of r true z (2 ^ 1074) (pow-pos 1074) v)) lo hi)

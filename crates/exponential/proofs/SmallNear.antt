@@ -1,9 +1,9 @@
--- exp_m1's distance from document 01's values for an argument below 1/4 in size. Assumes nothing.
+-- exp_m1's distance from document 01's values for an argument below 1/4 in size: the laws on plain numbers and on fractions. Assumes nothing.
 use mathlib.Core.Path.{_≡_, sym, ap, _∙_, subst}
-use Prim.Native.Nat.{ℕ, zero, suc, _+_, _*_, _^_, _≤_, _<_}
-use native.Mathlib.Nat.{add-mul, mul-add, mul-assoc, mul-comm, mul-left-comm, zero-mul, one-mul, mul-one, add-zero, zero-add, add-le-add, le-trans, le-of-eq, mul-pos, mul-le-mul-left, mul-le-mul-right, le-of-mul-le-mul-right, pow-zero, pow-suc}
+use Prim.Native.Nat.{ℕ, zero, suc, _+_, _*_, _/_, _^_, _≤_, _<_}
+use native.Mathlib.Nat.{add-mul, mul-assoc, mul-comm, mul-left-comm, zero-mul, one-mul, mul-one, add-zero, zero-add, le-trans, le-of-eq, mul-pos, mul-le-mul-left, mul-le-mul-right, le-of-mul-le-mul-right, pow-zero, pow-suc}
 use native.Mathlib.Omega.{arith}
-use lib.Dec.{lit<}
+use lib.Dec.{lit<, lit≤}
 use Rattle.number.specs.Frac.{Frac, frac, leF, negF, subF}
 use Rattle.number.proofs.Frac.{ring, le-transF}
 use Rattle.series.specs.Sums.{natF}
@@ -12,64 +12,94 @@ use Rattle.exponential.proofs.Terms.{K, allTerms, bothTerms}
 use Rattle.exponential.proofs.Literal.{sum-up, sum-down}
 use Rattle.exponential.proofs.SmallTerms.{odds, evens, odd-is, even-is, all-is, power-is}
 
--- ---- on plain numbers: |x| = n / d = g w / (2 c), g the digits; F / 2 ^ 63 the ratio, f its error; y = g F / 2 ^ 64; the true ratio (o + t) / u or (o - t) / u
-perm : (n c o k v : ℕ) → n * (k * c) * (v * o) ≡ n * o * c * (k * v)
-perm n c o k v = simp (mul-assoc, mul-comm, mul-left-comm)
+-- ---- on plain numbers: k the quotient's digits, G the argument's, S / U the true ratio, A / D the worked one, cut to A₁ / D₁
+module _ (k G S U A D : ℕ) (some : 3 * 2 ^ 61 ≤ D) (digits : G < 2 ^ 53) (ratio : S ≤ 2 * U) (up : 2 * D * S ≤ 2 * A * U + 2518 * U) (down : 2 * A * U ≤ 2 * D * S + 2528 * U) (k-up : 2 * (k * (D / 2048)) ≤ G * (A / 2048) + 2 ^ 52) (k-down : G * (A / 2048) ≤ 2 * ((k + 1) * (D / 2048)) + 2 ^ 52) where
+  abbrev A₁ : ℕ
+  A₁ = A / 2048
 
-module _ (n d g w c F y u : ℕ) (link : n * (2 * c) ≡ g * w * d) (digits : g ≤ 2 ^ 64) (y-lo : y * 2 ^ 64 ≤ g * F) (y-hi : g * F ≤ (y + 1) * 2 ^ 64) where
-  to-units : (z : ℕ) → y * 2 ^ 64 * (w * d * u) ≤ z → y * w * (u * d) * 2 ^ 64 ≤ z
-  to-units z h = le-trans (le-of-eq (a y w u d (2 ^ 64))) h
+  abbrev D₁ : ℕ
+  D₁ = D / 2048
+
+  least : 3 * 2 ^ 50 ≤ D₁
+  least = go D some
     where
-      a : (y w u d v : ℕ) → y * w * (u * d) * v ≡ y * v * (w * d * u)
-      a y w u d v = simp (mul-assoc, mul-comm, mul-left-comm)
+      go : (D : ℕ) → 3 * 2 ^ 61 ≤ D → 3 * 2 ^ 50 ≤ D / 2048
+      go D h = omega arith
 
-  grouped : g * F * (w * d * u) ≡ g * w * d * (F * u)
-  grouped = go g F w d u
+  D₁-pos : 0 < D₁
+  D₁-pos = le-trans (lit≤ tt) least
+
+  lower : (x : ℕ) → 2048 * (x / 2048) ≤ x
+  lower x = omega arith
+
+  upper : (x : ℕ) → x ≤ 2048 * (x / 2048) + 2048
+  upper x = omega arith
+
+  -- the cut numbers against the ratio
+  cut-down : 4096 * (A₁ * U) ≤ 4096 * (D₁ * S) + 10720 * U
+  cut-down = go A₁ D₁ A D S U (mul-le-mul-right U (lower A)) down (mul-le-mul-right S (upper D)) ratio
     where
-      go : (g F w d u : ℕ) → g * F * (w * d * u) ≡ g * w * d * (F * u)
-      go g F w d u = simp (mul-assoc, mul-comm, mul-left-comm)
+      go : (a b A D S U : ℕ) → 2048 * a * U ≤ A * U → 2 * A * U ≤ 2 * D * S + 2528 * U → D * S ≤ (2048 * b + 2048) * S → S ≤ 2 * U → 4096 * (a * U) ≤ 4096 * (b * S) + 10720 * U
+      go a b A D S U h i j l =
+          let h' = simp ring at h in
+          let i' = simp ring at i in
+          let j' = simp ring at j in
+          omega arith
 
-  -- a number of units of u
-  unit-le : (k : ℕ) → g * w * d * (k * u) ≤ k * w * (u * d) * 2 ^ 64
-  unit-le k = le-trans (le-of-eq (a g w d k u)) (le-trans (mul-le-mul-right (k * w * (u * d)) digits) (le-of-eq (mul-comm (2 ^ 64) (k * w * (u * d)))))
+  cut-up : 4096 * (D₁ * S) ≤ 4096 * (A₁ * U) + 6614 * U
+  cut-up = go A₁ D₁ A D S U (mul-le-mul-right S (lower D)) up (mul-le-mul-right U (upper A))
     where
-      a : (g w d k u : ℕ) → g * w * d * (k * u) ≡ g * (k * w * (u * d))
-      a g w d k u = simp (mul-assoc, mul-comm, mul-left-comm)
+      go : (a b A D S U : ℕ) → 2048 * b * S ≤ D * S → 2 * D * S ≤ 2 * A * U + 2518 * U → A * U ≤ (2048 * a + 2048) * U → 4096 * (b * S) ≤ 4096 * (a * U) + 6614 * U
+      go a b A D S U h i j =
+          let h' = simp ring at h in
+          let i' = simp ring at i in
+          let j' = simp ring at j in
+          omega arith
 
-  one-more : g * F * (w * d * u) ≤ (y + 1) * w * (u * d) * 2 ^ 64
-  one-more = le-trans (mul-le-mul-right (w * d * u) y-hi) (le-of-eq (a (y + 1) w u d (2 ^ 64)))
+  digits-U : G * U ≤ 2 ^ 53 * U
+  digits-U = mul-le-mul-right U (go G digits)
     where
-      a : (y w u d v : ℕ) → y * v * (w * d * u) ≡ y * w * (u * d) * v
-      a y w u d v = simp (mul-assoc, mul-comm, mul-left-comm)
+      go : (G : ℕ) → G < 2 ^ 53 → G ≤ 2 ^ 53
+      go G h = omega arith
 
-  scaled : (o : ℕ) → g * w * d * (2 ^ 63 * o) ≡ n * o * c * 2 ^ 64
-  scaled o = ap (λ (z : ℕ). z * (2 ^ 63 * o)) (sym link) ∙ perm n c o 2 (2 ^ 63)
+  least-U : 3 * 2 ^ 50 * U ≤ D₁ * U
+  least-U = mul-le-mul-right U least
 
-  pub plus-lo : (o : ℕ) → F * u ≤ 2 ^ 63 * o → y * w * (u * d) ≤ n * o * c
-  plus-lo o h = le-of-mul-le-mul-right {k = 2 ^ 64} (to-units (n * o * c * 2 ^ 64) (le-trans (mul-le-mul-right (w * d * u) y-lo) (le-trans (le-of-eq grouped) (le-trans (mul-le-mul-left (g * w * d) h) (le-of-eq (scaled o)))))) (lit< tt)
-
-  pub plus-hi : (o : ℕ) → 2 ^ 63 * o ≤ (F + 322) * u → n * o * c ≤ (y + 323) * w * (u * d)
-  plus-hi o h = le-of-mul-le-mul-right {k = 2 ^ 64} (le-trans (le-of-eq (sym (scaled o))) (le-trans (mul-le-mul-left (g * w * d) h) (le-trans (le-of-eq (ap (λ (z : ℕ). g * w * d * z) (add-mul F 322 u) ∙ mul-add (g * w * d) (F * u) (322 * u))) (le-trans (add-le-add (le-trans (le-of-eq (sym grouped)) one-more) (unit-le 322)) (le-of-eq (join y w (u * d) (2 ^ 64))))))) (lit< tt)
+  pub quotient-lo : 2048 * k * U ≤ 1024 * G * S + 10000 * U
+  quotient-lo = le-of-mul-le-mul-right {k = D₁} (lin (k * D₁ * U) (G * A₁ * U) (G * D₁ * S) (G * U) (D₁ * U) U (2048 * k * U * D₁) ((1024 * G * S + 10000 * U) * D₁) (one k D₁ G A₁ U (mul-le-mul-right U k-up)) (two G A₁ D₁ S U (mul-le-mul-left G cut-down)) digits-U least-U (left k U D₁) (right G S U D₁)) D₁-pos
     where
-      join : (y w x v : ℕ) → (y + 1) * w * x * v + 322 * w * x * v ≡ (y + 323) * w * x * v
-      join y w x v = simp (ring, one-mul) (omega arith)
+      one : (k b G a U : ℕ) → 2 * (k * b) * U ≤ (G * a + 2 ^ 52) * U → 2 * (k * b * U) ≤ G * a * U + 2 ^ 52 * U
+      one k b G a U h = le-trans (le-of-eq (sym (mul-assoc 2 (k * b) U))) (le-trans h (le-of-eq (add-mul (G * a) (2 ^ 52) U)))
 
-  pub minus-lo : (o t : ℕ) → F * u + 2 ^ 63 * t ≤ 2 ^ 63 * o + 66 * u → y * w * (u * d) + n * t * c ≤ n * o * c + 66 * w * (u * d)
-  minus-lo o t h =
-      le-of-mul-le-mul-right {k = 2 ^ 64}
-      (le-trans (le-of-eq (add-mul (y * w * (u * d)) (n * t * c) (2 ^ 64)))
-      (le-trans (add-le-add (to-units (g * w * d * (F * u)) (le-trans (mul-le-mul-right (w * d * u) y-lo) (le-of-eq grouped))) (le-of-eq (sym (scaled t))))
-      (le-trans (le-of-eq (sym (mul-add (g * w * d) (F * u) (2 ^ 63 * t)))) (le-trans (mul-le-mul-left (g * w * d) h) (le-trans (le-of-eq (mul-add (g * w * d) (2 ^ 63 * o) (66 * u))) (le-trans (add-le-add (le-of-eq (scaled o)) (unit-le 66)) (le-of-eq (sym (add-mul (n * o * c) (66 * w * (u * d)) (2 ^ 64)))))))))) (lit< tt)
+      two : (G a b S U : ℕ) → G * (4096 * (a * U)) ≤ G * (4096 * (b * S) + 10720 * U) → 4096 * (G * a * U) ≤ 4096 * (G * b * S) + 10720 * (G * U)
+      two G a b S U h = let h' = simp ring at h in simp ring (omega arith)
 
-  pub minus-hi : (o t : ℕ) → 2 ^ 63 * o ≤ (F + 256) * u + 2 ^ 63 * t → n * o * c ≤ (y + 257) * w * (u * d) + n * t * c
-  minus-hi o t h =
-      le-of-mul-le-mul-right {k = 2 ^ 64}
-      (le-trans (le-of-eq (sym (scaled o))) (le-trans (mul-le-mul-left (g * w * d) h)
-      (le-trans (le-of-eq (mul-add (g * w * d) ((F + 256) * u) (2 ^ 63 * t) ∙ ap (λ (z : ℕ). g * w * d * z + g * w * d * (2 ^ 63 * t)) (add-mul F 256 u) ∙ ap (λ (z : ℕ). z + g * w * d * (2 ^ 63 * t)) (mul-add (g * w * d) (F * u) (256 * u))))
-      (le-trans (add-le-add (add-le-add (le-trans (le-of-eq (sym grouped)) one-more) (unit-le 256)) (le-of-eq (scaled t))) (le-of-eq (join y w (u * d) (n * t * c) (2 ^ 64))))))) (lit< tt)
+      left : (k U b : ℕ) → 2048 * k * U * b ≡ 2048 * (k * b * U)
+      left k U b = simp (mul-assoc, mul-comm, mul-left-comm)
+
+      right : (G S U b : ℕ) → (1024 * G * S + 10000 * U) * b ≡ 1024 * (G * b * S) + 10000 * (b * U)
+      right G S U b = simp ring (omega arith)
+
+      lin : (x y z g b U l r : ℕ) → 2 * x ≤ y + 2 ^ 52 * U → 4096 * y ≤ 4096 * z + 10720 * g → g ≤ 2 ^ 53 * U → 3 * 2 ^ 50 * U ≤ b → l ≡ 2048 * x → r ≡ 1024 * z + 10000 * b → l ≤ r
+      lin x y z g b U l r h i j m p q = omega arith
+
+  pub quotient-hi : 1024 * G * S ≤ 2048 * k * U + 10000 * U
+  quotient-hi = le-of-mul-le-mul-right {k = D₁} (lin (k * D₁ * U) (G * A₁ * U) (G * D₁ * S) (G * U) (D₁ * U) U (1024 * G * S * D₁) ((2048 * k * U + 10000 * U) * D₁) (one k D₁ G A₁ U (mul-le-mul-right U k-down)) (two G A₁ D₁ S U (mul-le-mul-left G cut-up)) digits-U least-U (left G S D₁) (right k U D₁)) D₁-pos
     where
-      join : (y w x z v : ℕ) → (y + 1) * w * x * v + 256 * w * x * v + z * v ≡ ((y + 257) * w * x + z) * v
-      join y w x z v = simp (ring, one-mul) (omega arith)
+      one : (k b G a U : ℕ) → G * a * U ≤ (2 * ((k + 1) * b) + 2 ^ 52) * U → G * a * U ≤ 2 * (k * b * U) + 2 * (b * U) + 2 ^ 52 * U
+      one k b G a U h = let h' = simp (ring, one-mul) at h in simp ring (omega arith)
+
+      two : (G a b S U : ℕ) → G * (4096 * (b * S)) ≤ G * (4096 * (a * U) + 6614 * U) → 4096 * (G * b * S) ≤ 4096 * (G * a * U) + 6614 * (G * U)
+      two G a b S U h = let h' = simp ring at h in simp ring (omega arith)
+
+      left : (G S b : ℕ) → 1024 * G * S * b ≡ 1024 * (G * b * S)
+      left G S b = simp (mul-assoc, mul-comm, mul-left-comm)
+
+      right : (k U b : ℕ) → (2048 * k * U + 10000 * U) * b ≡ 2048 * (k * b * U) + 10000 * (b * U)
+      right k U b = simp ring (omega arith)
+
+      lin : (x y z g b U l r : ℕ) → y ≤ 2 * x + 2 * b + 2 ^ 52 * U → 4096 * z ≤ 4096 * y + 6614 * g → g ≤ 2 ^ 53 * U → 3 * 2 ^ 50 * U ≤ b → l ≡ 1024 * z → r ≡ 2048 * x + 10000 * b → l ≤ r
+      lin x y z g b U l r h i j m p q = omega arith
 
 -- ---- the sums at ± n / d, over C
 module _ (n d C : ℕ) (D : 0 < d) where
@@ -112,13 +142,13 @@ module _ (n d C : ℕ) (D : 0 < d) where
       high : (C b z o : ℕ) → o * C ≤ b * z → (z + o) * C + 0 * z ≤ (C + b) * z + 0 * C
       high C b z o h = let k = simp ring at h in simp (ring, zero-mul, add-zero) (omega arith)
 
-  pub sum-minus : (X Y a b c : ℕ) → X + b ≡ C → Y + a ≡ C + c → a * (u * d) + n * (n * d * evens n d) * C ≤ n * odds n d * C + c * (u * d) → n * odds n d * C ≤ b * (u * d) + n * (n * d * evens n d) * C → leF (frac X 0 C) (expSum (frac 0 n d)) × leF (expSum (frac 0 n d)) (frac Y 0 C)
-  sum-minus X Y a b c p q h k =
+  pub sum-minus : (X Y a b : ℕ) → X + b ≡ C → Y + a ≡ C → a * (u * d) + n * (n * d * evens n d) * C ≤ n * odds n d * C → n * odds n d * C ≤ b * (u * d) + n * (n * d * evens n d) * C → leF (frac X 0 C) (expSum (frac 0 n d)) × leF (expSum (frac 0 n d)) (frac Y 0 C)
+  sum-minus X Y a b p q h k =
       let S = expSum (frac 0 n d) in
       let A = frac (bothTerms n d .1) (bothTerms n d .0) (K * d ^ 29) in
       let e = sum-down n d D in (
         le-transF (frac X 0 C) A S pos₁ (rw (even-at, odd-is n d, whole-is) (low X b (u * d) (n * odds n d) (n * (n * d * evens n d)) C p k)) (e .1),
-        le-transF S A (frac Y 0 C) pos₁ (e .0) (rw (even-at, odd-is n d, whole-is) (high Y a c (u * d) (n * odds n d) (n * (n * d * evens n d)) C q h)),
+        le-transF S A (frac Y 0 C) pos₁ (e .0) (rw (even-at, odd-is n d, whole-is) (high Y a (u * d) (n * odds n d) (n * (n * d * evens n d)) C q h)),
       )
     where
       low : (X b z o t C : ℕ) → X + b ≡ C → o * C ≤ b * z + t * C → X * z + o * C ≤ (z + t) * C + 0 * z
@@ -126,38 +156,38 @@ module _ (n d C : ℕ) (D : 0 < d) where
           let p = simp ring at (ap (λ (y : ℕ). y * z) e) in
           simp (ring, zero-mul, add-zero) (omega arith)
 
-      high : (Y a c z o t C : ℕ) → Y + a ≡ C + c → a * z + t * C ≤ o * C + c * z → (z + t) * C + 0 * z ≤ Y * z + o * C
-      high Y a c z o t C e h =
+      high : (Y a z o t C : ℕ) → Y + a ≡ C → a * z + t * C ≤ o * C → (z + t) * C + 0 * z ≤ Y * z + o * C
+      high Y a z o t C e h =
           let p = simp ring at (ap (λ (y : ℕ). y * z) e) in
           simp (ring, zero-mul, add-zero) (omega arith)
 
--- ---- exp x - 1 in units of w / C
-module _ (e : Frac) (y w C : ℕ) where
-  pub plus-sized : leF (frac (C + y * w) w C) e → leF e (frac (C + (y + 323) * w + w) 0 C) → leF (frac (y * w) (324 * w) C) (subF e (natF 1)) × leF (subF e (natF 1)) (frac ((y + 324) * w) 0 C)
+-- ---- exp x - 1 from L to H, a unit w more at either end, over C
+module _ (e : Frac) (L H w C : ℕ) where
+  pub plus-sized : leF (frac (C + L) w C) e → leF e (frac (C + H + w) 0 C) → leF (frac L w C) (subF e (natF 1)) × leF (subF e (natF 1)) (frac (H + w) 0 C)
   plus-sized l u = go e l u
     where
-      low : (p n d y w C : ℕ) → (C + y * w) * d + n * C ≤ p * C + w * d → leF (frac (y * w) (324 * w) C) (subF (frac p n d) (natF 1))
-      low p n d y w C h = let k = simp ring at h in simp (ring, one-mul, mul-one, zero-mul, add-zero, zero-add) (omega arith)
+      low : (p n d L w C : ℕ) → (C + L) * d + n * C ≤ p * C + w * d → leF (frac L w C) (subF (frac p n d) (natF 1))
+      low p n d L w C h = let k = simp ring at h in simp (ring, one-mul, mul-one, zero-mul, add-zero, zero-add) (omega arith)
 
-      high : (p n d y w C : ℕ) → p * C + 0 * d ≤ (C + (y + 323) * w + w) * d + n * C → leF (subF (frac p n d) (natF 1)) (frac ((y + 324) * w) 0 C)
-      high p n d y w C h = let k = simp (ring, zero-mul, add-zero) at h in simp (ring, one-mul, mul-one, zero-mul, add-zero, zero-add) (omega arith)
+      high : (p n d H w C : ℕ) → p * C + 0 * d ≤ (C + H + w) * d + n * C → leF (subF (frac p n d) (natF 1)) (frac (H + w) 0 C)
+      high p n d H w C h = let k = simp (ring, zero-mul, add-zero) at h in simp (ring, one-mul, mul-one, zero-mul, add-zero, zero-add) (omega arith)
 
-      go : (e : Frac) → leF (frac (C + y * w) w C) e → leF e (frac (C + (y + 323) * w + w) 0 C) → leF (frac (y * w) (324 * w) C) (subF e (natF 1)) × leF (subF e (natF 1)) (frac ((y + 324) * w) 0 C)
-      go (frac p n d) l u = (low p n d y w C l, high p n d y w C u)
+      go : (e : Frac) → leF (frac (C + L) w C) e → leF e (frac (C + H + w) 0 C) → leF (frac L w C) (subF e (natF 1)) × leF (subF e (natF 1)) (frac (H + w) 0 C)
+      go (frac p n d) l u = (low p n d L w C l, high p n d H w C u)
 
-  pub minus-sized : (X Y : ℕ) → X + (y + 257) * w ≡ C → Y + y * w ≡ C + 66 * w → leF (frac X w C) e → leF e (frac (Y + w) 0 C) → leF (frac (y * w) (324 * w) C) (negF (subF e (natF 1))) × leF (negF (subF e (natF 1))) (frac ((y + 324) * w) 0 C)
+  pub minus-sized : (X Y : ℕ) → X + H ≡ C → Y + L ≡ C → leF (frac X w C) e → leF e (frac (Y + w) 0 C) → leF (frac L w C) (negF (subF e (natF 1))) × leF (negF (subF e (natF 1))) (frac (H + w) 0 C)
   minus-sized X Y p q l u = go e l u
     where
-      low : (p n d y w C Y : ℕ) → Y + y * w ≡ C + 66 * w → p * C + 0 * d ≤ (Y + w) * d + n * C → leF (frac (y * w) (324 * w) C) (negF (subF (frac p n d) (natF 1)))
-      low p n d y w C Y e h =
+      low : (p n d L w C Y : ℕ) → Y + L ≡ C → p * C + 0 * d ≤ (Y + w) * d + n * C → leF (frac L w C) (negF (subF (frac p n d) (natF 1)))
+      low p n d L w C Y e h =
           let k = simp (ring, zero-mul, add-zero) at h in
           let r = simp ring at (ap (λ (z : ℕ). z * d) e) in
           simp (ring, one-mul, mul-one, zero-mul, add-zero, zero-add) (omega arith)
 
-      high : (p n d y w C X : ℕ) → X + (y + 257) * w ≡ C → X * d + n * C ≤ p * C + w * d → leF (negF (subF (frac p n d) (natF 1))) (frac ((y + 324) * w) 0 C)
-      high p n d y w C X e h =
+      high : (p n d H w C X : ℕ) → X + H ≡ C → X * d + n * C ≤ p * C + w * d → leF (negF (subF (frac p n d) (natF 1))) (frac (H + w) 0 C)
+      high p n d H w C X e h =
           let r = simp ring at (ap (λ (z : ℕ). z * d) e) in
           simp (ring, one-mul, mul-one, zero-mul, add-zero, zero-add) (omega arith)
 
-      go : (e : Frac) → leF (frac X w C) e → leF e (frac (Y + w) 0 C) → leF (frac (y * w) (324 * w) C) (negF (subF e (natF 1))) × leF (negF (subF e (natF 1))) (frac ((y + 324) * w) 0 C)
-      go (frac p₁ n₁ d₁) l u = (low p₁ n₁ d₁ y w C Y q u, high p₁ n₁ d₁ y w C X p l)
+      go : (e : Frac) → leF (frac X w C) e → leF e (frac (Y + w) 0 C) → leF (frac L w C) (negF (subF e (natF 1))) × leF (negF (subF e (natF 1))) (frac (H + w) 0 C)
+      go (frac p₁ n₁ d₁) l u = (low p₁ n₁ d₁ L w C Y q u, high p₁ n₁ d₁ H w C X p l)

@@ -17,7 +17,8 @@ use Rattle.exponential.specs.Tanh.{expPart, onePart, tanhRatioOf}
 use Rattle.exponential.proofs.Digits.{significand-lo, significand-hi}
 use Rattle.exponential.proofs.Argument.{negative-at, positive-at}
 use Rattle.exponential.proofs.TanhPart.{small-part}
-use Rattle.exponential.proofs.TanhNear.{whole, whole-is, plus-is, minus-is, ratioOf, ratio-signed}
+use Rattle.exponential.proofs.Rounded.{whole, whole-is}
+use Rattle.exponential.proofs.TanhNear.{plus-is, minus-is, ratioOf, ratio-signed}
 
 -- ---- the quotient of a number and 0, and of 0 and a number
 one-is : round binary64 false 1 1 ≡ ofBits binary64 0x3ff0_0000_0000_0000

@@ -2,19 +2,16 @@
 use mathlib.Core.Path.{_≡_, sym, ap, _∙_, subst}
 use mathlib.Core.Bool.{Bool, true, false, true≢false}
 use Prim.Native.Nat.{ℕ, _+_, _-_, _*_, _/_, _^_, _≤_, _<_}
-use native.Mathlib.Nat.{add-comm, add-mul, mul-assoc, mul-comm, mul-left-comm, mul-zero, zero-mul, one-mul, mul-one, add-zero, zero-add, le-refl, le-trans, le-of-eq, le-of-lt, le-dest, lt-of-not-le, lt-of-lt-of-le, add-le-add, mul-pos, mul-le-mul-left, mul-le-mul-right, mul-lt-mul-of-pos-right, le-of-mul-le-mul-right, div-mul-le-self, lt-div-mul-add, div-le-of-le-mul}
+use native.Mathlib.Nat.{add-comm, add-mul, mul-assoc, mul-comm, mul-zero, zero-mul, one-mul, mul-one, add-zero, zero-add, le-refl, le-trans, le-of-eq, le-of-lt, le-dest, lt-of-not-le, add-le-add, mul-pos, mul-le-mul-left, mul-le-mul-right, mul-lt-mul-of-pos-right, le-of-mul-le-mul-right, div-mul-le-self, lt-div-mul-add, div-le-of-le-mul}
 use native.Mathlib.Decide.{decLe}
 use native.Mathlib.Omega.{arith}
-use lib.IntN.{pos}
-use lib.Dec.{T, eqb, eqb→eq, not-T, lit<, lit≤}
+use lib.Dec.{lit<, lit≤}
 use lib.Pow.{pow-pos, pow-add, pow-mono}
-use lib.Ieee.{Float, nan, inf, fin, up, down, unlike, binary64, ofInt, add, sub, sum, div, round, le, lt, eq, neg}
+use lib.Ieee.{Float, nan, inf, fin, up, down, binary64, add, sub, sum, div, round, neg}
 use lib.Ieee.Back.{round-whole}
-use lib.Ieee.Bits.{is-false}
-use lib.Ieee.Exact.{HasValue, units-val, round-exact}
-use lib.Ieee.Fits.{down-pos, round-is}
-use lib.Ieee.Order.{kept, drop, transfer, round-mono}
-use lib.Ieee.Scale.{grid, overflow, finite, round-val, round-under, round-same}
+use lib.Ieee.Exact.{HasValue}
+use lib.Ieee.Fits.{down-pos}
+use lib.Ieee.Scale.{grid, round-same}
 use Rattle.number.specs.Frac.{Frac, frac, Pos, leF, negF, addF, subF, mulF, divF, invF, valF}
 use Rattle.number.proofs.Frac.{ring, le-transF, add-monoF, neg-antiF, negF-pos}
 use Rattle.number.proofs.Hull.{inv-above}
@@ -23,12 +20,12 @@ use Rattle.series.specs.Distance.{near}
 use Rattle.exponential.specs.Raise.{significandOf}
 use Rattle.exponential.specs.Tanh.{expPart, onePart, tanhRatioOf}
 use Rattle.exponential.proofs.Digits.{significand-lo, significand-hi}
-use Rattle.exponential.proofs.Decode.{or-le}
 use Rattle.exponential.proofs.Bounds.{Bound, bound-eq, sub-pos, scaled}
 use Rattle.exponential.proofs.Value.{abs-le}
 use Rattle.exponential.proofs.RaiseNear.{Bracket, value-of}
 use Rattle.exponential.proofs.LargePart.{holds, fails}
 use Rattle.exponential.proofs.TanhPart.{small-part}
+use Rattle.exponential.proofs.Rounded.{whole, whole-is, quotient-is, rounded-value, rounded-lo, rounded-hi}
 
 -- ---- the distance, from a bound of the difference
 pub near-of : (r x s t : Frac) → Pos s → Pos t → eqF r s → eqF x t → Bound (subF s t) (frac 1 0 (2 ^ 48)) → near (2 ^ 48) r x
@@ -48,14 +45,7 @@ near-turned r x s t S T₁ p q b = near-of r x (negF s) (negF t) (negF-pos s S) 
     flip : (s t : Frac) → Bound (subF s t) (frac 1 0 (2 ^ 48)) → Bound (subF (negF s) (negF t)) (frac 1 0 (2 ^ 48))
     flip (frac p n d) (frac q m c) h = (h .1, h .0)
 
--- ---- the difference, the sum and the quotient of whole numbers in f64
-abbrev pub whole : ℕ → Float
-whole n = ofInt binary64 (pos n)
-
-pub whole-is : (n : ℕ) → n ≤ 2 ^ 53 → HasValue (whole n) false n 1
-unfolding ofInt
-whole-is n h = round-whole binary64 false n h
-
+-- ---- the difference and the sum of whole numbers in f64
 -- the size of one in units of both: a is m up e, D both denominators
 in-units : (m e a d : ℕ) → m * 1 ≡ a * e → m * d ≡ a * (e * d)
 in-units m e a d h = ap (λ (x : ℕ). x * d) (sym (mul-one m) ∙ h) ∙ mul-assoc a e d
@@ -116,66 +106,13 @@ minus-is (fin false m e) (fin false n d) t a T₁ h k = rw (in-units (m * up e) 
         lin : (x y z : ℕ) → x ≡ y + z → (x - y) * 1 ≡ z
         lin x y z e = omega arith
 
-quotient-is : (s : Bool) (x y : Float) (a b : ℕ) → 0 < b → HasValue x s a 1 → HasValue y false b 1 → div binary64 x y ≡ round binary64 s a b
-unfolding div
-quotient-is s nan y a b P h k = absurd h
-quotient-is s (inf t) y a b P h k = absurd h
-quotient-is s (fin t m e) nan a b P h k = absurd k
-quotient-is s (fin t m e) (inf u) a b P h k = absurd k
-quotient-is s (fin t m e) (fin true n d) a b P h k = absurd (true≢false (k .0))
-quotient-is s (fin t m e) (fin false n d) a b P h k = rw (is-false (eqb n 0) (not-T (eqb n 0) (λ (u : T (eqb n 0)). some (eqb→eq n 0 u)))) (subst (λ (v : Bool). round binary64 v (m * up e * down d) (n * up d * down e) ≡ round binary64 s a b) (sym (same t s (h .0))) (round-same binary64 s (m * up e * down d) (n * up d * down e) a b (mul-pos (subst (λ (x : ℕ). 0 < x) (sym (k .1) ∙ mul-one (n * up d)) (mul-pos P (down-pos d))) (down-pos e)) P (cross (m * up e) (n * up d) (down e) (down d) (h .1) (k .1))))
-  where
-    same : (t s : Bool) → t ≡ s → unlike t false ≡ s
-    same false s p = p
-    same true s p = p
-
-    some : n ≡ 0 → ⊥
-    some p = none (b * down d) (mul-pos P (down-pos d)) (sym (k .1) ∙ ap (λ (n : ℕ). n * up d * 1) p ∙ ap (λ (x : ℕ). x * 1) (zero-mul (up d)))
-      where
-        none : (x : ℕ) → 0 < x → x ≡ 0 → ⊥
-        none x h e = omega arith
-
-    cross : (x y e d : ℕ) → x * 1 ≡ a * e → y * 1 ≡ b * d → x * d * b ≡ a * (y * e)
-    cross x y e d p q = ap (λ (z : ℕ). z * d * b) (sym (mul-one x) ∙ p) ∙ turn a b d e ∙ ap (λ (z : ℕ). a * (z * e)) (sym q ∙ mul-one y)
-      where
-        turn : (a b d e : ℕ) → a * e * d * b ≡ a * (b * d * e)
-        turn a b d e = simp (mul-assoc, mul-comm, mul-left-comm)
-
--- the order of two f64s, as numbers
-le-values : (x y : Float) (a c b d : ℕ) → HasValue x false a c → HasValue y false b d → T (le x y) → a * d ≤ b * c
-unfolding le lt eq
-le-values nan y a c b d h k l = absurd h
-le-values (inf s) y a c b d h k l = absurd h
-le-values (fin true m e) y a c b d h k l = absurd (true≢false (h .0))
-le-values (fin false m e) nan a c b d h k l = absurd k
-le-values (fin false m e) (inf s) a c b d h k l = absurd k
-le-values (fin false m e) (fin true n f) a c b d h k l = absurd (true≢false (k .0))
-le-values (fin false m e) (fin false n f) a c b d h k l = transfer a b c d (m * up e) (n * up f) (down e) (down f) (down-pos e) (down-pos f) (sym (h .1)) (sym (k .1)) (or-le (m * up e * down f) (n * up f * down e) _ l)
-
-between-finite : (x r y : Float) (a c b d : ℕ) → HasValue x false a c → HasValue y false b d → T (le x r) → T (le r y) → T (finite r)
-unfolding le lt eq
-between-finite nan r y a c b d h k l u = absurd h
-between-finite (inf s) r y a c b d h k l u = absurd h
-between-finite (fin s m e) r nan a c b d h k l u = absurd k
-between-finite (fin s m e) r (inf t) a c b d h k l u = absurd k
-between-finite (fin s m e) nan (fin t n f) a c b d h k l u = absurd l
-between-finite (fin s m e) (inf true) (fin t n f) a c b d h k l u = absurd l
-between-finite (fin s m e) (inf false) (fin t n f) a c b d h k l u = absurd u
-between-finite (fin s m e) (fin v o g) (fin t n f) a c b d h k l u = tt
-
--- a multiple of 2 ^ -52 is an f64
-grid-exact : (k : ℕ) → k < 2 ^ 53 → HasValue (round binary64 false k (2 ^ 52)) false k (2 ^ 52)
-grid-exact k h = round-exact binary64 false k (2 ^ 52) k 1022 (lit< tt) h (lt-of-lt-of-le (mul-lt-mul-of-pos-right {k = 2 ^ 1022} h (pow-pos 1022)) (lit≤ tt)) (sym (mul-assoc k (2 ^ 1022) (2 ^ 52)))
-
+-- the quotient of two whole numbers, at most 1: in units of 2 ^ -52
 module _ (a b : ℕ) (P : 0 < b) (ratio : a ≤ b) where
   abbrev k : ℕ
   k = a * 2 ^ 52 / b
 
   k-le : k ≤ 2 ^ 52
   k-le = div-le-of-le-mul b (mul-le-mul-right (2 ^ 52) ratio)
-
-  abbrev r : Float
-  r = round binary64 false a b
 
   k-lo : k * b ≤ a * 2 ^ 52
   k-lo = div-mul-le-self (a * 2 ^ 52) b
@@ -186,42 +123,32 @@ module _ (a b : ℕ) (P : 0 < b) (ratio : a ≤ b) where
       more : (x g : ℕ) → x * g + g ≡ (x + 1) * g
       more x g = simp (add-mul, one-mul)
 
-  low : HasValue (round binary64 false k (2 ^ 52)) false k (2 ^ 52)
-  low = grid-exact k (less k k-le)
+  less : k + 1 < 2 ^ 53
+  less = go k k-le
     where
-      less : (k : ℕ) → k ≤ 2 ^ 52 → k < 2 ^ 53
-      less k h = omega arith
+      go : (k : ℕ) → k ≤ 2 ^ 52 → k + 1 < 2 ^ 53
+      go k h = omega arith
 
-  high : HasValue (round binary64 false (k + 1) (2 ^ 52)) false (k + 1) (2 ^ 52)
-  high = grid-exact (k + 1) (less k k-le)
-    where
-      less : (k : ℕ) → k ≤ 2 ^ 52 → k + 1 < 2 ^ 53
-      less k h = omega arith
+  turn : (k b p : ℕ) → k * p * b ≡ k * b * p
+  turn k b p = simp (mul-assoc, mul-comm)
 
-  from : T (le (round binary64 false k (2 ^ 52)) r)
-  from = round-mono binary64 k (2 ^ 52) a b (lit< tt) P k-lo
+  lo : k * 2 ^ 1022 * b ≤ a * 2 ^ 1074
+  lo = le-trans (le-of-eq (turn k b (2 ^ 1022))) (le-trans (mul-le-mul-right (2 ^ 1022) k-lo) (le-of-eq (mul-assoc a (2 ^ 52) (2 ^ 1022))))
 
-  to : T (le r (round binary64 false (k + 1) (2 ^ 52)))
-  to = round-mono binary64 a b (k + 1) (2 ^ 52) P (lit< tt) k-hi
+  hi : a * 2 ^ 1074 ≤ (k + 1) * 2 ^ 1022 * b
+  hi = le-trans (le-of-eq (sym (mul-assoc a (2 ^ 52) (2 ^ 1022)))) (le-trans (mul-le-mul-right (2 ^ 1022) k-hi) (le-of-eq (sym (turn (k + 1) b (2 ^ 1022)))))
 
   abbrev z : ℕ
   z = grid binary64 a b
 
-  in-range : z < overflow binary64
-  in-range = round-under binary64 a b (between-finite (round binary64 false k (2 ^ 52)) r (round binary64 false (k + 1) (2 ^ 52)) k (2 ^ 52) (k + 1) (2 ^ 52) low high from to)
-
-  r-value : HasValue r false z (2 ^ 1074)
-  r-value = round-val binary64 a b in-range
-
-  -- with either sign
   signed-value : (s : Bool) → HasValue (round binary64 s a b) s z (2 ^ 1074)
-  signed-value s = subst (λ (x : Float). HasValue x s z (2 ^ 1074)) (sym (round-is binary64 s a b)) (units-val binary64 s (kept 53 (a * 2 ^ 1074) b) (drop 53 (a * 2 ^ 1074) b) in-range)
+  signed-value s = rounded-value a b k 1022 P less (lit≤ tt) lo hi s
 
   r-lo : k * 2 ^ 1074 ≤ z * 2 ^ 52
-  r-lo = le-values (round binary64 false k (2 ^ 52)) r k (2 ^ 52) z (2 ^ 1074) low r-value from
+  r-lo = le-trans (le-of-eq (sym (mul-assoc k (2 ^ 1022) (2 ^ 52)))) (mul-le-mul-right (2 ^ 52) (rounded-lo a b k 1022 P less (lit≤ tt) lo hi))
 
   r-hi : z * 2 ^ 52 ≤ (k + 1) * 2 ^ 1074
-  r-hi = le-values r (round binary64 false (k + 1) (2 ^ 52)) z (2 ^ 1074) (k + 1) (2 ^ 52) r-value high to
+  r-hi = le-trans (mul-le-mul-right (2 ^ 52) (rounded-hi a b k 1022 P less (lit≤ tt) lo hi)) (le-of-eq (mul-assoc (k + 1) (2 ^ 1022) (2 ^ 52)))
 
 -- ---- z / C against (α - β) / S, on plain numbers
 bound-up-nums : (α β S z C k : ℕ) → z * 2 ^ 52 * S ≤ (k + 1) * C * S → (k * S + 2 ^ 52 * β) * C ≤ (2 ^ 52 * α + 13 * S) * C → leF (subF (frac z 0 C) (frac α β S)) (frac 1 0 (2 ^ 48))
@@ -392,9 +319,9 @@ pub ratio-signed : (s : Bool) (e o t : ℕ) → e ≤ 2 ^ 52 → o ≤ 2 ^ 52 �
 ratio-signed s e o t h k l P d =
     let X = whole-is e (le-trans h (lit≤ tt)) in
     let Y = whole-is o (le-trans k (lit≤ tt)) in
-    quotient-is s (sub binary64 (whole e) (whole o)) (add binary64 (whole e) (whole o)) t (e + o) P
+    subst (λ (n : ℕ). ratioOf e o ≡ round binary64 s t n) (one-mul (e + o)) (quotient-is s (sub binary64 (whole e) (whole o)) (add binary64 (whole e) (whole o)) t 1 (e + o) (lit< tt) P
     (subst (λ (y : Float). HasValue y s t 1) (sym d) (round-whole binary64 s t l))
-    (subst (λ (y : Float). HasValue y false (e + o) 1) (sym (sum-is (whole e) (whole o) e o X Y)) (round-whole binary64 false (e + o) (double e o h k)))
+    (subst (λ (y : Float). HasValue y false (e + o) 1) (sym (sum-is (whole e) (whole o) e o X Y)) (round-whole binary64 false (e + o) (double e o h k))))
   where
     double : (x y : ℕ) → x ≤ 2 ^ 52 → y ≤ 2 ^ 52 → x + y ≤ 2 ^ 53
     double x y h k = omega arith

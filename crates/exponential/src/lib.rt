@@ -1,18 +1,17 @@
 // exp, exp_m1 and tanh in u64 fixed point, on one exponential in base 2: the exponent's whole part is the answer's field, 7 bits of its fraction choose a power from a table, five terms do the rest.
 // Budget of exp, in units of 2^-60 and as a part of the value: the argument over ln 2 is cut three times (242, twice that in the answer at most), five terms 81, floors 1, the f64 128; below 2^-50, 2^-48 is asked.
-// exp_m1 takes 1 away from it, from 1/4 on; nearer to 0 six and six terms of a series times the argument, so that the answer keeps all its digits.
+// exp_m1 takes 1 away from it, from 1/4 on; nearer to 0 it is the argument times a quotient of two short polynomials (Padé's), so that the answer keeps all its digits. In units of 2^-53 and as a part of the value: the fraction 1, the cuts 5, product and quotient 7; below 2^-49, 2^-48 is asked.
 // tanh is a quotient of f64s from the same numbers, exact but for the division; in units of 2^-52: core and cuts 12.4, the division 1; 16 is asked. Below 2^-17 it is x, off by a third of its cube. From 20 on in size the quotient is 1 or -1, and is not worked.
 ghost use mathlib.Core.Path.{_≡_};
 ghost use Prim.Native.Nat.{_+_, _-_, _*_, _/_, _%_, _^_, _≤_, _<_};
 ghost use lib.Dec.{T};
-ghost use lib.Ieee.{binary64, toBits};
 ghost use lib.ListN.{getD};
 ghost use Rattle.number.specs.Answer.{answer};
 ghost use Rattle.fixed_point.specs.Horner.{horner};
 ghost use Rattle.exponential.specs.Powers.{powers, terms};
 ghost use Rattle.exponential.specs.Raise.{significandOf, raiseOf};
 ghost use Rattle.exponential.specs.Exp.{expInside, binaryOf, exponentAt, exponentOf, expOf};
-ghost use Rattle.exponential.specs.ExpM1.{oddTerms, evenTerms, fieldOf, ratioOf, smallOf, belowOf, aboveOf, awayOf, expM1Of};
+ghost use Rattle.exponential.specs.ExpM1.{overTerms, fieldOf, underOf, smallOf, belowOf, aboveOf, awayOf, expM1Of};
 ghost use Rattle.exponential.specs.Tanh.{tanhInside, tanhRatioOf, tanhOf};
 use fixed_point::high_product;
 use fixed_point::pack;
@@ -241,54 +240,37 @@ pub fn exp(x: f64) -> FloatAnswer
     }
 }
 
-// sinh s / s at q = s^2: six terms.
-fn odd_series(q: u64) -> u64
-    requires { ⌜ q ≤ 2 ^ 61 ⌝ }
-    ensures { λ r. ⌜ r ≡ horner oddTerms q ⌝ }
+// a = 15120 + 420 z + z^2, z = q / 2^64. The coefficients' unit is no power of two: where LLVM knows that low digits are 0, it makes four products of a high product.
+fn over(q: u64) -> u64
+    requires { ⌜ q ≤ 2 ^ 60 ⌝ }
+    ensures { λ r. ⌜ r ≡ horner overTerms q ⌝ }
 {
-    let h4 = step(25417140754119, 231064915946, q);
-    let h3 = step(1830034134296582, h4, q);
-    let h2 = step(76861433640456465, h3, q);
-    let h1 = step(1537228672809129301, h2, q);
-    step(9223372036854775808, h1, q)
+    step(8511803295730238385, 236438980436951066 + q / 0x8000, q)
 }
 
-// (cosh s - 1) / s^2 at q = s^2: six terms.
-fn even_series(q: u64) -> u64
-    requires { ⌜ q ≤ 2 ^ 61 ⌝ }
-    ensures { λ r. ⌜ r ≡ horner evenTerms q ⌝ }
+// c - x a / 2 with c = 15120 + 1680 z + 15 z^2, |x| = s / 2^64.
+fn under(negative: bool, s: u64, q: u64, a: u64) -> u64
+    requires { ⌜ (s ≤ 2 ^ 62) × (q ≤ 2 ^ 60) × (a ≤ 2 ^ 63) ⌝ }
+    ensures { λ r. ⌜ r ≡ underOf negative s q a ⌝ }
 {
-    let h4 = step(2541714075411, 19255409662, q);
-    let h3 = step(228754266787072, h4, q);
-    let h2 = step(12810238940076077, h3, q);
-    let h1 = step(384307168202282325, h2, q);
-    step(4611686018427387904, h1, q)
+    let c = step(8511803295730238385, 945755921747804265 + 15 * q / 0x8000, q);
+    let half = high_product(s, a) / 2;
+    if negative { c + half } else { c - half }
 }
 
-// (exp x - 1) / x, |x| = s / 2^64 at most 1/4.
-fn ratio(negative: bool, s: u64) -> u64
-    requires { ⌜ s ≤ 2 ^ 62 ⌝ }
-    ensures value { λ r. ⌜ r ≡ ratioOf negative s ⌝ }
-    ensures least { λ r. ⌜ 2 ^ 62 ≤ r ⌝ }
+// exp x - 1 for an x below 1/4 in size, from x and its bits. Both numbers are cut to 53 bits at most, so that only the product and the quotient round.
+fn small(x: f64, b: u64) -> f64
+    requires { ⌜ fieldOf b < 1021 ⌝ }
+    ensures { λ r. ⌜ r ≡ smallOf x b ⌝ }
 {
-    let q = high_product(s, s);
-    let odd = odd_series(q);
-    let even = high_product(s, even_series(q));
-    if negative { odd - even } else { odd + even }
-}
-
-// exp x - 1 of the bits of an x below 1/4 in size.
-fn small(b: u64) -> f64
-    requires { ⌜ (969 ≤ fieldOf b) × (fieldOf b < 1021) ⌝ }
-    ensures { λ r. ⌜ r ≡ smallOf b ⌝ }
-{
-    let field = b / 0x10_0000_0000_0000 % 2048;
     let digits = (b % 0x10_0000_0000_0000 + 0x10_0000_0000_0000) * 2048;
-    let r = ratio(
-        0x8000_0000_0000_0000 <= b,
-        shift_right(digits, above_by(1022, field)),
-    );
-    pack(b / 0x8000_0000_0000_0000, high_product(digits, r), field)
+    let s = shift_right(digits, above_by(1022, b / 0x10_0000_0000_0000 % 2048));
+    let q = high_product(s, s);
+    let a = over(q);
+    let d = under(0x8000_0000_0000_0000 <= b, s, q, a);
+    let y = (a / 2048) as f64;
+    let z = (d / 2048) as f64;
+    x * y / z
 }
 
 // exp x - 1 for an x of -1/4 or less, from its exponent in base 2.
@@ -311,12 +293,12 @@ fn above(w: u64) -> f64
 
 // exp x - 1 for an x that is not tiny.
 fn away(x: f64) -> f64
-    requires { ⌜ T (expInside x) × (969 ≤ fieldOf (toBits binary64 x)) ⌝ }
+    requires { ⌜ T (expInside x) ⌝ }
     ensures { λ r. ⌜ r ≡ awayOf x ⌝ }
 {
     let b = f64::to_bits(x);
     if b / 0x10_0000_0000_0000 % 2048 < 1021 {
-        return small(b);
+        return small(x, b);
     }
     let w = exponent(x);
     if 0x8000_0000_0000_0000 <= b {

@@ -8,7 +8,7 @@ use Rattle.exponential.proofs.away.Statement.{statement}
 use Rattle.exponential.proofs.away.Tie as tie
 
 float-to-bits-b : tie.Need-float-to-bits-b
-float-to-bits-b c = no-nan (c .args .x) (c .pre .0)
+float-to-bits-b c = no-nan (c .args .x) (c .pre)
 
 small-requires : tie.Need-small-requires
 small-requires c κs = search needs
@@ -22,12 +22,12 @@ exponent-requires c κs = search needs
 below-requires : tie.Need-below-requires
 below-requires c κs =
     let a = c .before .before .before in
-    far-below (a .args .x) (subst T (sym (a .good .0 .1)) tt) (a .pre .0) (c .before .before .if1 .left) (c .if2 .taken) (c .before .exponent .result) (c .before .exponent .ensures .0) (c .before .exponent .ensures .1 .0)
+    far-below (a .args .x) (subst T (sym (a .good .0 .1)) tt) (a .pre) (c .before .before .if1 .left) (c .if2 .taken) (c .before .exponent .result) (c .before .exponent .ensures .0) (c .before .exponent .ensures .1 .0)
 
 above-requires : tie.Need-above-requires
 above-requires c κs =
     let a = c .before .before .before in
-    far-above (a .args .x) (subst T (sym (a .good .0 .1)) tt) (a .pre .0) (c .before .before .if1 .left) (c .if2 .left) (c .before .exponent .result) (c .before .exponent .ensures .0) (c .before .exponent .ensures .1 .1)
+    far-above (a .args .x) (subst T (sym (a .good .0 .1)) tt) (a .pre) (c .before .before .if1 .left) (c .if2 .left) (c .before .exponent .result) (c .before .exponent .ensures .0) (c .before .exponent .ensures .1 .1)
 
 returns-2 : tie.Need-returns-2
 returns-2 c = away-below (c .before .before .before .before .args .x) (c .before .before .exponent .result) (c .below .result) (c .before .before .before .if1 .left) (c .before .if2 .taken) (c .before .before .exponent .ensures .0) (c .below .ensures)

@@ -16,7 +16,7 @@ float-to-bits-if2 : tie.Need-float-to-bits-if2
 float-to-bits-if2 c = no-nan (c .before .before .args .x) (accepted (c .before .before .args .x) (c .before .exp-inside .result) (c .before .exp-inside .ensures) (not-false _ (c .if1 .left)))
 
 away-requires : tie.Need-away-requires
-away-requires c κs = (accepted (c .before .before .before .args .x) (c .before .before .exp-inside .result) (c .before .before .exp-inside .ensures) (not-false _ (c .before .if1 .left)), c .if2 .left)
+away-requires c κs = accepted (c .before .before .before .args .x) (c .before .before .exp-inside .result) (c .before .before .exp-inside .ensures) (not-false _ (c .before .if1 .left))
 
 returns-2 : tie.Need-returns-2
 returns-2 c = m1-tiny _ _ (c .before .before .exp-inside .ensures) (not-false _ (c .before .if1 .left)) (c .if2 .taken)

@@ -1,24 +1,11 @@
 -- `exponential::small` meets its contract. Assumes nothing.
 use borrow.Author.Needs.{needs}
-use mathlib.Core.Path.{ap, subst, sym, _∙_}
-use Prim.Native.Nat.{ℕ, _-_, _/_, _^_, _≤_, _<_}
-use native.Mathlib.Omega.{arith}
-use Rattle.exponential.specs.ExpM1.{fieldOf, digitsOf}
-use Rattle.exponential.proofs.SmallPart.{moved-le, product-pos, digits-lo, digits-hi, small-is}
+use mathlib.Core.Path.{ap, _∙_}
+use Prim.Native.Nat.{ℕ, _/_, _^_}
+use Rattle.exponential.specs.ExpM1.{digitsOf}
+use Rattle.exponential.proofs.SmallPart.{s-le, q-le, a-le, over-fits, under-fits, small-is}
 use Rattle.exponential.proofs.small.Statement.{statement}
 use Rattle.exponential.proofs.small.Tie as tie
-
-two : (f : ℕ) → f < 1021 → 2 ≤ 1022 - f
-two f h = omega arith
-
-sign : (b : ℕ) → b < 2 ^ 64 → b / 2 ^ 63 ≤ 1
-sign b h = omega arith
-
-low : {f : ℕ} → 969 ≤ f → 64 ≤ f
-low h = omega arith
-
-high : {f : ℕ} → f < 1021 → f ≤ 2044
-high h = omega arith
 
 add-digits : tie.Need-add-digits
 add-digits c = search needs
@@ -32,21 +19,23 @@ above-by-requires c κs = search needs
 shift-right-requires : tie.Need-shift-right-requires
 shift-right-requires c κs = search needs
 
-ratio-requires : tie.Need-ratio-requires
-ratio-requires c κs =
-    let b = c .before .before .args .b in
-    subst (λ (x : ℕ). x ≤ 2 ^ 62) (sym (c .shift-right .ensures ∙ ap (λ (n : ℕ). digitsOf b / 2 ^ n) (c .before .above-by .ensures))) (moved-le (digitsOf b) (1022 - fieldOf b) (digits-hi b) (two (fieldOf b) (c .before .before .pre .1)))
-
 high-product-requires : tie.Need-high-product-requires
 high-product-requires c κs = search needs
 
-pack-requires : tie.Need-pack-requires
-pack-requires c κs =
-    let a = c .before .before .before .before in
-    (sign (a .args .b) (a .fits .b .fits), subst (λ (x : ℕ). 0 < x) (sym (c .high-product .ensures .0)) (product-pos (digitsOf (a .args .b)) (c .before .ratio .result) (digits-lo (a .args .b)) (c .before .ratio .ensures .1)), low (a .pre .0), high (a .pre .1))
+over-requires : tie.Need-over-requires
+over-requires c κs = q-le (c .before .before .before .args .b) (c .before .shift-right .result) (c .high-product .result) 0 (c .before .before .before .pre) (c .before .shift-right .ensures ∙ ap (λ (n : ℕ). digitsOf (c .before .before .before .args .b) / 2 ^ n) (c .before .before .above-by .ensures)) (c .high-product .ensures .0)
+
+under-requires : tie.Need-under-requires
+under-requires c κs = (s-le (c .before .before .before .before .args .b) (c .before .before .shift-right .result) (c .before .high-product .result) 0 (c .before .before .before .before .pre) (c .before .before .shift-right .ensures ∙ ap (λ (n : ℕ). digitsOf (c .before .before .before .before .args .b) / 2 ^ n) (c .before .before .before .above-by .ensures)) (c .before .high-product .ensures .0), q-le (c .before .before .before .before .args .b) (c .before .before .shift-right .result) (c .before .high-product .result) 0 (c .before .before .before .before .pre) (c .before .before .shift-right .ensures ∙ ap (λ (n : ℕ). digitsOf (c .before .before .before .before .args .b) / 2 ^ n) (c .before .before .before .above-by .ensures)) (c .before .high-product .ensures .0), a-le (c .before .before .before .before .args .b) (c .before .before .shift-right .result) (c .before .high-product .result) (c .over .result) (c .before .before .before .before .pre) (c .before .before .shift-right .ensures ∙ ap (λ (n : ℕ). digitsOf (c .before .before .before .before .args .b) / 2 ^ n) (c .before .before .before .above-by .ensures)) (c .before .high-product .ensures .0) (c .over .ensures))
+
+int-to-float-y : tie.Need-int-to-float-y
+int-to-float-y c = over-fits (c .before .before .before .before .before .before .args .b) (c .before .before .before .before .shift-right .result) (c .before .before .before .high-product .result) (c .before .before .over .result) (c .before .before .before .before .before .before .pre) (c .before .before .before .before .shift-right .ensures ∙ ap (λ (n : ℕ). digitsOf (c .before .before .before .before .before .before .args .b) / 2 ^ n) (c .before .before .before .before .before .above-by .ensures)) (c .before .before .before .high-product .ensures .0) (c .before .before .over .ensures)
+
+int-to-float-z : tie.Need-int-to-float-z
+int-to-float-z c = under-fits (c .before .before .before .before .before .before .before .args .b) (c .before .before .before .before .before .shift-right .result) (c .before .before .before .before .high-product .result) (c .before .before .before .over .result) (c .before .before .before .before .before .before .before .pre) (c .before .before .before .before .before .shift-right .ensures ∙ ap (λ (n : ℕ). digitsOf (c .before .before .before .before .before .before .before .args .b) / 2 ^ n) (c .before .before .before .before .before .before .above-by .ensures)) (c .before .before .before .before .high-product .ensures .0) (c .before .before .before .over .ensures) (c .before .before .under .result) (c .before .before .under .ensures)
 
 returns : tie.Need-returns
-returns c = small-is _ _ _ _ _ (c .before .before .before .shift-right .ensures ∙ ap (λ (n : ℕ). digitsOf (c .before .before .before .before .before .args .b) / 2 ^ n) (c .before .before .before .before .above-by .ensures)) (c .before .before .ratio .ensures .0) (c .before .high-product .ensures .0) (c .pack .ensures)
+returns c = small-is (c .before .before .before .before .before .before .before .args .b) (c .before .before .before .before .before .shift-right .result) (c .before .before .before .before .high-product .result) (c .before .before .before .over .result) (c .before .before .before .before .before .before .before .pre) (c .before .before .before .before .before .shift-right .ensures ∙ ap (λ (n : ℕ). digitsOf (c .before .before .before .before .before .before .before .args .b) / 2 ^ n) (c .before .before .before .before .before .before .above-by .ensures)) (c .before .before .before .before .high-product .ensures .0) (c .before .before .before .over .ensures) (c .before .before .under .result) (c .before .before .under .ensures) _
 
 pub small-spec : {M : Type 1} → statement M
 small-spec =
@@ -56,7 +45,9 @@ small-spec =
     mul-digits
     above-by-requires
     shift-right-requires
-    ratio-requires
     high-product-requires
-    pack-requires
+    over-requires
+    under-requires
+    int-to-float-y
+    int-to-float-z
     returns)
