@@ -39,7 +39,7 @@ pub record Two (g : Bool) (x : Interval) (a b : Float) : Type 0 where
   pub is : outward g a b ≡ x
 
 -- either of the two
-pick-least : (P : Float → Type 0) (x y : Float) → P x → P y → P (least x y)
+pub pick-least : (P : Float → Type 0) (x y : Float) → P x → P y → P (least x y)
 unfolding least
 pick-least P x y p q = go (lt y x)
   where
@@ -47,7 +47,7 @@ pick-least P x y p q = go (lt y x)
     go true = q
     go false = p
 
-pick-greatest : (P : Float → Type 0) (x y : Float) → P x → P y → P (greatest x y)
+pub pick-greatest : (P : Float → Type 0) (x y : Float) → P x → P y → P (greatest x y)
 unfolding greatest
 pick-greatest P x y p q = go (lt x y)
   where
@@ -451,7 +451,7 @@ under-by (inf false) (fin true n d) h t = absurd (h .above)
 under-by (inf true) p h t = tt
 under-by (fin s m e) p h t = tt
 
-lt-from : (x y : Float) → T (finite x) → T (finite y) → ltF (valF x) (valF y) → T (lt x y)
+pub lt-from : (x y : Float) → T (finite x) → T (finite y) → ltF (valF x) (valF y) → T (lt x y)
 lt-from x y p q h = go (lt x y) (lt-no x y p q)
   where
     go : (b : Bool) → (T (not b) → leF (valF y) (valF x)) → T b

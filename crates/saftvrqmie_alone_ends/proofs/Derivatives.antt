@@ -20,6 +20,7 @@ use Rattle.power.specs.Power.{exponentInside, exponentOf, powerOf, powfOf}
 use Rattle.interval.specs.Interval as I
 use Rattle.interval.specs.Interval.{divI, afterI}
 use Rattle.interval.proofs.Encloses.{add-sound, sub-sound, mul-sound, div-sound}
+use Rattle.interval.proofs.Bounded.{both-true}
 use Rattle.enclosure.specs.declared.Enclosure.{Enclosure}
 use Rattle.enclosure.specs.Enclosure.{enclosures, point, addE, subE, mulE, divE, negE, afterE}
 use Rattle.saftvrqmie_parameters.specs.declared.FeynmanHibbsOrder.{FeynmanHibbsOrder}
@@ -29,7 +30,7 @@ use Rattle.saftvrqmie_potential.specs.Potential.{PotentialIn, firstOrder, secon
 use Rattle.saftvrqmie_potential_ends.specs.declared.PairShared.{PairShared}
 use Rattle.saftvrqmie_potential_ends.specs.Shared.{Sharing}
 use Rattle.saftvrqmie_alone_ends.specs.Alone.{big, withinOf, smallOf, plainOf, plainFrom, tameOf, aloneOf, sureOf, soundOf, powerAt, uAlone, uAfter}
-use Rattle.saftvrqmie_alone_ends.proofs.Tame.{both-true, Within, Tame, top, mul-tame, add-tame, sub-tame, neg-tame, recip-tame, widened}
+use Rattle.saftvrqmie_alone_ends.proofs.Tame.{Within, Tame, top, mul-tame, add-tame, sub-tame, neg-tame, recip-tame, widened}
 use Rattle.saftvrqmie_alone_ends.proofs.Same.{Same, same, add-same, sub-same, mul-same, div-same, one-flag, flags}
 use Rattle.saftvrqmie_alone_ends.proofs.Raised.{above-one, power-from-one}
 
