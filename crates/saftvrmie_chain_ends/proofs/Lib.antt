@@ -1,3 +1,4 @@
 pub mod Slope
+pub mod Lost
 pub mod Sums
 pub mod Powers

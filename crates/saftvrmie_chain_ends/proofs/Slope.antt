@@ -1,4 +1,4 @@
--- The slope of j's dividend, of finite ends: its operations on the floats next to zero, one after another. Assumes nothing.
+-- The slopes of the dividends of i and, of finite ends, of j: operations on the floats next to zero, one after another. Assumes nothing.
 use mathlib.Core.Path.{_≡_, refl}
 use mathlib.Core.Bool.{Bool, true, false, _&&_}
 use Prim.Native.Nat.{ℕ, _+_, _^_}
@@ -13,11 +13,15 @@ use Rattle.enclosure.specs.declared.Enclosure.{Enclosure}
 use Rattle.enclosure.specs.Enclosure.{point, addE, subE, negE}
 use Rattle.enclosure_dual.specs.Value.{aboutZero}
 use Rattle.enclosure_dual.proofs.Zero.{right-is, left-is}
-use Rattle.saftvrmie_chain_ends.specs.Slope.{finiteEnds, jSlope}
+use Rattle.saftvrmie_chain_ends.specs.Slope.{finiteEnds, iSlope, jSlope}
 
 -- the floats k steps from zero
 abbrev about : ℕ → Bool → Interval
 about k g = record { lower = ofBits binary64 (2 ^ 63 + k); upper = ofBits binary64 k; sound = g }
+
+pub i-slope-is : _≡_ {A = Enclosure} (record { value = Ieee.neg zero64; ends = about 1 true }) iSlope
+unfolding iSlope negE subE point negI subI Interval.point around outward least greatest lt nextUp nextDown stepUp stepDown toBits ofBits Ieee.sub Ieee.add Ieee.neg sum round fits
+i-slope-is = refl
 
 third : (g h : Bool) → addI (aboutZero g) (aboutZero h) ≡ about 3 (g && h)
 unfolding addI aboutZero around outward least greatest lt nextUp nextDown stepUp stepDown toBits ofBits Ieee.add sum round

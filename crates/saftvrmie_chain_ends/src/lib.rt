@@ -5,8 +5,8 @@ ghost use Rattle.number.specs.Arith.{decimal};
 ghost use Rattle.number.specs.Functions.{calls};
 ghost use Rattle.elementary.specs.Port.{port};
 ghost use Rattle.enclosure.specs.Answer.{answer};
-ghost use Rattle.enclosure.specs.Enclosure.{enclosures, point};
-ghost use Rattle.dual.specs.Dual.{duals, plainD, addD, mulD, negD, powD};
+ghost use Rattle.enclosure.specs.Enclosure.{enclosures, point, addE, mulE};
+ghost use Rattle.dual.specs.Dual.{duals, plainD, addD, subD, mulD, negD, powD};
 ghost use Rattle.enclosure_dual.specs.Value.{dualOf};
 ghost use Rattle.saftvrmie_dispersion.specs.Sutherland.{kHs, bOf, a1sB};
 ghost use Rattle.saftvrmie_dispersion.specs.Terms.{five, prefOf, a1Of, a2Of, ordersOf};
@@ -15,7 +15,7 @@ ghost use Rattle.saftvrmie_dispersion.specs.Answer.{pairIn};
 ghost use Rattle.saftvrmie_dispersion_ends.specs.Shared.{zetaEffBy, a1sBy, iBy, jBy, a1sBBy, powerAt};
 ghost use Rattle.saftvrmie_dispersion_ends.specs.Answer.{barIn, sumsIn, sumsAnswer};
 ghost use Rattle.saftvrmie_properties_ends.specs.Answer.{kIn};
-ghost use Rattle.saftvrmie_chain_ends.specs.Slope.{finiteEnds, jSlope};
+ghost use Rattle.saftvrmie_chain_ends.specs.Slope.{finiteEnds, iSlope, jSlope, quotientSlope, staysOf, moderateOf, tinyOf, tinySlope, lostIn, lostSum};
 ghost use Rattle.saftvrmie_chain_ends.specs.Duals.{fluidDualIn, fiveDualIn, ordersDualIn, linkIn, dualAnswer, fiveDualAnswer, ordersDualAnswer};
 use binary_log::Log;
 use enclosure::Enclosure;
@@ -210,22 +210,6 @@ fn a1s_ij_dual(zeta_x: EnclosureDual, of: LambdaEnclosures) -> EnclosureDual
     }
 }
 
-// By a plain number, whose slope is +0: the whole rule, not part by part.
-fn i_dual(p3: Enclosure, l3: Enclosure) -> EnclosureDual
-    ensures { λ r. ⌜ dualOf r ≡ iBy (duals enclosures) (plainD enclosures) (plainD enclosures p3) l3 ⌝ }
-{
-    let zero = enclosure::point(0.0);
-    let a = enclosure::neg(enclosure::sub(p3, enclosure::point(1.0)));
-    let t = enclosure::neg(enclosure::sub(zero, zero));
-    let left = enclosure::mul(t, l3);
-    let right = enclosure_dual::times_zero(a);
-    let square = enclosure::mul(l3, l3);
-    EnclosureDual {
-        re: enclosure::div(a, l3),
-        eps: enclosure::div(enclosure::sub(left, right), square),
-    }
-}
-
 fn finite_ends(x: Enclosure) -> bool
     ensures { λ r. ⌜ r ≡ finiteEnds x ⌝ }
 {
@@ -256,38 +240,137 @@ fn j_slope(p4: Enclosure, p3: Enclosure, l3: Enclosure, l4: Enclosure) -> Enclos
     }
 }
 
-fn j_dual(p4: Enclosure, p3: Enclosure, l3: Enclosure, l4: Enclosure) -> EnclosureDual
-    ensures { λ r. ⌜ dualOf r ≡ jBy (duals enclosures) (plainD enclosures) (plainD enclosures p4) (plainD enclosures p3) l3 l4 ⌝ }
+// The slope of i's dividend: a plain number's.
+fn i_slope() -> Enclosure
+    ensures { λ r. ⌜ r ≡ iSlope ⌝ }
 {
-    let one = enclosure::point(1.0);
-    let a = enclosure::sub(enclosure::mul(p4, l3), enclosure::mul(p3, l4));
-    let c = enclosure::neg(enclosure::sub(a, one));
-    let under = enclosure::mul(l3, l4);
-    let left = enclosure::mul(j_slope(p4, p3, l3, l4), under);
-    let right = enclosure_dual::times_zero(c);
-    let square = enclosure::mul(under, under);
-    EnclosureDual {
-        re: enclosure::div(c, under),
-        eps: enclosure::div(enclosure::sub(left, right), square),
+    Enclosure {
+        value: -0.0,
+        ends: Interval {
+            lower: f64::from_bits(0x8000_0000_0000_0001),
+            upper: f64::from_bits(1),
+            sound: true,
+        },
     }
 }
 
-fn b_dual(w: FluidDuals, i: EnclosureDual, j: EnclosureDual) -> EnclosureDual
-    ensures { λ r. ⌜ dualOf r ≡ bOf enclosures (duals enclosures) (plainD enclosures) (fluidDualIn w) (dualOf i) (dualOf j) ⌝ }
+// ---- what the slope of a quotient by a plain number e, so near to zero, adds to x: mostly nothing
+
+// 2^-800, added or taken away, leaves x as it is.
+fn stays(x: f64) -> bool
+    ensures { λ r. ⌜ r ≡ staysOf x ⌝ }
 {
-    let u = enclosure::add(
-        enclosure::mul(w.b1.eps, i.re),
-        enclosure::mul(w.b1.re, i.eps),
-    );
-    let v = enclosure::add(
-        enclosure::mul(w.b2.eps, j.re),
-        enclosure::mul(w.b2.re, j.eps),
-    );
-    let s = enclosure::sub(enclosure::mul(w.b1.re, i.re), enclosure::mul(w.b2.re, j.re));
-    let t = enclosure::mul(enclosure::sub(u, v), w.b3.re);
+    let faint = f64::from_bits(0x0df0_0000_0000_0000);
+    !(x < x + faint) & !(x - faint < x)
+}
+
+// Ends in order, from 0 to 2^100.
+fn moderate(lower: f64, upper: f64) -> bool
+    ensures { λ r. ⌜ r ≡ moderateOf lower upper ⌝ }
+{
+    (0.0 < lower) & !(upper < lower) & (upper < 1267650600228229401496703205376.0)
+}
+
+// Less than sixteen steps from zero.
+fn tiny(x: f64) -> bool
+    ensures { λ r. ⌜ r ≡ tinyOf x ⌝ }
+{
+    (f64::from_bits(0x8000_0000_0000_0010) < x) & (x < f64::from_bits(16))
+}
+
+fn is_tiny(t: Interval) -> bool
+    ensures { λ r. ⌜ r ≡ tinySlope t ⌝ }
+{
+    t.sound & tiny(t.lower) & tiny(t.upper)
+}
+
+// The slope of a tiny dividend's quotient by e, times b, is lost in a sum with x.
+fn is_lost(x: Interval, b: Interval, e: Interval) -> bool
+    ensures { λ r. ⌜ r ≡ lostIn x b e ⌝ }
+{
+    let firm = x.sound & stays(x.lower) & stays(x.upper);
+    let factor = b.sound & moderate(b.lower, b.upper);
+    firm & factor & moderate(e.lower, e.upper) & (1.0 < e.lower)
+}
+
+// The sum where it is lost.
+fn lost_sum(x: Enclosure, b: f64, t: f64, c: f64, e: f64) -> Enclosure
+    ensures { λ r. ⌜ r ≡ lostSum x b t c e ⌝ }
+{
+    let nothing = Interval {
+        lower: 0.0,
+        upper: 0.0,
+        sound: true,
+    };
+    enclosure::add(
+        x,
+        Enclosure {
+            value: b * ((t * e - c * 0.0) / (e * e)),
+            ends: nothing,
+        },
+    )
+}
+
+// The sum in full; two callers keep it out of line.
+fn whole_sum(x: Enclosure, b: Enclosure, t: Enclosure, c: Enclosure, e: Enclosure) -> Enclosure
+    ensures { λ r. ⌜ r ≡ addE x (mulE b (quotientSlope t c e)) ⌝ }
+{
+    let top = enclosure::sub(enclosure::mul(t, e), enclosure_dual::times_zero(c));
+    let slope = enclosure::div(top, enclosure::mul(e, e));
+    enclosure::add(x, enclosure::mul(b, slope))
+}
+
+// b times i.
+fn times_i(b: EnclosureDual, p3: Enclosure, l3: Enclosure) -> EnclosureDual
+    ensures { λ r. ⌜ dualOf r ≡ mulD enclosures (dualOf b) (iBy (duals enclosures) (plainD enclosures) (plainD enclosures p3) l3) ⌝ }
+{
+    let c = enclosure::neg(enclosure::sub(p3, enclosure::point(1.0)));
+    let i = enclosure::div(c, l3);
+    let x = enclosure::mul(b.eps, i);
+    let re = enclosure::mul(b.re, i);
+    let t = i_slope();
+    if is_lost(x.ends, b.re.ends, l3.ends) & is_tiny(t.ends) {
+        let eps = lost_sum(x, b.re.value, t.value, c.value, l3.value);
+        return EnclosureDual { re, eps };
+    }
+    let eps = whole_sum(x, b.re, t, c, l3);
+    EnclosureDual { re, eps }
+}
+
+// b times j.
+fn times_j(
+    b: EnclosureDual,
+    p4: Enclosure,
+    p3: Enclosure,
+    l3: Enclosure,
+    l4: Enclosure,
+) -> EnclosureDual
+    ensures { λ r. ⌜ dualOf r ≡ mulD enclosures (dualOf b) (jBy (duals enclosures) (plainD enclosures) (plainD enclosures p4) (plainD enclosures p3) l3 l4) ⌝ }
+{
+    let a = enclosure::sub(enclosure::mul(p4, l3), enclosure::mul(p3, l4));
+    let c = enclosure::neg(enclosure::sub(a, enclosure::point(1.0)));
+    let e = enclosure::mul(l3, l4);
+    let j = enclosure::div(c, e);
+    let x = enclosure::mul(b.eps, j);
+    let re = enclosure::mul(b.re, j);
+    let t = j_slope(p4, p3, l3, l4);
+    if is_lost(x.ends, b.re.ends, e.ends) & is_tiny(t.ends) {
+        let eps = lost_sum(x, b.re.value, t.value, c.value, e.value);
+        return EnclosureDual { re, eps };
+    }
+    let eps = whole_sum(x, b.re, t, c, e);
+    EnclosureDual { re, eps }
+}
+
+// From b1 times i and b2 times j.
+fn b_dual(b3: EnclosureDual, i: EnclosureDual, j: EnclosureDual) -> EnclosureDual
+    ensures { λ r. ⌜ dualOf r ≡ mulD enclosures (subD enclosures (dualOf i) (dualOf j)) (dualOf b3) ⌝ }
+{
+    let s = enclosure::sub(i.re, j.re);
+    let t = enclosure::mul(enclosure::sub(i.eps, j.eps), b3.re);
     EnclosureDual {
-        re: enclosure::mul(s, w.b3.re),
-        eps: enclosure::add(t, enclosure::mul(s, w.b3.eps)),
+        re: enclosure::mul(s, b3.re),
+        eps: enclosure::add(t, enclosure::mul(s, b3.eps)),
     }
 }
 
@@ -307,7 +390,9 @@ fn a1s_b_ij_dual(l: Log, x0: Enclosure, w: FluidDuals, lambda: Enclosure) -> Dua
         return DualsAnswer::Outside;
     };
     let of = saftvrmie_dispersion_ends::lambda_of(lambda);
-    let b = b_dual(w, i_dual(p3, of.l3), j_dual(p4, p3, of.l3, of.l4));
+    let i = times_i(w.b1, p3, of.l3);
+    let j = times_j(w.b2, p4, p3, of.l3, of.l4);
+    let b = b_dual(w.b3, i, j);
     let a = a1s_ij_dual(w.zeta_x, of);
     let s = enclosure::add(a.re, b.re);
     let right = enclosure::mul(p, enclosure::add(a.eps, b.eps));

@@ -1,6 +1,6 @@
 -- `saftvrmie_chain_ends::a1s_b_ij_dual` meets its contract. Assumes nothing.
 use Rattle.saftvrmie_dispersion_ends.proofs.Shared.{a1sB-is}
-use Rattle.saftvrmie_dispersion.specs.Sutherland.{a1sB}
+use Rattle.saftvrmie_dispersion.specs.Sutherland.{a1sB, bOf}
 use lib.Ieee.{ofBits}
 use Rattle.number.specs.Arith.{decimal}
 use Rattle.enclosure.specs.Enclosure.{enclosures}
@@ -38,14 +38,7 @@ enum-told c = search needs
 
 returns : tie.Need-returns
 unfolding a1sB _>>=_ decimal ofBits
-returns c =
-    rw (
-      ← c .before .before .before .before .before .before .point .ensures,
-      ← c .before .before .before .before .before .sub .ensures,
-      ← c .before .before .before .before .point2 .ensures,
-      ← c .before .before .before .sub2 .ensures,
-      via answer (c .before .before .power-of .ensures) (c .enum-told .given .1),
-    )
+returns c = rw (← (c .before .before .before .before .before .before .point) .ensures, ← (c .before .before .before .before .before .sub) .ensures, ← (c .before .before .before .before .point2) .ensures, ← (c .before .before .before .sub2) .ensures, via answer ((c .before .before .power-of) .ensures) ((c .enum-told) .given .1))
 
 power-of-requires-2 : tie.Need-power-of-requires-2
 power-of-requires-2 c κs = search needs
@@ -58,15 +51,7 @@ enum-told-2 c = search needs
 
 returns-2 : tie.Need-returns-2
 unfolding a1sB _>>=_ decimal ofBits
-returns-2 c =
-    rw (
-      ← c .before .before .before .before .before .before .before .before .before .before .point .ensures,
-      ← c .before .before .before .before .before .before .before .before .before .sub .ensures,
-      ← c .before .before .before .before .before .before .before .before .point2 .ensures,
-      ← c .before .before .before .before .before .before .before .sub2 .ensures,
-      via answer (c .before .before .before .before .before .before .power-of .ensures) (c .before .before .before .before .p .given .1),
-      via answer (c .before .before .power-of2 .ensures) (c .enum-told2 .given .1),
-    )
+returns-2 c = rw (← (c .before .before .before .before .before .before .before .before .before .before .point) .ensures, ← (c .before .before .before .before .before .before .before .before .before .sub) .ensures, ← (c .before .before .before .before .before .before .before .before .point2) .ensures, ← (c .before .before .before .before .before .before .before .sub2) .ensures, via answer ((c .before .before .before .before .before .before .power-of) .ensures) ((c .before .before .before .before .p) .given .1), via answer ((c .before .before .power-of2) .ensures) ((c .enum-told2) .given .1))
 
 power-of-requires-3 : tie.Need-power-of-requires-3
 power-of-requires-3 c κs = search needs
@@ -79,25 +64,16 @@ enum-told-3 c = search needs
 
 returns-3 : tie.Need-returns-3
 unfolding a1sB _>>=_ decimal ofBits
-returns-3 c =
-    rw (
-      ← c .before .before .before .before .before .before .before .before .before .before .before .before .before .before .point .ensures,
-      ← c .before .before .before .before .before .before .before .before .before .before .before .before .before .sub .ensures,
-      ← c .before .before .before .before .before .before .before .before .before .before .before .before .point2 .ensures,
-      ← c .before .before .before .before .before .before .before .before .before .before .before .sub2 .ensures,
-      via answer (c .before .before .before .before .before .before .before .before .before .before .power-of .ensures) (c .before .before .before .before .before .before .before .before .p .given .1),
-      via answer (c .before .before .before .before .before .before .power-of2 .ensures) (c .before .before .before .before .p3 .given .1),
-      via answer (c .before .before .power-of3 .ensures) (c .enum-told3 .given .1),
-    )
+returns-3 c = rw (← (c .before .before .before .before .before .before .before .before .before .before .before .before .before .before .point) .ensures, ← (c .before .before .before .before .before .before .before .before .before .before .before .before .before .sub) .ensures, ← (c .before .before .before .before .before .before .before .before .before .before .before .before .point2) .ensures, ← (c .before .before .before .before .before .before .before .before .before .before .before .sub2) .ensures, via answer ((c .before .before .before .before .before .before .before .before .before .before .power-of) .ensures) ((c .before .before .before .before .before .before .before .before .p) .given .1), via answer ((c .before .before .before .before .before .before .power-of2) .ensures) ((c .before .before .before .before .p3) .given .1), via answer ((c .before .before .power-of3) .ensures) ((c .enum-told3) .given .1))
 
 lambda-of-requires : tie.Need-lambda-of-requires
 lambda-of-requires c κs = search needs
 
-i-dual-requires : tie.Need-i-dual-requires
-i-dual-requires c κs = search needs
+times-i-requires : tie.Need-times-i-requires
+times-i-requires c κs = search needs
 
-j-dual-requires : tie.Need-j-dual-requires
-j-dual-requires c κs = search needs
+times-j-requires : tie.Need-times-j-requires
+times-j-requires c κs = search needs
 
 b-dual-requires : tie.Need-b-dual-requires
 b-dual-requires c κs = search needs
@@ -124,24 +100,8 @@ add-requires-3 : tie.Need-add-requires-3
 add-requires-3 c κs = search needs
 
 returns-4 : tie.Need-returns-4
-unfolding a1sB a1sBBy _>>=_ decimal ofBits
-returns-4 c =
-    rw (
-      ← c .before .before .before .before .before .before .before .before .before .before .before .before .before .before .before .before .before .before .before .before .before .before .before .before .before .before .point .ensures,
-      ← c .before .before .before .before .before .before .before .before .before .before .before .before .before .before .before .before .before .before .before .before .before .before .before .before .before .sub .ensures,
-      ← c .before .before .before .before .before .before .before .before .before .before .before .before .before .before .before .before .before .before .before .before .before .before .before .before .point2 .ensures,
-      ← c .before .before .before .before .before .before .before .before .before .before .before .before .before .before .before .before .before .before .before .before .before .before .before .sub2 .ensures,
-      via answer (c .before .before .before .before .before .before .before .before .before .before .before .before .before .before .before .before .before .before .before .before .before .before .power-of .ensures) (c .before .before .before .before .before .before .before .before .before .before .before .before .before .before .before .before .before .before .before .before .p .given .1),
-      via answer (c .before .before .before .before .before .before .before .before .before .before .before .before .before .before .before .before .before .before .power-of2 .ensures) (c .before .before .before .before .before .before .before .before .before .before .before .before .before .before .before .before .p3 .given .1),
-      via answer (c .before .before .before .before .before .before .before .before .before .before .before .before .before .before .power-of3 .ensures) (c .before .before .before .before .before .before .before .before .before .before .before .before .p4 .given .1),
-      a1sB-is (duals enclosures) (plainD enclosures),
-      ← c .before .before .before .before .before .before .before .before .before .before .lambda-of .ensures,
-      ← c .before .before .before .before .before .before .before .before .before .i-dual .ensures,
-      ← c .before .before .before .before .before .before .before .before .j-dual .ensures,
-      ← c .before .before .before .before .before .before .before .b-dual .ensures,
-      ← c .before .before .before .before .before .before .a1s-ij-dual .ensures,
-    )
-    (ap (λ x. held x) (plain-times-sum _ _ _ (c .before .before .before .before .before .add .ensures) (c .before .before .before .before .add2 .ensures) (c .before .before .before .mul .ensures) (c .before .before .mul2 .ensures) (c .before .zero-times .ensures) (c .add3 .ensures)))
+unfolding a1sB a1sBBy bOf _>>=_ decimal ofBits
+returns-4 c = rw (← (c .before .before .before .before .before .before .before .before .before .before .before .before .before .before .before .before .before .before .before .before .before .before .before .before .before .before .point) .ensures, ← (c .before .before .before .before .before .before .before .before .before .before .before .before .before .before .before .before .before .before .before .before .before .before .before .before .before .sub) .ensures, ← (c .before .before .before .before .before .before .before .before .before .before .before .before .before .before .before .before .before .before .before .before .before .before .before .before .point2) .ensures, ← (c .before .before .before .before .before .before .before .before .before .before .before .before .before .before .before .before .before .before .before .before .before .before .before .sub2) .ensures, via answer ((c .before .before .before .before .before .before .before .before .before .before .before .before .before .before .before .before .before .before .before .before .before .before .power-of) .ensures) ((c .before .before .before .before .before .before .before .before .before .before .before .before .before .before .before .before .before .before .before .before .p) .given .1), via answer ((c .before .before .before .before .before .before .before .before .before .before .before .before .before .before .before .before .before .before .power-of2) .ensures) ((c .before .before .before .before .before .before .before .before .before .before .before .before .before .before .before .before .p3) .given .1), via answer ((c .before .before .before .before .before .before .before .before .before .before .before .before .before .before .power-of3) .ensures) ((c .before .before .before .before .before .before .before .before .before .before .before .before .p4) .given .1), a1sB-is (duals enclosures) (plainD enclosures), ← (c .before .before .before .before .before .before .before .before .before .before .lambda-of) .ensures, ← (c .before .before .before .before .before .before .before .before .before .times-i) .ensures, ← (c .before .before .before .before .before .before .before .before .times-j) .ensures, ← (c .before .before .before .before .before .before .before .b-dual) .ensures, ← (c .before .before .before .before .before .before .a1s-ij-dual) .ensures) (ap (λ x. held x) (plain-times-sum _ _ _ ((c .before .before .before .before .before .add) .ensures) ((c .before .before .before .before .add2) .ensures) ((c .before .before .before .mul) .ensures) ((c .before .before .mul2) .ensures) ((c .before .zero-times) .ensures) ((c .add3) .ensures)))
 
 pub a1s-b-ij-dual-spec : {M : Type 1} → statement M
 a1s-b-ij-dual-spec =
@@ -164,8 +124,8 @@ a1s-b-ij-dual-spec =
     enum-told-3
     returns-3
     lambda-of-requires
-    i-dual-requires
-    j-dual-requires
+    times-i-requires
+    times-j-requires
     b-dual-requires
     a1s-ij-dual-requires
     add-requires
