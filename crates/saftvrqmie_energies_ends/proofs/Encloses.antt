@@ -14,7 +14,6 @@ use Rattle.enclosure.specs.declared.Enclosure.{Enclosure}
 use Rattle.enclosure.specs.declared.Ends.{Ends}
 use Rattle.enclosure.specs.Enclosure.{enclosures}
 use Rattle.enclosure.specs.Exact.{Exact, exacts}
-use Rattle.enclosure.specs.Ends.{Encloses}
 use Rattle.enclosure.proofs.Relations.{Value, Contains, contains}
 use Rattle.enclosure.proofs.TwoEnds.{held-encloses}
 use Rattle.saftvrqmie_parameters.specs.declared.SaftVRQMiePars.{SaftVRQMiePars}

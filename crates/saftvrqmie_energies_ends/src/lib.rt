@@ -550,6 +550,7 @@ fn alpha_row(
     }
 }
 
+// The first row apart: of two callers alpha_row is not inlined, which would take the sheet apart entry by entry.
 fn alphas_of(
     n: usize,
     sheets: &[f64; 384],
@@ -561,8 +562,19 @@ fn alphas_of(
     ensures { λ r. ⌜ heldOr6 (r .inside) (r .values) ≡ alphas enclosures (calls enclosures port) (sheetsOf enclosures n (now (sheets .entry)) orders t (now (table .entry))) ⌝ }
 {
     let zero = enclosure::point(0.0);
-    let mut alphas = [zero; 64];
-    for i in 0usize..n {
+    let blank = [zero; 64];
+    if n == 0 {
+        return AlphaSheet {
+            inside: true,
+            values: blank,
+        };
+    }
+    let first = alpha_row(n, sheets, orders, t, table, 0, blank);
+    if !first.inside {
+        return first;
+    }
+    let mut alphas = first.values;
+    for i in 1usize..n {
         let next = alpha_row(n, sheets, orders, t, table, i, alphas);
         if !next.inside {
             return next;

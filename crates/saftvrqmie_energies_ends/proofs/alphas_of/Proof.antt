@@ -30,29 +30,40 @@ abbrev μ-loop : tie.MeasureT-loop
 point-requires : tie.Need-point-requires Inv-loop μ-loop
 point-requires c κs = search needs
 
-loop-holds : tie.Need-loop-holds Inv-loop μ-loop
-unfolding decimal ofBits
-loop-holds c = (search needs, rw ((c .point) .ensures) (walk-none _ _))
+returns : tie.Need-returns Inv-loop μ-loop
+unfolding alphas heldOr6 decimal ofBits
+returns c = walk-end _ _ _ 0 _ (omega arith) (omega (arith, (c .if1) .taken)) (rw ((c .before .point) .ensures) (walk-none _ _))
 
 alpha-row-requires : tie.Need-alpha-row-requires Inv-loop μ-loop
 alpha-row-requires c κs = search needs
 
-returns : tie.Need-returns Inv-loop μ-loop
+returns-2 : tie.Need-returns-2 Inv-loop μ-loop
+unfolding alphas decimal ofBits
+returns-2 c = left-refused _ _ _ (not-true _ ((c .if2) .taken)) (walk-stop _ _ _ 0 _ _ (omega (arith, (c .before .before .before .if1) .left)) (rw ((c .before .before .before .before .point) .ensures) (walk-none _ _)) (was-refused _ _ _ ((c .before .before .alpha-row) .ensures) (not-true _ ((c .if2) .taken))))
+
+loop-holds : tie.Need-loop-holds Inv-loop μ-loop
+unfolding decimal ofBits
+loop-holds c = ((omega (arith, (c .before .before .before .before .if1) .left)), walk-next _ _ 0 _ _ (rw ((c .before .before .before .before .before .point) .ensures) (walk-none _ _)) (was-held _ _ _ ((c .before .before .before .alpha-row) .ensures) (not-false _ ((c .before .if2) .left))))
+
+alpha-row-requires-2 : tie.Need-alpha-row-requires-2 Inv-loop μ-loop
+alpha-row-requires-2 c κs = search needs
+
+returns-3 : tie.Need-returns-3 Inv-loop μ-loop
 unfolding alphas
-returns c = left-refused _ _ _ (not-true _ ((c .if1) .taken)) (walk-stop _ _ _ _ _ _ ((c .before .before .before .loop-test) .taken) ((c .before .before .before .before .loop) .inv .1) (was-refused _ _ _ ((c .before .before .alpha-row) .ensures) (not-true _ ((c .if1) .taken))))
+returns-3 c = left-refused _ _ _ (not-true _ ((c .if3) .taken)) (walk-stop _ _ _ _ _ _ ((c .before .before .before .loop-test) .taken) ((c .before .before .before .before .loop) .inv .1) (was-refused _ _ _ ((c .before .before .alpha-row2) .ensures) (not-true _ ((c .if3) .taken))))
 
 add-i : tie.Need-add-i Inv-loop μ-loop
-add-i c = omega (arith, (c .before .before .before .before .loop-test) .taken, (c .before .before .before .before .before .before .before .before .pre) .0)
+add-i c = omega (arith, (c .before .before .before .before .loop-test) .taken, (c .before .before .before .before .before .before .before .before .before .before .before .before .before .pre) .0)
 
 loop-less : tie.Need-loop-less Inv-loop μ-loop
 loop-less c = omega (arith, (c .before .before .before .before .loop-test) .taken)
 
 loop-again : tie.Need-loop-again Inv-loop μ-loop
-loop-again c = (omega (arith, (c .before .before .before .before .loop-test) .taken), walk-next _ _ _ _ _ ((c .before .before .before .before .before .loop) .inv .1) (was-held _ _ _ ((c .before .before .before .alpha-row) .ensures) (not-false _ ((c .before .if1) .left))))
+loop-again c = (omega (arith, (c .before .before .before .before .loop-test) .taken), walk-next _ _ _ _ _ ((c .before .before .before .before .before .loop) .inv .1) (was-held _ _ _ ((c .before .before .before .alpha-row2) .ensures) (not-false _ ((c .before .if3) .left))))
 
-returns-2 : tie.Need-returns-2 Inv-loop μ-loop
+returns-4 : tie.Need-returns-4 Inv-loop μ-loop
 unfolding alphas heldOr6
-returns-2 c = walk-end _ _ _ _ _ ((c .before .loop) .inv .0) ((c .loop-test) .left) ((c .before .loop) .inv .1)
+returns-4 c = walk-end _ _ _ _ _ ((c .before .loop) .inv .0) ((c .loop-test) .left) ((c .before .loop) .inv .1)
 
 pub alphas-of-spec : {M : Type 1} → statement M
 alphas-of-spec =
@@ -61,10 +72,13 @@ alphas-of-spec =
     Inv-loop
     μ-loop
     point-requires
-    loop-holds
-    alpha-row-requires
     returns
+    alpha-row-requires
+    returns-2
+    loop-holds
+    alpha-row-requires-2
+    returns-3
     add-i
     loop-less
     loop-again
-    returns-2)
+    returns-4)
