@@ -8,8 +8,7 @@ use Rattle.number.specs.Ans.{Ans, held, refused, _>>=_, demand}
 use Rattle.number.proofs.Rel.{Both, both-held, both-refused}
 use Rattle.number.proofs.Walk.{then-held, held-inj}
 use Rattle.enclosure.specs.declared.Enclosure.{Enclosure}
-use Rattle.enclosure.specs.declared.Ends.{Ends}
-use Rattle.enclosure.specs.Ends.{endsIn, endsOf, orNotFinite, orUnsound}
+use Rattle.enclosure.specs.Ends.{endsIn, endsOf, orUnsound}
 use Rattle.demand_three.specs.TwoEnded.{TwoEnded}
 
 -- two tests, the float run, and 7 at its end
@@ -65,15 +64,7 @@ module _ {F B X E : Type 0} (sound : B → Bool) (ends-in : B → E) (Enclosed :
           encloses = inside;
         }
 
--- the form with `endsOf`: a result that was found finite is tested no second time
-twice : (v : Float) (k : Ans Ends) → ((demand 7 (finite v) >>= λ _. held v) >>= orNotFinite >>= λ _. k) ≡ ((demand 7 (finite v) >>= λ _. held v) >>= λ _. k)
-unfolding demand orNotFinite _>>=_
-twice v k = go (finite v) refl
-  where
-    go : (b : Bool) → finite v ≡ b → ((demand 7 (finite v) >>= λ _. held v) >>= orNotFinite >>= λ _. k) ≡ ((demand 7 (finite v) >>= λ _. held v) >>= λ _. k)
-    go true e = rw (e, e)
-    go false e = rw e
-
+-- the form with `endsOf`
 unsound : (run : Ans Enclosure) → (run >>= orUnsound) ≡ (run >>= λ b. demand 8 (b .ends .sound) >>= λ _. held (endsIn b))
 unfolding _>>=_ orUnsound demand
 unsound (held b) = go (b .ends .sound) refl
@@ -84,8 +75,5 @@ unsound (held b) = go (b .ends .sound) refl
 unsound (refused n) = refl
 
 pub answered-is : (p q : Bool) (a : Ans Float) (run : Ans Enclosure) → endsOf (tested p q finite a) run ≡ (tested p q finite a >>= λ _. run >>= λ b. demand 8 (b .ends .sound) >>= λ _. held (endsIn b))
-unfolding endsOf demand _>>=_
-answered-is true true (held v) run = twice v (run >>= orUnsound) ∙ rw (unsound run)
-answered-is true true (refused n) run = refl
-answered-is true false a run = refl
-answered-is false q a run = refl
+unfolding endsOf
+answered-is p q a run = rw (unsound run)

@@ -11,9 +11,9 @@ use Rattle.number.specs.Functions.{Answers, calls}
 use Rattle.enclosure.specs.Enclosure.{enclosures}
 use Rattle.enclosure.specs.Exact.{exacts}
 use Rattle.enclosure.specs.Ends.{endsIn, Encloses}
-use Rattle.limits.specs.Limits.{indexWithin, temperatureWithin}
+use Rattle.limits.specs.Limits.{indexWithin, temperatureWithin, stateWithin}
 use Rattle.saftvrqmie_parameters.specs.declared.SaftVRQMiePars.{SaftVRQMiePars}
-use Rattle.saftvrqmie_energies.specs.Energies.{rightLengths, withinLimits, allFinite, contributionsOf, energiesBy}
+use Rattle.saftvrqmie_energies.specs.Energies.{rightLengths, allFinite, contributionsOf, energiesBy}
 use Rattle.saftvrqmie_energies_ends.specs.Operation.{allSound, eachEnds, energiesEnds}
 use Rattle.saftvrqmie_energies_ends.specs.Encloses.{EachEncloses}
 use Rattle.saftvrqmie_energies_ends.proofs.Ways.{worked-values}
@@ -37,7 +37,7 @@ module _ (E : Answers) (s : SaftVRQMiePars) (t : Float) (x rho table : List Floa
   unfolding energiesEnds energiesBy
   quantum-energies =
       let p = rightLengths (s .count) x rho table in
-      let q = withinLimits (s .count) t x rho in
+      let q = stateWithin (s .count) t x rho in
       let a = contributionsOf floats (calls floats E) s t x rho table wanted in
       let run = contributionsOf enclosures (calls enclosures E) s t x rho table wanted in
       let exact = contributionsOf exacts (calls exacts E) s t x rho table wanted in
@@ -59,7 +59,7 @@ module _ (E : Answers) (s : SaftVRMiePars) (t : Float) (x rho d : List Float) (c
   unfolding dispersionEnds MieEnergies.energyBy
   mie-dispersion =
       let p = MieEnergies.rightLists (s .count) (length x) (length rho) (length d) in
-      let q = MieEnergies.withinLimits (s .count) t x rho in
+      let q = stateWithin (s .count) t x rho in
       let a = MieEnergies.energyRun floats (calls floats E) s t x rho d chain in
       let run = MieEnergies.energyRun enclosures (calls enclosures E) s t x rho d chain in
       two-ended isSound endsIn Encloses p q finite a run (MieEnergies.energyRun exacts (calls exacts E) s t x rho d chain) (dispersionEnds E s t x rho d chain) (answered-is p q a run) (DispersionEncloses.run-values E s t x rho d chain) (DispersionEncloses.dispersion-encloses E s t x rho d chain)

@@ -6,15 +6,15 @@ use lib.ListN.{length, set}
 use borrow.Author.Tests.{eqb-true}
 use Rattle.mie_parameters.proofs.Laws.{and-left, and-right}
 use mathlib.Core.List.{List}
-use mathlib.Core.Path.{_≡_, refl, ap, _∙_, fun-ext}
+use mathlib.Core.Path.{_≡_, sym, ap, _∙_, fun-ext}
 use native.Mathlib.Nat.{zero-add}
 use mathlib.Core.Bool.{Bool, true, false}
 use Rattle.number.specs.Ans.{Ans, held, refused, _>>=_, demand}
 use Rattle.number.specs.Lists.{at}
-use Rattle.number.specs.Walk.{turns}
+use Rattle.number.specs.Walk.{turns, filled}
 use Rattle.number.specs.Side.{side, sheet}
 use Rattle.mie_parameters.specs.declared.ParameterAnswer.{ParameterAnswer}
-use Rattle.mie_parameters.specs.Answer.{numberOf, verdict, kept}
+use Rattle.mie_parameters.specs.Answer.{numberOf, verdict, stored, status}
 use Rattle.saftvrqmie_parameters.specs.Parameters as Quantum
 use Rattle.saftvrqmie_parameters.specs.declared.OrderRecord.{OrderRecord}
 use Rattle.saftvrqmie_parameters.specs.declared.SaftVRQMiePars.{SaftVRQMiePars}
@@ -28,34 +28,24 @@ use Rattle.enclosure.specs.declared.Ends.{Ends}
 use Rattle.saftvrqmie_energies_ends.specs.Operation.{energiesEnds}
 use Rattle.saftvrqmie_diameter_ends.specs.Operations.{diameterEnds}
 use Rattle.stages.specs.Stages.{quantumStage}
-use Rattle.saftvrmie.specs.Diameters.{written, diameters}
+use Rattle.saftvrmie.specs.Diameters.{diameters}
 use Rattle.saftvrmie.specs.Pairs.{radiusIj}
 use Rattle.saftvrmie_energies.specs.Energies.{energy}
 use Rattle.saftvrmie_energies_ends.specs.Operation.{dispersionEnds}
 use Rattle.saftvrmie_diameter_ends.specs.Operations as MieDiameter
-use Rattle.domthelv.specs.Boundary.{status, stored}
 use Rattle.domthelv.specs.Sets.{copied, taken, quantumLengths, quantumSet, mieLengths, mieSet}
 use Rattle.domthelv.specs.Operations.{QuantumLent, MieLent, setWritten, vrqParameters, vrqTable, radiiLengths, radiiWritten, vrqRadii, energiesWritten, vrqEnergies, endsWritten, vrqEnergiesEnds, pairWritten, vrqDiameterEnds, vrqStage, mieWritten, vrParameters, vrDiameters, vrRadius, vrDispersion, vrDispersionEnds, vrDiameterEnds}
 
--- an operation that gives a parameter answer and leaves its lists by `kept`
-verdict-status : {S : Type 0} (p : Ans S) → numberOf (verdict p) ≡ status p
-unfolding status verdict
-verdict-status (held x) = refl
-verdict-status (refused n) = refl
-
+-- an operation that gives a parameter answer and leaves its lists by `stored`
 pub through-status : {S : Type 0} (q p : Ans S) (a : ParameterAnswer) (r : ℕ) → q ≡ p → a ≡ verdict p → r ≡ numberOf a → r ≡ status q
-through-status q p a r e f g = rw e (g ∙ ap numberOf f ∙ verdict-status p)
+unfolding status
+through-status q p a r e f g = rw e (g ∙ ap numberOf f)
 
-kept-stored : {S : Type 0} (l : S) (p : Ans S) → kept l p ≡ stored l p
-unfolding stored kept
-kept-stored l (held x) = refl
-kept-stored l (refused n) = refl
-
-pub through-stored : {S : Type 0} (l : S) (q p : Ans S) → q ≡ p → kept l p ≡ stored l q
-through-stored l q p e = rw e (kept-stored l p)
+pub through-stored : {S : Type 0} (l : S) (q p : Ans S) → q ≡ p → stored l p ≡ stored l q
+through-stored l q p e = ap (stored l) (sym e)
 
 pub refused-status : {S : Type 0} (q : Ans S) (n r : ℕ) → r ≡ n → q ≡ refused n → r ≡ status q
-unfolding status
+unfolding status verdict
 refused-status q n r e p = rw p e
 
 pub refused-stored : {S : Type 0} (l : S) (q : Ans S) (n : ℕ) → q ≡ refused n → l ≡ stored l q
@@ -63,7 +53,7 @@ unfolding stored
 refused-stored l q n p = rw p
 
 pub held-status : {S : Type 0} (q : Ans S) (x : S) → q ≡ held x → 0 ≡ status q
-unfolding status
+unfolding status verdict
 held-status q x p = rw p
 
 pub held-stored : {S : Type 0} (l x : S) (q : Ans S) → q ≡ held x → x ≡ stored l q
@@ -206,8 +196,8 @@ module _ (x : Mie.Lists) (l : MieLent) where
   mie-parameters-held s p q = rw (p, q)
 
 -- what is copied from the first place on is what the operation writes
-pub copied-written : (n : ℕ) (d l : List Float) → copied n d 0 l ≡ written n d l
-unfolding copied written
+pub copied-written : (n : ℕ) (d l : List Float) → copied n d 0 l ≡ filled n (at d) l
+unfolding copied
 copied-written n d l = ap (λ (f : ℕ → List Float → List Float). turns n f l) (fun-ext (λ i. fun-ext (λ s. ap (λ (k : ℕ). set s i (at d k)) (zero-add i))))
 
 module _ (n : ℕ) (lists sheets : List Float) where

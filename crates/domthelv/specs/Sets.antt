@@ -9,7 +9,7 @@ use Rattle.number.specs.Ans.{Ans, held, _>>=_, demand}
 use Rattle.number.specs.Arith.{zero64}
 use Rattle.number.specs.Lists.{at}
 use Rattle.number.specs.Side.{side, sheet}
-use Rattle.number.specs.Walk.{turns, every}
+use Rattle.number.specs.Walk.{turns, filled, every}
 use Rattle.saftvrqmie_parameters.specs.Parameters.{orderOf, unused}
 use Rattle.saftvrqmie_parameters.specs.declared.OrderRecord.{OrderRecord}
 use Rattle.saftvrqmie_parameters.specs.declared.SaftVRQMiePars.{SaftVRQMiePars}
@@ -18,7 +18,7 @@ use Rattle.saftvrmie_parameters.specs.declared.SaftVRMiePars.{SaftVRMiePars}
 
 -- n numbers of d from `from` on, in the first places of l
 unfoldable pub copied : ℕ → List Float → ℕ → List Float → List Float
-copied n d from l = turns n (λ i s. set s i (at d (from + i))) l
+copied n d from l = filled n (λ i. at d (from + i)) l
 
 -- the same in an array of its own
 abbrev pub taken : ℕ → List Float → ℕ → List Float
@@ -34,10 +34,10 @@ ordersWithin l = every sheet (λ e. leb (getD l e 0) 2)
 
 -- orders from bytes, and bytes from orders
 unfoldable pub ordersRead : List ℕ → List OrderRecord
-ordersRead l = turns sheet (λ e s. set s e (record { order = orderOf (getD l e 0) })) (replicate sheet unused)
+ordersRead l = filled sheet (λ e. record { order = orderOf (getD l e 0) }) (replicate sheet unused)
 
 unfoldable pub ordersWritten : List OrderRecord → List ℕ → List ℕ
-ordersWritten o l = turns sheet (λ e s. set s e (orderNumber (getD o e unused .order))) l
+ordersWritten o l = filled sheet (λ e. orderNumber (getD o e unused .order)) l
 
 -- a quantum set: its count, m (8), sheets (384) and orders (64 bytes, 0 to 2)
 unfoldable pub quantumLengths : List Float → List Float → List ℕ → Bool

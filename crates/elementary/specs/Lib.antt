@@ -1,1 +1,2 @@
 pub mod Port
+pub mod Promised

@@ -58,21 +58,19 @@ module _ (e : Ends) where
 
   -- whatever the formula and whatever the elementary functions answer
   pub ends-enclose : {float : Ans Float} {enclosure : Ans Enclosure} {exact : Ans Exact} → Both Value enclosure float → Both Contains enclosure exact → endsOf float enclosure ≡ held e → Encloses e float exact
-  unfolding endsOf _>>=_ orNotFinite
-  ends-enclose (both-held {x = b} {y = v} p) (both-held {y = x} c) h = go (finite v) h
-    where
-      go : (t : Bool) → (cond t (held v) (refused 7) >>= λ v. orUnsound b) ≡ held e → Encloses e (held v) (held x)
-      go true h = let u = sound-held b h in subst (λ (z : Ends). Encloses z (held v) (held x)) (u .1) (sound-encloses b v x p c (u .0))
-      go false h = absurd (no-refusal h)
+  unfolding endsOf _>>=_
+  ends-enclose (both-held {x = b} {y = v} p) (both-held {y = x} c) h =
+      let u = sound-held b h in
+      subst (λ (z : Ends). Encloses z (held v) (held x)) (u .1) (sound-encloses b v x p c (u .0))
   ends-enclose both-refused c h = absurd (no-refusal h)
 
 -- ---- what the code asks: the two-ended run alone gives the float operation's refusals too
-float-is : {float : Ans Float} {enclosure : Ans Enclosure} → Both Value enclosure float → float ≡ (enclosure >>= λ b. held (b .value))
+float-is : {float : Ans Float} {enclosure : Ans Enclosure} → Both Value enclosure float → (float >>= orNotFinite) ≡ (enclosure >>= λ b. orNotFinite (b .value))
 unfolding _>>=_
-float-is (both-held p) = ap held (sym p)
+float-is (both-held p) = ap orNotFinite (sym p)
 float-is both-refused = refl
 
-pub alone-is : {float : Ans Float} {enclosure : Ans Enclosure} → Both Value enclosure float → endsAlone enclosure ≡ endsOf float enclosure
+pub alone-is : {float : Ans Float} {enclosure : Ans Enclosure} → Both Value enclosure float → endsAlone enclosure ≡ endsOf (float >>= orNotFinite) enclosure
 unfolding endsAlone
 alone-is K = rw (float-is K)
 
@@ -97,19 +95,14 @@ module _ (b : Enclosure) where
 abbrev pub found : Ans Float → Ans Float
 found a = a >>= λ d. demand 7 (finite d) >>= λ _. held d
 
--- a result that was found finite is tested no second time
-twice : (d : Float) (k : Float → Ans Ends) → ((demand 7 (finite d) >>= λ _. held d) >>= orNotFinite >>= k) ≡ (orNotFinite d >>= k)
+found-is : (a : Ans Float) → found a ≡ (a >>= orNotFinite)
 unfolding demand orNotFinite _>>=_
-twice d k = go (finite d) refl
+found-is (held d) = go (finite d)
   where
-    go : (b : Bool) → finite d ≡ b → ((demand 7 (finite d) >>= λ _. held d) >>= orNotFinite >>= k) ≡ (orNotFinite d >>= k)
-    go true p = rw (p, p)
-    go false p = rw p
-
-pub tested : (a : Ans Float) (b : Ans Enclosure) → endsOf (found a) b ≡ endsOf a b
-unfolding endsOf _>>=_
-tested (held d) b = twice d _
-tested (refused n) b = refl
+    go : (b : Bool) → (cond b (held true) (refused 7) >>= λ _. held d) ≡ cond b (held d) (refused 7)
+    go true = refl
+    go false = refl
+found-is (refused n) = refl
 
 -- where ends are reported, the test left the result as it is
 pub untouched : (a : Ans Float) (b : Ans Enclosure) (e : Ends) → endsOf (found a) b ≡ held e → a ≡ found a
@@ -120,6 +113,11 @@ untouched (held d) b e h = go (finite d) refl
     go true p = rw p
     go false p = let z : refused 7 ≡ endsOf (demand 7 (finite d) >>= λ _. held d) b = rw p in absurd (no-refusal (z ∙ h))
 untouched (refused n) b e h = refl
+
+pub tested-encloses : {float : Ans Float} {enclosure : Ans Enclosure} {exact : Ans Exact} → Both Value enclosure float → Both Contains enclosure exact → (e : Ends) → endsOf (float >>= orNotFinite) enclosure ≡ held e → Encloses e float exact
+tested-encloses {float = float} {enclosure = enclosure} K C e h =
+    let g = ap (λ (a : Ans Float). endsOf a enclosure) (found-is float) ∙ h in
+    ends-enclose e K C (ap (λ (a : Ans Float). endsOf a enclosure) (untouched float enclosure e g) ∙ g)
 
 -- ---- an operation of one result: indexes or lengths (1), limits (2), then its run
 abbrev pub operation : Bool → Bool → Ans Float → Ans Float
@@ -137,7 +135,7 @@ module _ {float : Ans Float} {enclosure : Ans Enclosure} (K : Both Value enclosu
   -- the two-ended run alone gives the float operation's 6 and 7 too: what the code works
   pub operation-alone : x ≡ true → y ≡ true → endsAlone enclosure ≡ endsOf (operation x y float) enclosure
   unfolding demand _>>=_
-  operation-alone p q = rw (p, q) (alone-is K ∙ sym (tested float enclosure))
+  operation-alone p q = rw (p, q) (alone-is K ∙ ap (λ (a : Ans Float). endsOf a enclosure) (sym (found-is float)))
 
   -- where ends are reported both demands were met, and the float operation reports what its run gives
   pub operation-encloses : {exact : Ans Exact} → Both Contains enclosure exact → (e : Ends) → endsOf (operation x y float) enclosure ≡ held e → Encloses e (operation x y float) exact
@@ -148,6 +146,7 @@ module _ {float : Ans Float} {enclosure : Ans Enclosure} (K : Both Value enclosu
       go true true p q =
           let w : operation x y float ≡ found float = rw (p, q) in
           let g : endsOf (found float) enclosure ≡ held e = ap (λ (a : Ans Float). endsOf a enclosure) (sym w) ∙ h in
-          subst (λ (a : Ans Float). Encloses e a exact) (untouched float enclosure e g ∙ sym w) (ends-enclose e K C (sym (tested float enclosure) ∙ g))
+          let u = untouched float enclosure e g in
+          subst (λ (a : Ans Float). Encloses e a exact) (u ∙ sym w) (ends-enclose e K C (ap (λ (a : Ans Float). endsOf a enclosure) u ∙ g))
       go true false p q = absurd (no-refusal (operation-2 p q ∙ h))
       go false b p q = absurd (no-refusal (operation-1 p ∙ h))

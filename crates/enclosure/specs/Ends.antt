@@ -23,13 +23,13 @@ endsIn b = record { lower = b .ends .lower; upper = b .ends .upper }
 unfoldable pub orUnsound : Enclosure → Ans Ends
 orUnsound b = cond (b .ends .sound) (held (endsIn b)) (refused 8)
 
--- the float operation's refusals, then 8, then the ends
+-- the float operation's refusals, 7 among them, then 8, then the ends
 unfoldable pub endsOf : Ans Float → Ans Enclosure → Ans Ends
-endsOf float enclosure = float >>= orNotFinite >>= λ v. enclosure >>= orUnsound
+endsOf float enclosure = float >>= λ _. enclosure >>= orUnsound
 
--- the same where the float operation is the enclosures' own value
+-- the same where the float operation is the enclosures' own value, 7 if that is not finite
 unfoldable pub endsAlone : Ans Enclosure → Ans Ends
-endsAlone enclosure = endsOf (enclosure >>= λ b. held (b .value)) enclosure
+endsAlone enclosure = endsOf (enclosure >>= λ b. orNotFinite (b .value)) enclosure
 
 -- ---- demand 3
 -- lower ≤ q ≤ upper, compared as fractions

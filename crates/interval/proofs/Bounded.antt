@@ -14,6 +14,7 @@ use Rattle.number.specs.Frac.{Frac, frac, Pos, leF, ltF, zeroF, negF, addF, mul
 use Rattle.number.specs.Neighbour.{stepUp, stepDown, nextUp, nextDown, least, greatest}
 use Rattle.number.proofs.Frac.{valF-pos, le-transF, lt-leF, le-lt-transF, lt-le-transF, mulF-pos, addF-pos, negF-pos, add-monoF, neg-antiF}
 use Rattle.number.proofs.Hull.{mul-lower, mul-upper, inv-above, inv-anti-above, invF-pos-above}
+use Rattle.number.proofs.Order.{lt-from}
 use Rattle.number.proofs.Bits.{plain}
 use Rattle.number.proofs.Round.{Rounds, rounds-above, rounds-below, rounds-fits}
 use Rattle.number.proofs.Finite.{rounds-finite}
@@ -23,7 +24,7 @@ use Rattle.number.proofs.Neighbour.{up-below, up-zero, up-onto-zero, up-above, 
 use Rattle.interval.specs.declared.Interval.{Interval}
 use Rattle.interval.specs.Interval.{outward, around, oneSign, addI, subI, mulI, divI, negI}
 use Rattle.interval.proofs.Encloses.{sign-nonzero}
-use Rattle.interval.proofs.Near.{lt-from, pick-least, pick-greatest}
+use Rattle.interval.proofs.Near.{pick-least, pick-greatest}
 
 -- ---- the neighbour of what is below, or above, a finite f64 is finite
 inf-bits : (s : Bool) → toBits binary64 (inf s) ≡ cond s 0x8000_0000_0000_0000 0 + 0x7ff0_0000_0000_0000

@@ -13,12 +13,12 @@ use Rattle.number.specs.Arith.{zero64, one64}
 use Rattle.number.specs.Power.{digits, powDigits, powUp}
 use Rattle.number.specs.Neighbour.{nextUp, nextDown, least, greatest}
 use Rattle.number.specs.Inside.{leastNormal, largest, InsideAbove, InsideBelow}
-use Rattle.number.proofs.Frac.{valF-pos, le-reflF, le-transF, lt-le-transF, lt-leF, lt-irreflF, addF-pos, mulF-pos, negF-pos, add-monoF, neg-antiF, keeps-of, turns-of}
+use Rattle.number.proofs.Frac.{valF-pos, le-reflF, le-transF, lt-le-transF, lt-leF, addF-pos, mulF-pos, negF-pos, add-monoF, neg-antiF, keeps-of, turns-of}
 use Rattle.number.proofs.Hull.{mul-commF, inv-above, inv-anti-above, invF-pos-above}
 use Rattle.number.proofs.Round.{Rounds, rounds-mono, rounds-fits}
 use Rattle.number.proofs.Extended.{stays-under, stays-over}
 use Rattle.number.proofs.Ops.{NonZero, add-rounds, sub-rounds, mul-rounds, div-rounds}
-use Rattle.number.proofs.Order.{lt-yes, lt-no, least-is, greatest-is, over, under, both}
+use Rattle.number.proofs.Order.{lt-yes, lt-no, lt-from, least-is, greatest-is, over, under, both}
 use Rattle.number.proofs.Inside.{nextDown-same, nextUp-same, down-one, up-one, down-one-finite, up-one-finite, down-one-more, up-one-less, down-one-more-finite, up-one-less-finite, both-above, both-below}
 use Rattle.interval.specs.declared.Interval.{Interval}
 use Rattle.interval.specs.Interval.{point, outward, around, mulI, powI}
@@ -450,13 +450,6 @@ under-by (inf false) (fin false n d) h t = absurd t
 under-by (inf false) (fin true n d) h t = absurd (h .above)
 under-by (inf true) p h t = tt
 under-by (fin s m e) p h t = tt
-
-pub lt-from : (x y : Float) → T (finite x) → T (finite y) → ltF (valF x) (valF y) → T (lt x y)
-lt-from x y p q h = go (lt x y) (lt-no x y p q)
-  where
-    go : (b : Bool) → (T (not b) → leF (valF y) (valF x)) → T b
-    go true k = tt
-    go false k = absurd (lt-irreflF (valF y) (valF x) (k tt) h)
 
 -- ---- a positive operand, as the code's tests tell it
 module _ (pl pu : Float) (z : T (lt zero64 pl)) (o : T (not (lt pu pl))) (t : T (lt pu largest)) where

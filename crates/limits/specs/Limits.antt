@@ -60,6 +60,10 @@ sharesWithin n x = allWithin (decimal false 0 0) (decimal false 1 0) n x
 unfoldable pub temperatureWithin : Float → Bool
 temperatureWithin t = within (decimal false 1 0) (decimal false 2000 0) t
 
+-- what energies take beside a set: the temperature, mole fractions and densities
+unfoldable pub stateWithin : ℕ → Float → List Float → List Float → Bool
+stateWithin n t x rho = temperatureWithin t && sharesWithin n (at x) && sharesWithin n (at rho)
+
 -- equal bits; a NaN has none that could be told
 unfoldable pub sameBits : Float → Float → Bool
 sameBits x y = not (isNan x) && not (isNan y) && eqb (toBits binary64 x) (toBits binary64 y)
@@ -74,5 +78,8 @@ unfoldable pub pairsWithin : ℕ → (ℕ → ℕ → Float) → Bool
 pairsWithin n k = every n (λ i. every n (λ j. pairWithin k i j))
 
 -- quantum: an m equal to 1.0, NaN never
+abbrev pub isOne : Float → Bool
+isOne m = eq m (decimal false 1 0)
+
 unfoldable pub allOne : ℕ → (ℕ → Float) → Bool
-allOne n m = every n (λ i. eq (m i) (decimal false 1 0))
+allOne n m = every n (λ i. isOne (m i))

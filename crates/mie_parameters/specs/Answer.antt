@@ -17,14 +17,18 @@ abbrev pub numberOf : ParameterAnswer → ℕ
 numberOf Held = 0
 numberOf (Refused n) = n
 
--- the answer of an operation, and what it was lent: a refused call has changed nothing
+-- the answer of an operation; as a number: 0 where the call is accepted
 unfoldable pub verdict : {S : Type 0} → Ans S → ParameterAnswer
 verdict (held x) = Held
 verdict (refused n) = Refused n
 
-unfoldable pub kept : {S : Type 0} → S → Ans S → S
-kept before (held x) = x
-kept before (refused n) = before
+unfoldable pub status : {S : Type 0} → Ans S → ℕ
+status a = numberOf (verdict a)
+
+-- what was lent, afterwards: a refused call has changed nothing
+unfoldable pub stored : {S : Type 0} → S → Ans S → S
+stored before (held x) = x
+stored before (refused n) = before
 
 abbrev pub numberAnswer : NumberAnswer → Ans Float
 numberAnswer (One.Value x) = held x

@@ -1,3 +1,5 @@
 pub mod Combine
 pub mod Answer
 pub mod Places
+pub mod Sums
+pub mod Tables

@@ -1,13 +1,11 @@
 -- A component list in the places of a set.
 use Prim.Native.Nat.{ℕ}
 use mathlib.Core.List.{List}
-use lib.Ieee.{Float}
-use lib.ListN.{set, replicate}
-use Rattle.number.specs.Arith.{zero64}
-use Rattle.number.specs.Lists.{at}
+use lib.ListN.{replicate}
+use Rattle.number.specs.Arith.{Arith, zero64}
 use Rattle.number.specs.Side.{side}
-use Rattle.number.specs.Walk.{turns}
+use Rattle.number.specs.Walk.{filled}
 
--- +0 where unused
-unfoldable pub inPlaces : ℕ → List Float → List Float
-inPlaces n l = turns n (λ i s. set s i (at l i)) (replicate side zero64)
+-- f 0 to f (n - 1), in any run; +0 where unused
+unfoldable pub inPlaces : (A : Arith) → ℕ → (ℕ → A .Num) → List (A .Num)
+inPlaces A n f = filled n f (replicate side (A .lit zero64))

@@ -6,6 +6,7 @@ ghost use Rattle.number.specs.Answer.{answer};
 ghost use Rattle.number.specs.Arith.{floats};
 ghost use Rattle.number.specs.Functions.{calls};
 ghost use Rattle.elementary.specs.Port.{port};
+ghost use Rattle.number.specs.Lists.{at};
 ghost use Rattle.number.specs.Side.{side};
 ghost use Rattle.mie_parameters.specs.Combine.{epsilonKIj, lambdaIj, cIj};
 ghost use Rattle.mie_parameters.specs.Answer.{numberOf};
@@ -67,7 +68,7 @@ pub fn c_ij(lr: f64, la: f64) -> FloatAnswer
 // A list as long as the count, which is at most the places.
 pub fn in_places(n: usize, l: &[f64]) -> [f64; 8]
     requires { ⌜ (n ≤ side) × (length (now l) ≡ n) ⌝ }
-    ensures { λ r. ⌜ r ≡ inPlaces n (now (l .entry)) ⌝ }
+    ensures { λ r. ⌜ r ≡ inPlaces floats n (at (now (l .entry))) ⌝ }
 {
     let mut places = [0.0; 8];
     for i in 0usize..n {

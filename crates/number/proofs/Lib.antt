@@ -17,3 +17,4 @@ pub mod Signed
 pub mod Order
 pub mod Extended
 pub mod Inside
+pub mod Entries

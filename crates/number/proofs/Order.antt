@@ -7,7 +7,7 @@ use lib.Ieee.{Float, nan, inf, fin, binary64, up, down, fits, lt, isNan, below}
 use lib.Ieee.Scale.{finite}
 use Rattle.number.specs.Frac.{leF, ltF, sgn, valF}
 use Rattle.number.specs.Neighbour.{least, greatest}
-use Rattle.number.proofs.Frac.{le-reflF, lt-leF}
+use Rattle.number.proofs.Frac.{le-reflF, lt-leF, lt-irreflF}
 
 -- ---- the float order is the fractions', between finite values
 below-yes : (s t : Bool) (X d Y c : ℕ) → T (below s (X * c) t (Y * d)) → ltF (sgn s X d) (sgn t Y c)
@@ -37,6 +37,13 @@ lt-no (inf s) y p q h = absurd p
 lt-no (fin s m e) nan p q h = absurd q
 lt-no (fin s m e) (inf t) p q h = absurd q
 lt-no (fin s m e) (fin t n d) p q h = below-no s t (m * up e) (down e) (n * up d) (down d) h
+
+pub lt-from : (x y : Float) → T (finite x) → T (finite y) → ltF (valF x) (valF y) → T (lt x y)
+lt-from x y p q h = go (lt x y) (lt-no x y p q)
+  where
+    go : (b : Bool) → (T (not b) → leF (valF y) (valF x)) → T b
+    go true k = tt
+    go false k = absurd (lt-irreflF (valF y) (valF x) (k tt) h)
 
 -- ---- the least and the greatest of two
 pub record Least (x y r : Float) : Type 0 where

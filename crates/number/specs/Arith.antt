@@ -3,7 +3,7 @@ use lib.Ieee as Ieee
 use lib.Ieee.{Float, binary64}
 use lib.IntN.{ℤ, pos, negsuc}
 use Prim.Native.Nat.{ℕ, suc, _^_}
-use mathlib.Core.Bool.{Bool}
+use mathlib.Core.Bool.{Bool, false}
 use Rattle.number.specs.Power.{powUp}
 
 pub record Arith : Type 1 where
@@ -43,6 +43,14 @@ zero64 = bits 0
 
 abbrev pub one64 : Float
 one64 = bits 0x3ff0_0000_0000_0000
+
+-- f64::EPSILON, 2^-52
+abbrev pub epsilon64 : Float
+epsilon64 = bits 0x3cb0_0000_0000_0000
+
+-- a whole number of the source, as a point
+abbrev pub whole : (A : Arith) → ℕ → A .Num
+whole A n = A .lit (decimal false n 0)
 
 -- the float run: each operation rounded; an input or answer is itself; unused work does not count
 abbrev pub floats : Arith

@@ -1,6 +1,8 @@
 -- The elementary functions and the constants as the formulas see them. Each call of a run gets the float run's answer to that call.
 use Prim.Native.Nat.{ℕ}
-use mathlib.Core.Bool.{Bool}
+use mathlib.Core.Bool.{Bool, false}
+use mathlib.Core.List.{List}
+use lib.ListN.{getD}
 use lib.Ieee.{Float}
 use Rattle.number.specs.Ans.{Ans, held, _>>=_}
 use Rattle.number.specs.Arith.{Arith, bits, decimal}
@@ -30,6 +32,19 @@ pub record Functions (N : Type 0) : Type 0 where
   pub tau : N
   -- a decimal of a quadrature rule: sign, digits, places
   pub node : Bool → ℕ → ℕ → N
+
+-- such a decimal in a table: whether it is negative, its digits, and how many places they take
+pub record Decimal : Type 0 where
+  pub minus : Bool
+  pub digits : ℕ
+  pub places : ℕ
+
+abbrev pub dec : Bool → ℕ → ℕ → Decimal
+dec s d p = record { minus = s; digits = d; places = p }
+
+-- entry k of a table; beyond it is not read
+unfoldable pub entry : {N : Type 0} → Functions N → List Decimal → ℕ → N
+entry F table k = let e = getD table k (dec false 0 0) in F .node (e .minus) (e .digits) (e .places)
 
 module _ (A : Arith) where
   open Arith A using (Num, lit, val, after)

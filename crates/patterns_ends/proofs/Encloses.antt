@@ -13,7 +13,7 @@ use Rattle.enclosure.specs.Enclosure.{enclosures}
 use Rattle.enclosure.specs.Exact.{exacts}
 use Rattle.enclosure.specs.Ends.{Encloses, endsAlone}
 use Rattle.enclosure.proofs.Relations.{Value, values, value-point, contains, contains-point}
-use Rattle.enclosure.proofs.TwoEnds.{ends-enclose, alone-is}
+use Rattle.enclosure.proofs.TwoEnds.{tested-encloses, alone-is}
 use Rattle.patterns.proofs.Relation.{sample-rel}
 use Rattle.patterns_ends.specs.Operations.{sampleFloat, sampleEnclosure, sampleExact, sampleEnds}
 
@@ -23,8 +23,8 @@ module _ (E : Answers) (xs : List Float) (y : Float) where
 
   pub sample-encloses : (e : Ends) → sampleEnds E xs y ≡ held e → Encloses e (sampleFloat E xs y) (sampleExact E xs y)
   unfolding sampleEnds
-  sample-encloses e =
-      ends-enclose e sample-values
+  sample-encloses =
+      tested-encloses sample-values
       (sample-rel enclosures exacts contains (calls enclosures E) (calls exacts E) (calls-rel enclosures exacts contains E) (length xs) _ _ _ _ (λ i. contains-point (at xs i)) (contains-point y))
 
   -- the two-ended run alone gives the float run's refusals too: what the code works

@@ -2,7 +2,7 @@
 use mathlib.Core.List.{List}
 use lib.ListN.{length}
 use lib.Ieee.{Float}
-use Rattle.number.specs.Ans.{Ans}
+use Rattle.number.specs.Ans.{Ans, _>>=_}
 use Rattle.number.specs.Arith.{floats}
 use Rattle.number.specs.Functions.{Answers, calls}
 use Rattle.number.specs.Lists.{at}
@@ -10,7 +10,7 @@ use Rattle.enclosure.specs.declared.Enclosure.{Enclosure}
 use Rattle.enclosure.specs.declared.Ends.{Ends}
 use Rattle.enclosure.specs.Enclosure.{enclosures, point}
 use Rattle.enclosure.specs.Exact.{Exact, exacts, exactly}
-use Rattle.enclosure.specs.Ends.{endsOf}
+use Rattle.enclosure.specs.Ends.{orNotFinite, endsOf}
 use Rattle.patterns.specs.Formulas.{sample}
 
 module _ (E : Answers) where
@@ -25,4 +25,4 @@ module _ (E : Answers) where
   sampleExact xs y = sample exacts (calls exacts E) (length xs) (λ i. exactly (at xs i)) (exactly y)
 
   unfoldable pub sampleEnds : List Float → Float → Ans Ends
-  sampleEnds xs y = endsOf (sampleFloat xs y) (sampleEnclosure xs y)
+  sampleEnds xs y = endsOf (sampleFloat xs y >>= orNotFinite) (sampleEnclosure xs y)

@@ -37,6 +37,10 @@ wordOf l y = cond (Bool·beq (l .negative) (y .negative)) (1023 * 2 ^ 53 + produ
 unfoldable pub powerOf : Log → FixedExponent → Float
 powerOf l y = cond (y .one) (l .base) (raiseOf (wordOf l y))
 
+-- the power of a base within its domain, by its logarithm: 6 if the exponent is outside
+abbrev pub powfAt : Log → Float → Ans Float
+powfAt l y = demand 6 (exponentInside y) >>= λ _. held (powerOf l (exponentOf y))
+
 -- '6 if the argument is outside', of both domains
 unfoldable pub powfOf : Float → Float → Ans Float
-powfOf x y = demand 6 (baseInside x) >>= λ _. demand 6 (exponentInside y) >>= λ _. held (powerOf (logOf x) (exponentOf y))
+powfOf x y = demand 6 (baseInside x) >>= λ _. powfAt (logOf x) y

@@ -6,17 +6,19 @@ use lib.ListN.{length, set}
 use mathlib.Core.List.{List}
 use mathlib.Core.Path.{_≡_, refl}
 use native.Mathlib.Omega.{arith}
-use mathlib.Core.Bool.{Bool, true, false, _&&_}
+use mathlib.Core.Bool.{Bool, true, false}
 use borrow.Author.Tests.{eqb-true}
 use Rattle.number.specs.Ans.{Ans, held, refused, _>>=_, demand}
 use Rattle.number.specs.Answer.{answer}
+use Rattle.number.specs.Lists.{at}
 use Rattle.number.specs.Side.{side}
+use Rattle.number.specs.Walk.{filled}
 use Rattle.number.proofs.Walk.{via}
 use Rattle.limits.specs.Limits.{countWithin, temperatureWithin}
 use Rattle.mie_parameters.proofs.Laws.{and-left, and-right, count-high}
 use Rattle.number.specs.declared.FloatAnswer.{FloatAnswer}
 use Rattle.number.specs.declared.FloatAnswer.the-variants.{Value, Outside}
-use Rattle.saftvrmie.specs.Diameters.{diameterAt, diameterTurn, worked, allFinite, written, rightList, rightLength, ownDiameters, diameters}
+use Rattle.saftvrmie.specs.Diameters.{diameterAt, diameterTurn, worked, allFinite, rightLength, ownDiameters, diameters}
 
 -- a turn of the walk
 module _ (sheets : List Float) (t : Float) (i : ℕ) (x : List Float) (a : FloatAnswer) (p : answer a ≡ diameterAt sheets t i) where
@@ -29,18 +31,6 @@ module _ (sheets : List Float) (t : Float) (i : ℕ) (x : List Float) (a : Float
   turn-outside e = rw (via answer p e)
 
 -- ---- answers in a row
-then-last : {S T : Type 0} (a b : Bool) (w : Ans S) (c : S → Bool) (f : S → T)
-    → (demand 1 a >>= λ _. demand 2 b >>= λ _. w >>= λ d. demand 7 (c d) >>= λ _. held (f d)) ≡ ((demand 1 a >>= λ _. demand 2 b >>= λ _. w >>= λ d. demand 7 (c d) >>= λ _. held d) >>= λ d. held (f d))
-unfolding demand _>>=_
-then-last false b w c f = refl
-then-last true false w c f = refl
-then-last true true (refused k) c f = refl
-then-last true true (held d) c f = ways (c d)
-  where
-    ways : (t : Bool) → (demand 7 t >>= λ _. held (f d)) ≡ ((demand 7 t >>= λ _. held d) >>= λ d. held (f d))
-    ways true = refl
-    ways false = refl
-
 first-test : {S : Type 0} (a : Bool) (f : Bool → Ans S) (d : S) → (demand 1 a >>= f) ≡ held d → a ≡ true
 unfolding demand _>>=_
 first-test true f d p = refl
@@ -84,15 +74,15 @@ module _ (n : ℕ) (sheets : List Float) (t : Float) (len : ℕ) where
 
 -- ---- the operation: that, and the writing
 module _ (n : ℕ) (sheets : List Float) (t : Float) (l : List Float) where
-  written-then : diameters n sheets t l ≡ (ownDiameters n sheets t (length l) >>= λ d. held (written n d l))
-  unfolding diameters ownDiameters rightList rightLength
-  written-then = then-last (countWithin n && eqb (length l) n) (temperatureWithin t) (worked n sheets t) (allFinite n) (λ d. written n d l)
+  written-then : diameters n sheets t l ≡ (ownDiameters n sheets t (length l) >>= λ d. held (filled n (at d) l))
+  unfolding diameters
+  written-then = refl
 
   pub own-refused : (k : ℕ) → ownDiameters n sheets t (length l) ≡ refused k → diameters n sheets t l ≡ refused k
   unfolding _>>=_
   own-refused k e = rw e at written-then
 
-  pub own-written : (d : List Float) → ownDiameters n sheets t (length l) ≡ held d → diameters n sheets t l ≡ held (written n d l)
+  pub own-written : (d : List Float) → ownDiameters n sheets t (length l) ≡ held d → diameters n sheets t l ≡ held (filled n (at d) l)
   unfolding _>>=_
   own-written d e = rw e at written-then
 

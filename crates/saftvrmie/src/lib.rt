@@ -1,14 +1,16 @@
 // Operations of SAFT-VR Mie on a set: the components' diameters, and a pair's lower limit and diameter.
 ghost use mathlib.Core.Path.{_≡_};
-ghost use Prim.Native.Nat.{_<_, _≤_};
+ghost use Prim.Native.Nat.{_+_, _*_, _<_, _≤_};
 ghost use lib.ListN.{length};
 ghost use Rattle.number.specs.Answer.{answer};
-ghost use Rattle.number.specs.Side.{side, sheet};
-ghost use Rattle.number.specs.Walk.{walk};
-ghost use Rattle.mie_parameters.specs.Answer.{outcome, verdict, kept, numberAnswer};
-ghost use Rattle.saftvrmie.specs.Diameters.{diagonal, diameterAt, diameterTurn, allFinite, written, rightLength, ownDiameters, diameters};
+ghost use Rattle.number.specs.Lists.{at};
+ghost use Rattle.number.specs.Side.{side, sheet, cell};
+ghost use Rattle.number.specs.Walk.{filled, walk};
+ghost use Rattle.mie_parameters.specs.Answer.{outcome, verdict, numberAnswer, stored};
+ghost use Rattle.saftvrmie_diameter.specs.Diameter.{cEpsT};
+ghost use Rattle.saftvrmie.specs.Diameters.{diameterAt, diameterTurn, allFinite, rightLength, ownDiameters, diameters};
 ghost use Rattle.number.specs.Arith.{floats};
-ghost use Rattle.saftvrmie.specs.Pairs.{entryOf, cEpsAt, radiusIj, diameterIj};
+ghost use Rattle.saftvrmie.specs.Pairs.{radiusIj, diameterIj};
 use mie_parameters::NumberAnswer;
 use mie_parameters::ParameterAnswer;
 use number::FloatAnswer;
@@ -24,7 +26,7 @@ pub struct Diameters {
 
 fn diagonal(sheets: &[f64; 384], k: usize, i: usize) -> f64
     requires { ⌜ (k < 6) × (i < side) ⌝ }
-    ensures { λ r. ⌜ r ≡ diagonal (now (sheets .entry)) k i ⌝ }
+    ensures { λ r. ⌜ r ≡ at (now (sheets .entry)) (sheet * k + cell i i) ⌝ }
 {
     sheets[SHEET * k + (SIDE * i + i)]
 }
@@ -67,7 +69,7 @@ fn all_finite(n: usize, d: &[f64; 8]) -> bool
 
 fn write(n: usize, d: &[f64; 8], out: &mut [f64])
     requires { ⌜ (n ≤ side) × (length (now out) ≡ n) ⌝ }
-    ensures { λ _. ⌜ now (out .exit) ≡ written n (now (d .entry)) (now (out .entry)) ⌝ }
+    ensures { λ _. ⌜ now (out .exit) ≡ filled n (at (now (d .entry))) (now (out .entry)) ⌝ }
 {
     for i in 0usize..n {
         out[i] = d[i];
@@ -112,7 +114,7 @@ pub fn diameters_of(n: usize, sheets: &[f64; 384], temperature: f64, len: usize)
 
 // `hs_diameter`: the diameter of each component, into a list as long as the count. 1, 2, 6, 7.
 pub fn hs_diameter(set: SaftVRMiePars, temperature: f64, out: &mut [f64]) -> ParameterAnswer
-    ensures { λ r. ⌜ (r ≡ verdict (diameters (set .count) (set .sheets) temperature (now (out .entry)))) × (now (out .exit) ≡ kept (now (out .entry)) (diameters (set .count) (set .sheets) temperature (now (out .entry)))) ⌝ }
+    ensures { λ r. ⌜ (r ≡ verdict (diameters (set .count) (set .sheets) temperature (now (out .entry)))) × (now (out .exit) ≡ stored (now (out .entry)) (diameters (set .count) (set .sheets) temperature (now (out .entry)))) ⌝ }
 {
     let n = set.count;
     let sheets = set.sheets;
@@ -128,14 +130,14 @@ pub fn hs_diameter(set: SaftVRMiePars, temperature: f64, out: &mut [f64]) -> Par
 
 fn entry(sheets: &[f64; 384], k: usize, e: usize) -> f64
     requires { ⌜ (k < 6) × (e < sheet) ⌝ }
-    ensures { λ r. ⌜ r ≡ entryOf (now (sheets .entry)) k e ⌝ }
+    ensures { λ r. ⌜ r ≡ at (now (sheets .entry)) (sheet * k + e) ⌝ }
 {
     sheets[SHEET * k + e]
 }
 
 fn c_eps_at(sheets: &[f64; 384], temperature: f64, e: usize) -> f64
     requires { ⌜ e < sheet ⌝ }
-    ensures { λ r. ⌜ r ≡ cEpsAt (now (sheets .entry)) temperature e ⌝ }
+    ensures { λ r. ⌜ r ≡ cEpsT floats temperature (at (now (sheets .entry)) (4 * sheet + e)) (at (now (sheets .entry)) (1 * sheet + e)) ⌝ }
 {
     let c = entry(sheets, 4, e);
     let epsilon_k = entry(sheets, 1, e);

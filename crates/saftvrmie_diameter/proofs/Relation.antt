@@ -6,9 +6,9 @@ use mathlib.Core.Bool.{Bool}
 use mathlib.Core.List.{List}
 use Rattle.number.specs.Ans.{Ans}
 use Rattle.number.specs.Arith.{Arith, zero64}
-use Rattle.number.specs.Functions.{Functions}
+use Rattle.number.specs.Functions.{Functions, Decimal, entry}
 use Rattle.number.proofs.Rel.{Rel, FunRel, Both, both-held, then-both, cond-rel, walk-rel}
-use Rattle.saftvrmie_diameter.specs.Diameter.{Decimal, Halley, entry, cEpsT, halleyStep, halley, lowerLimit, betaUMie, nodeTurn, diameterFrom, hsDiameter}
+use Rattle.saftvrmie_diameter.specs.Diameter.{Halley, cEpsT, halleyStep, halley, lowerLimit, betaUMie, nodeTurn, diameterFrom, hsDiameter}
 
 pub record Halleys {S T : Type 0} (R : S → T → Type 0) (x : Halley S) (u : Halley T) : Type 0 where
   pub f : R (x .f) (u .f)

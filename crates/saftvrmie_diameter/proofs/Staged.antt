@@ -1,7 +1,7 @@
 -- The powers of one radius share its logarithm, ln of EPSILON is a constant, and the nodes go two by two: the same values and refusals. Assumes nothing.
 use Prim.Native.Nat.{ℕ, zero, suc, _/_, _^_, _≤_, _<_}
 use native.Mathlib.Omega.{arith}
-use native.Mathlib.Nat.{not-suc-le-zero, le-of-suc-le-suc}
+use native.Mathlib.Nat.{not-suc-le-zero}
 use borrow.Author.Tests.{ltb-true, ltb-false}
 use lib.Count.{leadingZeros}
 use lib.Dec.{ltb, leb}
@@ -10,7 +10,7 @@ use lib.Seq.{getD-set-same, getD-set-other}
 use lib.Ieee.{binary64, nan, Float, ofBits, toBits, le}
 use mathlib.Core.Path.{_≡_, refl, sym, ap, _∙_}
 use mathlib.Core.Bool.{Bool, true, false, _&&_, cond}
-use mathlib.Core.List.{List, [], _∷_}
+use mathlib.Core.List.{List}
 use Rattle.number.specs.Ans.{Ans, held, refused, _>>=_, demand}
 use Rattle.number.specs.Arith.{floats, bits, decimal, zero64}
 use Rattle.number.specs.Functions.{calls, answered, answered₂}
@@ -24,22 +24,9 @@ use Rattle.logarithm.specs.Logarithm.{core, multiple, far, join, signed, reduce
 use Rattle.binary_log.specs.declared.Log.{Log}
 use Rattle.binary_log.specs.BinaryLog.{baseInside, logOf}
 use Rattle.power.specs.Power.{exponentInside, exponentOf, powerOf, powfOf}
-use Rattle.saftvrmie_diameter.specs.Diameter.{Decimal, dec, entry, Halley, halleyStep, halley, betaUMie, nodeTurn, diameterFrom}
+use Rattle.saftvrmie_diameter.specs.Diameter.{Halley, halleyStep, halley, betaUMie, nodeTurn, diameterFrom}
 use Rattle.saftvrmie_diameter.specs.Staged.{exponentsInside, exponentsOf, inverseAt, betaUAt, noLog, beyond, logsOf, betasOf, nodeAt}
 use Rattle.saftvrmie_diameter.specs.declared.Exponents.{Exponents}
-
--- ---- an entry of the rule, at a place that is told
-pub entry-at : (l : List Decimal) (j k : ℕ) → j ≡ k → entry (calls floats port) l k ≡ entry (calls floats port) l j
-entry-at l j k e = ap (λ (z : ℕ). entry (calls floats port) l z) (sym e)
-
-none-beyond : (l : List Decimal) (k : ℕ) → length l ≤ k → getD l k (dec false 0 0) ≡ dec false 0 0
-none-beyond [] k h = refl
-none-beyond (x ∷ l) zero h = absurd (not-suc-le-zero h)
-none-beyond (x ∷ l) (suc k) h = none-beyond l k (le-of-suc-le-suc h)
-
-pub entry-beyond : (l : List Decimal) (k : ℕ) → length l ≤ k → decimal false 0 0 ≡ entry (calls floats port) l k
-unfolding entry
-entry-beyond l k h = rw (none-beyond l k h)
 
 -- ---- ln of f64::EPSILON
 pub ln-epsilon : calls floats port .ln (bits 0x3cb0_0000_0000_0000) ≡ held (bits 0xc042_0596_6f2b_4f12)

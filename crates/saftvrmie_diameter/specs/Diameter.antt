@@ -1,22 +1,12 @@
 -- `hs_diameter_ij` of saftvrmie/parameters.rs, over any arithmetic: the lower limit by Halley's method, then the 10-node rule in reduced distances.
 use Prim.Native.Nat.{ℕ, zero, suc}
 use lib.Ieee.{lt}
-use lib.ListN.{getD}
-use mathlib.Core.Bool.{Bool, true, false, cond}
+use mathlib.Core.Bool.{true, false, cond}
 use mathlib.Core.List.{List, [], _∷_}
 use Rattle.number.specs.Ans.{Ans, held, _>>=_}
-use Rattle.number.specs.Arith.{Arith, decimal, bits, zero64}
-use Rattle.number.specs.Functions.{Functions}
+use Rattle.number.specs.Arith.{Arith, decimal, zero64, epsilon64}
+use Rattle.number.specs.Functions.{Functions, Decimal, dec, entry}
 use Rattle.number.specs.Walk.{walk}
-
--- a decimal below 1: whether it is negative, its digits, and how many places they take
-pub record Decimal : Type 0 where
-  pub minus : Bool
-  pub digits : ℕ
-  pub places : ℕ
-
-abbrev pub dec : Bool → ℕ → ℕ → Decimal
-dec s d p = record { minus = s; digits = d; places = p }
 
 -- GLQ10: positions and weights
 abbrev pub positions : List Decimal
@@ -28,10 +18,6 @@ abbrev pub weights : List Decimal
 weights =
     dec false 2955242247147529 16 ∷ dec false 2955242247147529 16 ∷ dec false 2692667193099963 16 ∷ dec false 2692667193099963 16 ∷ dec false 219086362515982 15
     ∷ dec false 219086362515982 15 ∷ dec false 1494513491505806 16 ∷ dec false 1494513491505806 16 ∷ dec false 666713443086881 16 ∷ dec false 666713443086881 16 ∷ []
-
--- entry k of a table; beyond it is not read
-unfoldable pub entry : {N : Type 0} → Functions N → List Decimal → ℕ → N
-entry F table k = let e = getD table k (dec false 0 0) in F .node (e .minus) (e .digits) (e .places)
 
 -- what one evaluation gives: the function and the step
 pub record Halley (N : Type 0) : Type 0 where
@@ -52,10 +38,6 @@ module _ (A : Arith) where
   abbrev half : Num
   half = lit (decimal false 5 1)
 
-  -- f64::EPSILON
-  abbrev epsilon : Num
-  epsilon = lit (bits 0x3cb0_0000_0000_0000)
-
   -- inverse_temperature * c_ij * epsilon_k_ij
   unfoldable pub cEpsT : Num → Num → Num → Num
   cEpsT temperature c epsilon-k = one ⊘ temperature ⊗ c ⊗ epsilon-k
@@ -68,7 +50,7 @@ module _ (A : Arith) where
           let ri = one ⊘ r in
           F .powf ri lr >>= λ plr.
           F .powf ri la >>= λ pla.
-          F .ln epsilon >>= λ l.
+          F .ln (lit epsilon64) >>= λ l.
           let u = plr ⊖ pla in
           let dplr = plr ⊗ (⊖ lr) ⊗ ri in
           let dpla = pla ⊗ (⊖ la) ⊗ ri in
@@ -92,7 +74,7 @@ module _ (A : Arith) where
       -- `lower_integratal_limit`: from the repulsive contribution, at most 4 steps
       unfoldable pub lowerLimit : Ans Num
       lowerLimit =
-          F .ln epsilon >>= λ l.
+          F .ln (lit epsilon64) >>= λ l.
           F .ln (⊖ (one ⊘ c-eps-t) ⊗ l) >>= λ k.
           F .exp (⊖ k ⊘ lr) >>= λ r.
           halley 4 r

@@ -1,18 +1,18 @@
 -- What the float code works of the diameter with the powers in their stages, and its nodes stage by stage: the contracts of helpers alone. That this is the diameter, values and refusals, is shown in proofs/Staged.
 use Prim.Native.Nat.{ℕ}
 use lib.Ieee.{Float, nan}
-use lib.ListN.{getD, set, replicate}
+use lib.ListN.{getD, replicate}
 use mathlib.Core.Bool.{Bool, false, _&&_}
 use mathlib.Core.List.{List}
 use Rattle.number.specs.Ans.{Ans, held, _>>=_, demand}
 use Rattle.number.specs.Arith.{floats, bits, decimal, zero64}
-use Rattle.number.specs.Functions.{calls}
-use Rattle.number.specs.Walk.{turns}
+use Rattle.number.specs.Functions.{calls, entry}
+use Rattle.number.specs.Walk.{filled}
 use Rattle.elementary.specs.Port.{port}
 use Rattle.binary_log.specs.BinaryLog.{baseInside, logOf}
 use Rattle.binary_log.specs.declared.Log.{Log}
 use Rattle.power.specs.Power.{exponentInside, exponentOf, powerOf}
-use Rattle.saftvrmie_diameter.specs.Diameter.{positions, weights, entry}
+use Rattle.saftvrmie_diameter.specs.Diameter.{positions, weights}
 use Rattle.saftvrmie_diameter.specs.declared.Exponents.{Exponents}
 
 -- both exponents lie within the power's domain
@@ -46,10 +46,10 @@ beyond = record { base = nan; size = 0; negative = false }
 
 -- of all ten nodes: the logarithms, and `beta_u_mie`
 unfoldable pub logsOf : Float → List Log
-logsOf r0 = turns 10 (λ k s. set s k (logOf (inverseAt r0 k))) (replicate 10 noLog)
+logsOf r0 = filled 10 (λ k. logOf (inverseAt r0 k)) (replicate 10 noLog)
 
 unfoldable pub betasOf : Exponents → Float → List Log → List Float
-betasOf e c-eps-t logs = turns 10 (λ k s. set s k (betaUAt e c-eps-t (getD logs k beyond))) (replicate 10 zero64)
+betasOf e c-eps-t logs = filled 10 (λ k. betaUAt e c-eps-t (getD logs k beyond)) (replicate 10 zero64)
 
 -- a node from its inverse radius and its `beta_u_mie`
 unfoldable pub nodeAt : Float → ℕ → Float → Float → Float → Ans Float

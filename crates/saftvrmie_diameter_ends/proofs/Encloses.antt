@@ -1,11 +1,12 @@
 -- Demand 3 on the diameter of a pair: whatever is handed in and whatever the elementary functions answer, the ends that are reported enclose the float operation's result and the exact run's. Assumes nothing.
-use Prim.Native.Nat.{ℕ}
+use Prim.Native.Nat.{ℕ, _+_}
 use lib.Ieee.{Float}
 use mathlib.Core.Path.{_≡_, ap, _∙_}
 use mathlib.Core.Bool.{true, false}
 use Rattle.number.specs.Ans.{Ans, held, refused}
 use Rattle.number.specs.Arith.{Arith, floats}
 use Rattle.number.specs.Functions.{Answers, calls}
+use Rattle.number.specs.Lists.{at}
 use Rattle.number.specs.Side.{cell}
 use Rattle.number.proofs.Rel.{Rel, Both, calls-rel}
 use Rattle.limits.specs.Limits.{indexWithin, temperatureWithin}
@@ -16,10 +17,12 @@ use Rattle.enclosure.specs.Exact.{exacts}
 use Rattle.enclosure.specs.Ends.{Encloses, endsAlone}
 use Rattle.enclosure.proofs.Relations.{Value, values, contains}
 use Rattle.enclosure.proofs.TwoEnds.{operation-1, operation-2, operation-alone, operation-encloses}
+use Rattle.saftvrmie_parameters.specs.Parameters.{pairAt}
 use Rattle.saftvrmie_parameters.specs.declared.SaftVRMiePars.{SaftVRMiePars}
 use Rattle.saftvrmie_diameter.specs.Diameter.{cEpsT, diameterFrom}
 use Rattle.saftvrmie_diameter.proofs.Relation.{cEpsT-rel, diameterFrom-rel}
-use Rattle.saftvrmie.specs.Pairs.{entryOf, diameterRun, diameterIjBy}
+use Rattle.saftvrmie.specs.Pairs.{diameterRun, diameterIjBy}
+use Rattle.saftvrmie.proofs.Pairs.{first-sheet}
 use Rattle.saftvrmie_diameter_ends.specs.Operations.{diameterEnds}
 
 module _ (E : Answers) (s : SaftVRMiePars) (i j : ℕ) (t r0 : Float) where
@@ -44,13 +47,13 @@ module _ (E : Answers) (s : SaftVRMiePars) (i j : ℕ) (t r0 : Float) where
 
     -- from what the code works
     pub ends-on : temperatureWithin t ≡ true → (la lr c sigma r : Enclosure) (a : Ans Enclosure) (b : Ans Ends)
-        → la ≡ point (entryOf (s .sheets) 3 (cell i j)) → lr ≡ point (entryOf (s .sheets) 2 (cell i j))
-        → c ≡ cEpsT enclosures (point t) (point (entryOf (s .sheets) 4 (cell i j))) (point (entryOf (s .sheets) 1 (cell i j)))
-        → sigma ≡ point (entryOf (s .sheets) 0 (cell i j)) → r ≡ point r0
+        → la ≡ point (pairAt (s .sheets) i j .la) → lr ≡ point (pairAt (s .sheets) i j .lr)
+        → c ≡ cEpsT enclosures (point t) (point (pairAt (s .sheets) i j .c)) (point (pairAt (s .sheets) i j .«epsilon_k»))
+        → sigma ≡ point (at (s .sheets) (0 + cell i j)) → r ≡ point r0
         → a ≡ diameterFrom enclosures (calls enclosures E) la lr c sigma r → b ≡ endsAlone a → b ≡ diameterEnds E s i j t r0
     unfolding diameterEnds diameterIjBy
     ends-on q la lr c sigma r a b f g h k l m n =
-        let w : a ≡ diameterRun enclosures E s i j t r0 = m ∙ rw (f, g, h, k, l) in
+        let w : a ≡ diameterRun enclosures E s i j t r0 = m ∙ rw (f, g, h, k, first-sheet (s .sheets) (cell i j), l) in
         n ∙ (ap endsAlone w ∙ operation-alone run-values _ _ p q)
 
   -- for any elementary answers: the float operation's result and the exact run's

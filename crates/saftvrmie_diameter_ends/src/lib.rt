@@ -1,13 +1,13 @@
 // The diameter of a pair from its reduced lower limit (saftvrmie/parameters.rs, `hs_diameter_ij`) in the two-ended run, and as a two-ended operation.
 ghost use mathlib.Core.Path.{_≡_};
-ghost use Prim.Native.Nat.{_<_};
-ghost use Rattle.number.specs.Functions.{calls};
+ghost use Prim.Native.Nat.{_+_, _*_, _<_};
+ghost use Rattle.number.specs.Functions.{calls, entry};
+ghost use Rattle.number.specs.Lists.{at};
 ghost use Rattle.number.specs.Side.{sheet};
 ghost use Rattle.elementary.specs.Port.{port};
 ghost use Rattle.enclosure.specs.Answer.{answer, ends};
 ghost use Rattle.enclosure.specs.Enclosure.{enclosures, point};
-ghost use Rattle.saftvrmie_diameter.specs.Diameter.{positions, weights, entry, cEpsT, betaUMie, nodeTurn, diameterFrom};
-ghost use Rattle.saftvrmie.specs.Pairs.{entryOf};
+ghost use Rattle.saftvrmie_diameter.specs.Diameter.{positions, weights, cEpsT, betaUMie, nodeTurn, diameterFrom};
 ghost use Rattle.saftvrmie_diameter_ends.specs.Operations.{diameterEnds};
 use enclosure::Enclosure;
 use enclosure::EnclosureAnswer;
@@ -107,14 +107,14 @@ pub fn diameter_from(
 // A number of a set, as a point.
 fn entry_point(sheets: &[f64; 384], k: usize, e: usize) -> Enclosure
     requires { ⌜ (k < 6) × (e < sheet) ⌝ }
-    ensures { λ r. ⌜ r ≡ point (entryOf (now (sheets .entry)) k e) ⌝ }
+    ensures { λ r. ⌜ r ≡ point (at (now (sheets .entry)) (sheet * k + e)) ⌝ }
 {
     enclosure::point(sheets[SHEET * k + e])
 }
 
 fn c_eps_at(sheets: &[f64; 384], temperature: f64, e: usize) -> Enclosure
     requires { ⌜ e < sheet ⌝ }
-    ensures { λ r. ⌜ r ≡ cEpsT enclosures (point temperature) (point (entryOf (now (sheets .entry)) 4 e)) (point (entryOf (now (sheets .entry)) 1 e)) ⌝ }
+    ensures { λ r. ⌜ r ≡ cEpsT enclosures (point temperature) (point (at (now (sheets .entry)) (4 * sheet + e))) (point (at (now (sheets .entry)) (1 * sheet + e))) ⌝ }
 {
     let c = entry_point(sheets, 4, e);
     let epsilon_k = entry_point(sheets, 1, e);

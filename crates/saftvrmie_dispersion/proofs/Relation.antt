@@ -10,7 +10,8 @@ use Rattle.number.proofs.Rel.{Rel, FunRel, Both, both-held, then-both, cond-rel
 use Rattle.dual.specs.Dual.{DualOf, duals, plainD}
 use Rattle.dual.proofs.Relation.{Duals, plain-rel, mul-rel, duals-rel}
 use Rattle.saftvrmie_dispersion.specs.Sutherland.{FluidIn, kHs, fluidOf, cRow, zetaEff, a1s, iOf, jOf, bOf, a1sBOf, a1sB}
-use Rattle.saftvrmie_dispersion.specs.Terms.{PairIn, BarIn, FiveIn, OrdersIn, TermsIn, SumsIn, f, barOf, xiOf, a3Of, x0Of, addPure, addPair, ordersSum, five, prefOf, a1Of, a2Of, ordersOf, termsOf}
+use Rattle.mie_parameters.specs.Sums.{ordersSum}
+use Rattle.saftvrmie_dispersion.specs.Terms.{PairIn, BarIn, FiveIn, OrdersIn, TermsIn, SumsIn, f, barOf, xiOf, a3Of, x0Of, addPure, addPair, five, prefOf, a1Of, a2Of, ordersOf, termsOf}
 use Rattle.saftvrmie_dispersion.specs.Chain.{KIn, LinkIn, kOf, rhoDual, zetaDual, fluidDual, g1Of, g2Of, linkPref, addLink, gHs, gammaOf, lnGMie, linkOf, chainPure}
 
 -- ---- records, part by part
@@ -227,7 +228,7 @@ module _ (A B : Arith) (K : Rel A B) where
         a-chain = s .a-chain;
       }
 
-  pub ordersSum-rel : {s : SumsIn (A .Num)} {s' : SumsIn (B .Num)} {x : A .Num} {u : B .Num} → AllSums R s s' → R x u → R (ordersSum A s x) (ordersSum B s' u)
+  pub ordersSum-rel : {s : SumsIn (A .Num)} {s' : SumsIn (B .Num)} {x : A .Num} {u : B .Num} → AllSums R s s' → R x u → R (ordersSum A x (s .a1) (s .a2) (s .a3)) (ordersSum B u (s' .a1) (s' .a2) (s' .a3))
   unfolding ordersSum
   ordersSum-rel s p = r-add (r-add (r-mul (s .a1) p) (r-mul (s .a2) (r-pow 2 p))) (r-mul (s .a3) (r-pow 3 p))
 

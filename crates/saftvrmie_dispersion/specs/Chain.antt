@@ -2,7 +2,7 @@
 use lib.Ieee.{eq}
 use mathlib.Core.Bool.{false, cond}
 use Rattle.number.specs.Ans.{Ans, held, _>>=_}
-use Rattle.number.specs.Arith.{Arith, decimal}
+use Rattle.number.specs.Arith.{Arith, decimal, whole}
 use Rattle.number.specs.Functions.{Functions}
 use Rattle.dual.specs.Dual.{DualOf, duals, plainD, mulD}
 use Rattle.saftvrmie_dispersion.specs.Sutherland.{FluidIn, kHs, fluidOf}
@@ -29,21 +29,18 @@ module _ (A : Arith) where
   infixl 70 _⊗_
   infixl 70 _⊘_
   infix 80 ⊖_
-  abbrev whole : Prim.Native.Nat.ℕ → Num
-  whole n = lit (decimal false n 0)
-
   -- k0 to k3 of `Properties::new`
   unfoldable pub kOf : Functions Num → Num → Ans (KIn Num)
   kOf F zeta-x =
-      let frac = whole 1 ⊘ pow (⊖ zeta-x ⊕ whole 1) 3 in
+      let frac = whole A 1 ⊘ pow (⊖ zeta-x ⊕ whole A 1) 3 in
       let z2 = zeta-x ⊗ zeta-x in
       let z3 = z2 ⊗ zeta-x in
-      F .ln (⊖ zeta-x ⊕ whole 1) >>= λ l.
+      F .ln (⊖ zeta-x ⊕ whole A 1) >>= λ l.
       held (record {
-        k0 = ⊖ l ⊕ zeta-x ⊗ (⊖ zeta-x ⊗ whole 39 ⊕ z2 ⊗ whole 9 ⊖ z3 ⊗ whole 2 ⊕ whole 42) ⊗ frac ⊘ whole 6;
-        k1 = zeta-x ⊗ frac ⊗ lit (decimal false 5 1) ⊗ (z3 ⊕ zeta-x ⊗ whole 6 ⊖ whole 12);
-        k2 = ⊖ z2 ⊗ whole 3 ⊘ whole 8 ⊗ frac ⊗ (⊖ zeta-x ⊕ whole 1);
-        k3 = zeta-x ⊗ frac ⊘ whole 6 ⊗ (⊖ z3 ⊕ zeta-x ⊗ whole 3 ⊕ whole 3);
+        k0 = ⊖ l ⊕ zeta-x ⊗ (⊖ zeta-x ⊗ whole A 39 ⊕ z2 ⊗ whole A 9 ⊖ z3 ⊗ whole A 2 ⊕ whole A 42) ⊗ frac ⊘ whole A 6;
+        k1 = zeta-x ⊗ frac ⊗ lit (decimal false 5 1) ⊗ (z3 ⊕ zeta-x ⊗ whole A 6 ⊖ whole A 12);
+        k2 = ⊖ z2 ⊗ whole A 3 ⊘ whole A 8 ⊗ frac ⊗ (⊖ zeta-x ⊕ whole A 1);
+        k3 = zeta-x ⊗ frac ⊘ whole A 6 ⊗ (⊖ z3 ⊕ zeta-x ⊗ whole A 3 ⊕ whole A 3);
       })
 
   -- `rho_s_dual`
@@ -63,17 +60,17 @@ module _ (A : Arith) where
 
   -- `g1` from the slope of a1; pref is that of `linkPref`
   unfoldable pub g1Of : OrdersIn (DualOf Num) → PairIn Num → Num → Num
-  g1Of o p pref = o .a1 .eps ⊗ whole 3 ⊘ pref ⊖ (o .five .at-la .re ⊗ p .la ⊖ o .five .at-lr .re ⊗ p .lr) ⊗ p .c
+  g1Of o p pref = o .a1 .eps ⊗ whole A 3 ⊘ pref ⊖ (o .five .at-la .re ⊗ p .la ⊖ o .five .at-lr .re ⊗ p .lr) ⊗ p .c
 
   -- `g2_mca` from the slope of a2
   unfoldable pub g2Of : OrdersIn (DualOf Num) → PairIn Num → Num → Num → Num
   g2Of o p pref k-hs =
-      o .a2 .eps ⊗ whole 3 ⊘ pref ⊘ p .epsilon-k
+      o .a2 .eps ⊗ whole A 3 ⊘ pref ⊘ p .epsilon-k
       ⊖ (o .five .at-2lr .re ⊗ p .lr ⊖ o .five .at-lalr .re ⊗ (p .la ⊕ p .lr) ⊕ o .five .at-2la .re ⊗ p .la) ⊗ k-hs ⊗ pow (p .c) 2
 
   -- the pref of `g1` and `g2_mca`: d3 * eps_k * 2.0 * PI
   unfoldable pub linkPref : Num → Num → Num → Num
-  linkPref pi d3 eps-k = d3 ⊗ eps-k ⊗ whole 2 ⊗ pi
+  linkPref pi d3 eps-k = d3 ⊗ eps-k ⊗ whole A 2 ⊗ pi
 
   -- a_chain += l
   unfoldable pub addLink : SumsIn Num → Num → SumsIn Num
@@ -88,9 +85,9 @@ module _ (A : Arith) where
     unfoldable pub gammaOf : Num → Num → Num → Ans Num
     gammaOf zeta-x-bar beta-eps alpha =
         F .expm1 beta-eps >>= λ e.
-        F .tanh (whole 10 ⊗ (lit (decimal false 57 2) ⊖ alpha)) >>= λ t.
-        F .exp (⊖ zeta-x-bar ⊗ lit (decimal false 67 1) ⊖ pow zeta-x-bar 2 ⊗ whole 8) >>= λ g.
-        held (zeta-x-bar ⊗ e ⊗ whole 10 ⊗ (⊖ t ⊕ whole 1) ⊗ g)
+        F .tanh (whole A 10 ⊗ (lit (decimal false 57 2) ⊖ alpha)) >>= λ t.
+        F .exp (⊖ zeta-x-bar ⊗ lit (decimal false 67 1) ⊖ pow zeta-x-bar 2 ⊗ whole A 8) >>= λ g.
+        held (zeta-x-bar ⊗ e ⊗ whole A 10 ⊗ (⊖ t ⊕ whole A 1) ⊗ g)
 
     -- `ln_g_mie`
     unfoldable pub lnGMie : Num → Num → Num → Num → Ans Num
@@ -103,8 +100,8 @@ module _ (A : Arith) where
         let beta-eps = link .t-inv ⊗ p .epsilon-k in
         gHs k (x0Of A d (p .sigma)) >>= λ g-hs.
         gammaOf zeta-x-bar beta-eps (p .alpha) >>= λ gamma.
-        lnGMie g-hs beta-eps (g1Of o p pref) (g2Of o p pref k-hs ⊗ (gamma ⊕ whole 1)) >>= λ ln-g.
-        held (⊖ (link .fraction) ⊗ (link .m ⊖ whole 1) ⊗ ln-g)
+        lnGMie g-hs beta-eps (g1Of o p pref) (g2Of o p pref k-hs ⊗ (gamma ⊕ whole A 1)) >>= λ ln-g.
+        held (⊖ (link .fraction) ⊗ (link .m ⊖ whole A 1) ⊗ ln-g)
 
     -- a component of the chain: its orders with slopes, the third order, and its link; added to the sums
     unfoldable pub chainPure : FluidIn (DualOf Num) → BarIn Num → KIn Num → PairIn Num → Num → LinkIn Num → Num → SumsIn Num → Ans (SumsIn Num)

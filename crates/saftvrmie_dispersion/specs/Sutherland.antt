@@ -1,24 +1,12 @@
 -- Hard spheres' compressibility and the Sutherland sums of saftvrmie/eos/dispersion.rs (Lafitte et al. 2013), in the Rust's order of operations.
 -- The Rust is generic in D and works lambda in plain f64. So there are two arithmetics, the plain one and that of D, which a plain number enters by `plain`: D is the plain one itself (dispersion, and pairs), or dual numbers over it (the pure terms of the chain).
 use lib.Ieee.{Float}
-use mathlib.Core.Bool.{true, false}
-use mathlib.Core.List.{List, [], _∷_}
+use mathlib.Core.Bool.{false}
+use mathlib.Core.List.{List}
 use Rattle.number.specs.Ans.{Ans, held, _>>=_}
 use Rattle.number.specs.Arith.{Arith, decimal}
 use Rattle.number.specs.Lists.{at}
-
--- the rows of C
-abbrev pub c0 : List Float
-c0 = decimal false 81096 5 ∷ decimal false 17888 4 ∷ decimal true 37578 3 ∷ decimal false 92284 3 ∷ []
-
-abbrev pub c1 : List Float
-c1 = decimal false 10205 4 ∷ decimal true 19341 3 ∷ decimal false 15126 2 ∷ decimal true 46350 2 ∷ []
-
-abbrev pub c2 : List Float
-c2 = decimal true 19057 4 ∷ decimal false 22845 3 ∷ decimal true 22814 2 ∷ decimal false 97392 2 ∷ []
-
-abbrev pub c3 : List Float
-c3 = decimal false 10885 4 ∷ decimal true 61962 4 ∷ decimal false 10698 2 ∷ decimal true 67764 2 ∷ []
+use Rattle.mie_parameters.specs.Tables.{c0, c1, c2, c3}
 
 -- What all pairs of a state share: the segment density, zeta_x, k_hs, and the three factors of `b_ij` that hang on zeta_x alone. The Rust works these three anew in each call, from the same zeta_x.
 pub record FluidIn (N : Type 0) : Type 0 where

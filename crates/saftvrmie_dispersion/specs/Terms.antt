@@ -1,11 +1,12 @@
 -- What a pair adds to the three orders of dispersion (saftvrmie/eos/dispersion.rs), in the Rust's order of operations: the first two over the plain arithmetic or dual numbers, the third plain.
 use lib.Ieee.{Float}
-use mathlib.Core.Bool.{true, false}
-use mathlib.Core.List.{List, [], _∷_}
+use mathlib.Core.Bool.{false}
+use mathlib.Core.List.{List}
 use Rattle.number.specs.Ans.{Ans, held, _>>=_}
 use Rattle.number.specs.Arith.{Arith, decimal}
 use Rattle.number.specs.Functions.{Functions}
 use Rattle.number.specs.Lists.{at}
+use Rattle.mie_parameters.specs.Tables.{phi0, phi1, phi2, phi3, phi4, phi5}
 use Rattle.saftvrmie_dispersion.specs.Sutherland.{FluidIn, a1sB}
 
 -- the parameters of a pair, or of a component, in the numbers N
@@ -50,25 +51,6 @@ pub record SumsIn (N : Type 0) : Type 0 where
   pub a2 : N
   pub a3 : N
   pub a-chain : N
-
--- the rows of PHI
-abbrev pub phi0 : List Float
-phi0 = decimal false 75365557 7 ∷ decimal true 3760463 5 ∷ decimal false 71745953 6 ∷ decimal true 4683552 5 ∷ decimal true 2467982 6 ∷ decimal true 50272 5 ∷ decimal false 80956883 7 ∷ []
-
-abbrev pub phi1 : List Float
-phi1 = decimal true 35944 2 ∷ decimal false 18256 1 ∷ decimal true 31680 1 ∷ decimal false 18842 1 ∷ decimal true 82376 5 ∷ decimal true 31935 4 ∷ decimal false 3709 3 ∷ []
-
-abbrev pub phi2 : List Float
-phi2 = decimal false 15509 1 ∷ decimal true 50701 1 ∷ decimal false 65346 1 ∷ decimal true 32887 1 ∷ decimal true 27171 4 ∷ decimal false 20883 4 ∷ decimal false 0 0 ∷ []
-
-abbrev pub phi3 : List Float
-phi3 = decimal true 119932 5 ∷ decimal false 9063632 6 ∷ decimal true 179482 4 ∷ decimal false 1134027 5 ∷ decimal false 2052142 5 ∷ decimal true 566377 4 ∷ decimal false 4053683 5 ∷ []
-
-abbrev pub phi4 : List Float
-phi4 = decimal true 191128 2 ∷ decimal false 21390175 3 ∷ decimal true 513207 1 ∷ decimal false 3706454 2 ∷ decimal false 1103742 3 ∷ decimal true 326461 2 ∷ decimal false 2556181 3 ∷ []
-
-abbrev pub phi5 : List Float
-phi5 = decimal false 92369 1 ∷ decimal true 1294300 1 ∷ decimal false 3572300 1 ∷ decimal true 3155300 1 ∷ decimal false 13902 1 ∷ decimal true 45182 1 ∷ decimal false 42416 1 ∷ []
 
 module _ (A : Arith) where
   open Arith A using (Num, add as _⊕_, sub as _⊖_, mul as _⊗_, div as _⊘_, neg as ⊖_, pow, lit)
@@ -121,10 +103,6 @@ module _ (A : Arith) where
   addPair xi xj t s =
       let xs-ij = xi ⊗ xj in
       record { a1 = s .a1 ⊕ t .a1 ⊗ xs-ij ⊗ two; a2 = s .a2 ⊕ t .a2 ⊗ xs-ij ⊗ (t .xi ⊕ one) ⊗ two; a3 = s .a3 ⊕ t .a3 ⊗ xs-ij ⊗ two; a-chain = s .a-chain }
-
-  -- a1 * t_inv + a2 * t_inv.powi(2) + a3 * t_inv.powi(3)
-  unfoldable pub ordersSum : SumsIn Num → Num → Num
-  ordersSum s t-inv = s .a1 ⊗ t-inv ⊕ s .a2 ⊗ pow t-inv 2 ⊕ s .a3 ⊗ pow t-inv 3
 
 module _ (A D : Arith) (plain : A .Num → D .Num) where
   open Arith A using (add as _+'_, mul as _*'_, pow as pow', lit as lit')

@@ -8,7 +8,8 @@ ghost use Rattle.elementary.specs.Port.{port};
 ghost use Rattle.dual.specs.Dual.{duals, plainD, divD};
 ghost use Rattle.dual.specs.Value.{dualOf};
 ghost use Rattle.saftvrmie_dispersion.specs.Sutherland.{kHs, fluidOf, cRow, zetaEff, a1s, iOf, jOf, bOf};
-ghost use Rattle.saftvrmie_dispersion.specs.Terms.{f, barOf, xiOf, a3Of, x0Of, addPure, addPair, ordersSum, prefOf, a1Of, a2Of, ordersOf, termsOf};
+ghost use Rattle.mie_parameters.specs.Sums.{ordersSum};
+ghost use Rattle.saftvrmie_dispersion.specs.Terms.{f, barOf, xiOf, a3Of, x0Of, addPure, addPair, prefOf, a1Of, a2Of, ordersOf, termsOf};
 ghost use Rattle.saftvrmie_dispersion.specs.Chain.{kOf, rhoDual, zetaDual, fluidDual, g1Of, g2Of, linkPref, gHs, gammaOf, lnGMie, linkOf, addLink, chainPure};
 ghost use Rattle.saftvrmie_dispersion.specs.Answer.{pairOf, fluidIn, fluidDualIn, barIn, fiveIn, fiveDualIn, ordersDualIn, termsIn, sumsIn, kIn, linkIn, fiveAnswer, ordersDualAnswer, termsAnswer, sumsAnswer, kAnswer};
 ghost use Rattle.saftvrmie_dispersion.specs.Staged.{lambdaInside, fiveInside, a1sBAt, fiveAt, lambdas, fiveTested, kTested};
@@ -407,7 +408,7 @@ pub fn add_pair(xi: f64, xj: f64, t: Terms, s: Sums) -> Sums
 }
 
 pub fn orders_sum(s: Sums, t_inv: f64) -> f64
-    ensures { λ r. ⌜ r ≡ ordersSum floats (sumsIn s) «t_inv» ⌝ }
+    ensures { λ r. ⌜ r ≡ ordersSum floats «t_inv» (s .a1) (s .a2) (s .a3) ⌝ }
 {
     s.a1 * t_inv + s.a2 * number::pow_up(t_inv, 2) + s.a3 * number::pow_up(t_inv, 3)
 }

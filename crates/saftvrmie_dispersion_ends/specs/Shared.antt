@@ -2,31 +2,29 @@
 use lib.Ieee.{Float}
 use mathlib.Core.Bool.{false}
 use mathlib.Core.List.{List}
-use Rattle.number.specs.Ans.{Ans, held, _>>=_, demand}
-use Rattle.number.specs.Arith.{Arith, decimal}
+use Rattle.number.specs.Ans.{Ans, held, _>>=_}
+use Rattle.number.specs.Arith.{Arith, decimal, whole}
 use Rattle.number.specs.Functions.{calls, answered₂}
 use Rattle.number.specs.Lists.{at}
 use Rattle.elementary.specs.Port.{port}
 use Rattle.binary_log.specs.declared.Log.{Log}
-use Rattle.power.specs.Power.{exponentInside, exponentOf, powerOf}
+use Rattle.power.specs.Power.{powfAt}
 use Rattle.enclosure.specs.declared.Enclosure.{Enclosure}
 use Rattle.enclosure.specs.Enclosure.{enclosures, point, addE, subE, mulE, divE, negE, powE}
-use Rattle.saftvrmie_dispersion.specs.Sutherland.{FluidIn, cRow, c0, c1, c2, c3, bOf}
-use Rattle.saftvrmie_dispersion.specs.Terms.{BarIn, f, phi0, phi1, phi2, phi3, phi4, phi5}
+use Rattle.saftvrmie_dispersion.specs.Sutherland.{FluidIn, cRow, bOf}
+use Rattle.mie_parameters.specs.Tables.{phi0, phi1, phi2, phi3, phi4, phi5, c0, c1, c2, c3}
+use Rattle.saftvrmie_dispersion.specs.Terms.{BarIn, f}
 use Rattle.saftvrmie_dispersion_ends.specs.declared.LambdaEnclosures.{LambdaEnclosures}
 use Rattle.saftvrmie_dispersion_ends.specs.declared.SixEnclosures.{SixEnclosures}
 
-abbrev whole : Prim.Native.Nat.ℕ → Enclosure
-whole n = point (decimal false n 0)
-
 unfoldable pub lambdaOf : Enclosure → LambdaEnclosures
 lambdaOf lambda =
-    let li = divE (whole 1) lambda in
+    let li = divE (whole enclosures 1) lambda in
     let li2 = mulE li li in
     let li3 = mulE li li2 in
     record {
-      l3 = subE lambda (whole 3);
-      l4 = subE lambda (whole 4);
+      l3 = subE lambda (whole enclosures 3);
+      l4 = subE lambda (whole enclosures 4);
       c0 = cRow enclosures li li2 li3 c0;
       c1 = cRow enclosures li li2 li3 c1;
       c2 = cRow enclosures li li2 li3 c2;
@@ -65,14 +63,14 @@ module _ (D : Arith) (plain : Enclosure → D .Num) where
 
 -- the power y of x0 by the logarithm of its value
 unfoldable pub powerAt : Log → Enclosure → Enclosure → Ans Enclosure
-powerAt l x0 y = answered₂ enclosures (demand 6 (exponentInside (y .value)) >>= λ _. held (powerOf l (exponentOf (y .value)))) x0 y
+powerAt l x0 y = answered₂ enclosures (powfAt l (y .value)) x0 y
 
 -- `f` from alpha and its powers 2 and 3
 unfoldable pub fBy : List Float → Enclosure → Enclosure → Enclosure → Enclosure
 fBy phi alpha alpha2 alpha3 =
     divE
     (addE (addE (addE (mulE alpha (point (at phi 1))) (mulE alpha2 (point (at phi 2)))) (mulE alpha3 (point (at phi 3)))) (point (at phi 0)))
-    (addE (addE (addE (mulE alpha (point (at phi 4))) (mulE alpha2 (point (at phi 5)))) (mulE alpha3 (point (at phi 6)))) (whole 1))
+    (addE (addE (addE (mulE alpha (point (at phi 4))) (mulE alpha2 (point (at phi 5)))) (mulE alpha3 (point (at phi 6)))) (whole enclosures 1))
 
 unfoldable pub sixOf : Enclosure → SixEnclosures
 sixOf alpha =

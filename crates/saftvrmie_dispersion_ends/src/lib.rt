@@ -4,8 +4,10 @@ ghost use Rattle.number.specs.Functions.{calls};
 ghost use Rattle.elementary.specs.Port.{port};
 ghost use Rattle.enclosure.specs.Answer.{answer};
 ghost use Rattle.enclosure.specs.Enclosure.{enclosures, point};
-ghost use Rattle.saftvrmie_dispersion.specs.Sutherland.{kHs, fluidOf, c0, c1, c2, c3, cRow, bOf, a1sB};
-ghost use Rattle.saftvrmie_dispersion.specs.Terms.{phi0, phi1, phi2, phi3, phi4, phi5, barOf, x0Of, five, prefOf, a1Of, a2Of, termsOf, addPure, addPair, ordersSum};
+ghost use Rattle.saftvrmie_dispersion.specs.Sutherland.{kHs, fluidOf, cRow, bOf, a1sB};
+ghost use Rattle.mie_parameters.specs.Tables.{phi0, phi1, phi2, phi3, phi4, phi5, c0, c1, c2, c3};
+ghost use Rattle.mie_parameters.specs.Sums.{ordersSum};
+ghost use Rattle.saftvrmie_dispersion.specs.Terms.{barOf, x0Of, five, prefOf, a1Of, a2Of, termsOf, addPure, addPair};
 ghost use Rattle.saftvrmie_dispersion.specs.Answer.{pairIn};
 ghost use Rattle.saftvrmie_dispersion_ends.specs.Shared.{lambdaOf, zetaEffBy, a1sBy, iBy, jBy, a1sBBy, powerAt, fBy, sixOf, xiBy, a3By};
 ghost use Rattle.saftvrmie_dispersion_ends.specs.Answer.{fluidIn, barIn, fiveIn, fiveAnswer, termsIn, termsAnswer, sumsIn};
@@ -587,7 +589,7 @@ pub fn add_pair(
 }
 
 pub fn orders_sum(s: SumsEnclosures, t_inv: Enclosure) -> Enclosure
-    ensures { λ r. ⌜ r ≡ ordersSum enclosures (sumsIn s) «t_inv» ⌝ }
+    ensures { λ r. ⌜ r ≡ ordersSum enclosures «t_inv» (s .a1) (s .a2) (s .a3) ⌝ }
 {
     enclosure::add(
         enclosure::add(

@@ -16,7 +16,7 @@ use Rattle.number.specs.Functions.{calls}
 use Rattle.number.specs.Side.{side}
 use Rattle.number.specs.Walk.{turns}
 use Rattle.elementary.specs.Port.{port}
-use Rattle.limits.specs.Limits.{countWithin}
+use Rattle.limits.specs.Limits.{countWithin, stateWithin}
 use Rattle.mie_parameters.proofs.Laws.{and-left, and-right, count-high}
 use Rattle.saftvrmie_parameters.specs.declared.SaftVRMiePars.{SaftVRMiePars}
 use Rattle.dual.specs.Dual.{DualOf}
@@ -29,7 +29,7 @@ use Rattle.saftvrmie_dispersion.specs.Staged.{kTested}
 use Rattle.saftvrmie_dispersion.specs.declared.FluidDual.{FluidDual}
 use Rattle.saftvrmie_energies.specs.Properties.{afterLower, properties}
 use Rattle.saftvrmie_energies.specs.declared.Properties.{Properties}
-use Rattle.saftvrmie_energies.specs.Energies.{packingOf, rightLists, withinLimits, energyRun, energyBy, energy}
+use Rattle.saftvrmie_energies.specs.Energies.{packingOf, rightLists, energyRun, energyBy, energy}
 
 same : {S : Type 0} (n : ℕ) (f : ℕ → S → S) (s : S) → ((i : ℕ) (x : S) → f i x ≡ x) → turns n f s ≡ s
 unfolding turns
@@ -98,11 +98,11 @@ module _ (s : SaftVRMiePars) (t : Float) (x rho d : List Float) (chain : Bool) w
   refuses-1 p = rw p
 
   module _ (p : rightLists (s .count) (length x) (length rho) (length d) ≡ true) where
-    pub refuses-2 : withinLimits (s .count) t x rho ≡ false → refused 2 ≡ energy s t x rho d chain
+    pub refuses-2 : stateWithin (s .count) t x rho ≡ false → refused 2 ≡ energy s t x rho d chain
     unfolding energyBy demand _>>=_
     refuses-2 q = rw (p, q)
 
-    module _ (q : withinLimits (s .count) t x rho ≡ true) where
+    module _ (q : stateWithin (s .count) t x rho ≡ true) where
       pub refuses-6 : energyRun floats (calls floats port) s t x rho d chain ≡ refused 6 → refused 6 ≡ energy s t x rho d chain
       unfolding energyBy demand _>>=_
       refuses-6 r = rw (p, q, r)

@@ -18,7 +18,10 @@ use Rattle.saftvrmie_dispersion.specs.Sutherland.{FluidIn}
 use Rattle.saftvrmie_dispersion.specs.Terms.{PairIn, BarIn, SumsIn}
 use Rattle.saftvrmie_dispersion.specs.Chain.{KIn, LinkIn}
 use Rattle.saftvrmie_dispersion.proofs.Relation.{Pairs, Fluids, Bars, AllSums, Ks, Links, kHs-rel, fluidOf-rel, barOf-rel, addPure-rel, addPair-rel, ordersSum-rel, fluidDual-rel, termsOf-rel, kOf-rel, chainPure-rel}
-use Rattle.saftvrmie_energies.specs.Properties.{PropertiesIn, total, weighted, xsOf, nth, dIj, d3Ij, s3Ij, zetaTurn, zetaRow, zetaSum, afterLower, properties}
+use Rattle.mie_parameters.specs.Places.{inPlaces}
+use Rattle.mie_parameters.specs.Sums.{weighted}
+use Rattle.number.specs.Lists.{nth}
+use Rattle.saftvrmie_energies.specs.Properties.{PropertiesIn, total, xsOf, dIj, d3Ij, s3Ij, zetaTurn, zetaRow, zetaSum, afterLower, properties}
 use Rattle.saftvrmie_energies.specs.Dispersion.{StateIn, noSums, pairTurn, pairRow, dispRow, chainRow, dispRows, chainRows, dispersion, dispersionChain}
 use Rattle.saftvrmie_energies.specs.Energies.{stateIn, energyRun}
 
@@ -77,7 +80,7 @@ module _ (A B : Arith) (K : Rel A B) where
   weighted-rel n f m g k h q = turns-rel R n _ _ (λ i _ _ p. r-add p (r-mul (h i) (q i))) (r-lit _)
 
   xsOf-rel : (n : ℕ) (x m : ℕ → A .Num) (u k : ℕ → B .Num) (a : A .Num) (b : B .Num) → Each x u → Each m k → R a b → Each (nth A (xsOf A n x m a)) (nth B (xsOf B n u k b))
-  unfolding xsOf
+  unfolding xsOf inPlaces
   xsOf-rel n x m u k a b h q p i =
       nth-rel R (r-lit nan) _ _ (turns-rel (All R) n _ _ (λ j l l' t. set-rel R l l' j _ _ t (r-div (r-mul (h j) (q j)) p)) (replicate-rel R side _ _ (r-lit zero64))) i
 

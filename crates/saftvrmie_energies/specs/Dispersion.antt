@@ -4,12 +4,14 @@ use mathlib.Core.Bool.{false}
 use Rattle.number.specs.Ans.{Ans, held, _>>=_}
 use Rattle.number.specs.Arith.{Arith, decimal, zero64}
 use Rattle.number.specs.Functions.{Functions}
+use Rattle.number.specs.Lists.{nth}
 use Rattle.number.specs.Walk.{walk}
 use Rattle.dual.specs.Dual.{DualOf}
+use Rattle.mie_parameters.specs.Sums.{weighted, ordersSum}
 use Rattle.saftvrmie_dispersion.specs.Sutherland.{FluidIn, kHs, fluidOf}
-use Rattle.saftvrmie_dispersion.specs.Terms.{PairIn, BarIn, SumsIn, barOf, addPure, addPair, ordersSum, termsOf}
+use Rattle.saftvrmie_dispersion.specs.Terms.{PairIn, BarIn, SumsIn, barOf, addPure, addPair, termsOf}
 use Rattle.saftvrmie_dispersion.specs.Chain.{KIn, LinkIn, fluidDual, chainPure}
-use Rattle.saftvrmie_energies.specs.Properties.{PropertiesIn, total, weighted, xsOf, nth, dIj, properties}
+use Rattle.saftvrmie_energies.specs.Properties.{PropertiesIn, total, xsOf, dIj, properties}
 
 -- what an energy is made from: component i, pair (i, j), and the state
 pub record StateIn (N : Type 0) : Type 0 where
@@ -84,7 +86,7 @@ module _ (A : Arith) (F : Functions (A .Num)) where
         propertiesAt >>= λ q.
         let w = fluidOf A (q .segment-density) (q .zeta-x) (kHs A (q .zeta-x)) in
         dispRows n xsAt (s .diameter) (s .pair) w (barOf A (q .zeta-x-bar)) (s .pure) >>= λ a.
-        held (after (q .k .k0) (after (q .k .k1) (after (q .k .k2) (after (q .k .k3) (total A n (s .density) ⊗ meanAt ⊗ ordersSum A a tInv)))))
+        held (after (q .k .k0) (after (q .k .k1) (after (q .k .k2) (after (q .k .k3) (total A n (s .density) ⊗ meanAt ⊗ ordersSum A tInv (a .a1) (a .a2) (a .a3))))))
 
     -- k_hs of the pairs is the value of the one with slopes
     unfoldable pub dispersionChain : Ans Num
@@ -93,4 +95,4 @@ module _ (A : Arith) (F : Functions (A .Num)) where
         let v = fluidDual A (q .zeta-x) (q .segment-density) in
         let w = fluidOf A (q .segment-density) (q .zeta-x) (v .k-hs .re) in
         chainRows n xsAt (s .diameter) (s .pair) w (barOf A (q .zeta-x-bar)) (s .pure) v (q .k) linkAt >>= λ a.
-        held (total A n (s .density) ⊗ (meanAt ⊗ ordersSum A a tInv ⊕ a .a-chain))
+        held (total A n (s .density) ⊗ (meanAt ⊗ ordersSum A tInv (a .a1) (a .a2) (a .a3) ⊕ a .a-chain))

@@ -12,12 +12,14 @@ use Rattle.number.specs.Functions.{Answers, Functions, calls}
 use Rattle.number.specs.Lists.{at}
 use Rattle.number.specs.Side.{sheet, cell}
 use Rattle.elementary.specs.Port.{port}
-use Rattle.limits.specs.Limits.{countWithin, temperatureWithin, sharesWithin}
+use Rattle.limits.specs.Limits.{countWithin, stateWithin}
 use Rattle.saftvrmie_parameters.specs.declared.PairParameters.{PairParameters}
 use Rattle.saftvrmie_parameters.specs.declared.SaftVRMiePars.{SaftVRMiePars}
+use Rattle.mie_parameters.specs.Sums.{weighted}
+use Rattle.saftvrmie_parameters.specs.Parameters.{pairAt}
 use Rattle.saftvrmie_dispersion.specs.Terms.{PairIn}
 use Rattle.saftvrmie_dispersion.specs.Answer.{pairIn}
-use Rattle.saftvrmie_energies.specs.Properties.{weighted, d3Ij, s3Ij, zetaSum}
+use Rattle.saftvrmie_energies.specs.Properties.{d3Ij, s3Ij, zetaSum}
 use Rattle.saftvrmie_energies.specs.Dispersion.{StateIn, dispersion, dispersionChain}
 use Rattle.saftvrmie_energies.specs.declared.Properties.{Properties}
 use Rattle.saftvrmie_energies.specs.declared.EnergyAnswer.{EnergyAnswer}
@@ -41,18 +43,6 @@ packingOf n xs density d m pair =
     }
 
 -- ---- what is read where
-
--- a pair: all of the sheets, at (i, j)
-abbrev pub pairAt : List Float → ℕ → ℕ → PairParameters
-pairAt s i j =
-    record {
-      sigma = at s (cell i j);
-      «epsilon_k» = at s (1 * sheet + cell i j);
-      lr = at s (2 * sheet + cell i j);
-      la = at s (3 * sheet + cell i j);
-      c = at s (4 * sheet + cell i j);
-      alpha = at s (5 * sheet + cell i j);
-    }
 
 -- a component: 'VR Mie's pure terms read sigma, epsilon_k, la and lr of the component lists'; c and alpha stand at (i, i) of their sheets
 abbrev pub pureAt : List Float → List Float → List Float → List Float → List Float → ℕ → PairParameters
@@ -85,21 +75,17 @@ stateIn lit p t x rho d =
 unfoldable pub rightLists : ℕ → ℕ → ℕ → ℕ → Bool
 rightLists n x rho d = countWithin n && eqb x n && eqb rho n && eqb d n
 
--- 2: the temperature, a mole fraction or a density is outside; diameters are read as they are
-unfoldable pub withinLimits : ℕ → Float → List Float → List Float → Bool
-withinLimits n t x rho = temperatureWithin t && sharesWithin n (at x) && sharesWithin n (at rho)
-
 -- dispersion, or dispersion with chain, in any run
 unfoldable pub energyRun : (A : Arith) → Functions (A .Num) → SaftVRMiePars → Float → List Float → List Float → List Float → Bool → Ans (A .Num)
 energyRun A F p t x rho d chain =
     let s = stateIn (A .lit) p t x rho d in
     cond chain (dispersionChain A F (p .count) s) (dispersion A F (p .count) s)
 
--- 1; 2; 6 anywhere on the way; then 7 if the energy is not finite, whatever the elementary functions answer
+-- 1; 2, diameters being read as they are; 6 anywhere on the way; then 7 if the energy is not finite, whatever the elementary functions answer
 unfoldable pub energyBy : Answers → SaftVRMiePars → Float → List Float → List Float → List Float → Bool → Ans Float
 energyBy E p t x rho d chain =
     demand 1 (rightLists (p .count) (length x) (length rho) (length d)) >>= λ _.
-    demand 2 (withinLimits (p .count) t x rho) >>= λ _.
+    demand 2 (stateWithin (p .count) t x rho) >>= λ _.
     energyRun floats (calls floats E) p t x rho d chain >>= λ v.
     demand 7 (finite v) >>= λ _.
     held v

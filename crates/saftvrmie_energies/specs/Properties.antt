@@ -1,14 +1,13 @@
 -- `Properties::new` of saftvrmie/eos/dispersion.rs over any arithmetic, in the Rust's order of operations. Lists are read through functions of the index.
 use Prim.Native.Nat.{ℕ, _+_, _-_}
-use lib.Ieee.{nan}
-use lib.ListN.{getD, set, replicate}
 use mathlib.Core.Bool.{false}
 use mathlib.Core.List.{List}
 use Rattle.number.specs.Ans.{Ans, held, _>>=_}
 use Rattle.number.specs.Arith.{Arith, decimal, zero64}
 use Rattle.number.specs.Functions.{Functions}
-use Rattle.number.specs.Side.{side}
 use Rattle.number.specs.Walk.{turns}
+use Rattle.mie_parameters.specs.Places.{inPlaces}
+use Rattle.mie_parameters.specs.Sums.{weighted}
 use Rattle.saftvrmie_dispersion.specs.Terms.{PairIn}
 use Rattle.saftvrmie_dispersion.specs.Chain.{KIn, kOf}
 
@@ -29,17 +28,9 @@ module _ (A : Arith) where
   unfoldable pub total : ℕ → (ℕ → Num) → Num
   total n v = turns n (λ i s. s ⊕ v i) (lit zero64)
 
-  -- v.component_mul(&m).sum()
-  unfoldable pub weighted : ℕ → (ℕ → Num) → (ℕ → Num) → Num
-  weighted n v m = turns n (λ i s. s ⊕ v i ⊗ m i) (lit zero64)
-
-  -- segment_molefracs, in their places: +0 where unused
+  -- segment_molefracs, in their places
   unfoldable pub xsOf : ℕ → (ℕ → Num) → (ℕ → Num) → Num → List Num
-  xsOf n x m mean = turns n (λ i l. set l i (x i ⊗ m i ⊘ mean)) (replicate side (lit zero64))
-
-  -- entry i; beyond the list it is not read
-  abbrev pub nth : List Num → ℕ → Num
-  nth l i = getD l i (lit nan)
+  xsOf n x m mean = inPlaces A n (λ i. x i ⊗ m i ⊘ mean)
 
   -- `d_ij`, `d3_ij`, and sigma_ij.powi(3)
   unfoldable pub dIj : (ℕ → Num) → ℕ → ℕ → Num
@@ -71,7 +62,7 @@ module _ (A : Arith) where
   -- what of `Properties::new` hangs on the segment fractions: from these, densities, diameters, segment numbers and the sheets
   unfoldable pub properties : Functions Num → ℕ → (ℕ → Num) → (ℕ → Num) → (ℕ → Num) → (ℕ → Num) → (ℕ → ℕ → PairIn Num) → Ans (PropertiesIn Num)
   properties F n xs density d m pair =
-      let rho = weighted n density m in
+      let rho = weighted A n density m in
       let zeta-x = afterLower n (d3Ij d) (zetaSum n xs (d3Ij d) ⊗ (rho ⊗ F .frac-pi-6)) in
       let zeta-x-bar = zetaSum n xs (s3Ij pair) ⊗ (rho ⊗ F .frac-pi-6) in
       kOf A F zeta-x >>= λ k.

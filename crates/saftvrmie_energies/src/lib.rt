@@ -10,9 +10,12 @@ ghost use Rattle.number.specs.Side.{side};
 ghost use Rattle.number.specs.Walk.{walk};
 ghost use Rattle.elementary.specs.Port.{port};
 ghost use Rattle.saftvrmie_dispersion.specs.Answer.{pairOf, fluidIn, fluidDualIn, barIn, sumsIn, kIn, linkIn, sumsAnswer};
-ghost use Rattle.saftvrmie_energies.specs.Properties.{total, weighted, xsOf, dIj, d3Ij, s3Ij, zetaRow, zetaSum};
+ghost use Rattle.mie_parameters.specs.Sums.{weighted};
+ghost use Rattle.saftvrmie_energies.specs.Properties.{total, xsOf, dIj, d3Ij, s3Ij, zetaRow, zetaSum};
 ghost use Rattle.saftvrmie_energies.specs.Dispersion.{pairTurn, pairRow, dispRow, chainRow, dispRows, chainRows, dispersion, dispersionChain};
-ghost use Rattle.saftvrmie_energies.specs.Energies.{packingOf, energyAnswer, pairAt, pureAt, stateIn, rightLists, withinLimits, energyRun, energy};
+ghost use Rattle.limits.specs.Limits.{stateWithin};
+ghost use Rattle.saftvrmie_parameters.specs.Parameters.{pairAt};
+ghost use Rattle.saftvrmie_energies.specs.Energies.{packingOf, energyAnswer, pureAt, stateIn, rightLists, energyRun, energy};
 use number::FloatAnswer;
 use number::SIDE;
 use saftvrmie_dispersion::Bar;
@@ -465,7 +468,7 @@ pub fn right_lists(n: usize, x: usize, rho: usize, d: usize) -> bool
 // The lists are as long as the count: both operations refuse others with 1 before they ask.
 pub fn within_limits(n: usize, temperature: f64, x: &[f64], rho: &[f64]) -> bool
     requires { ⌜ (length (now x) ≡ n) × (length (now rho) ≡ n) ⌝ }
-    ensures { λ r. ⌜ r ≡ withinLimits n temperature (now (x .entry)) (now (rho .entry)) ⌝ }
+    ensures { λ r. ⌜ r ≡ stateWithin n temperature (now (x .entry)) (now (rho .entry)) ⌝ }
 {
     limits::temperature_within(temperature)
         & limits::shares_within(n, x)

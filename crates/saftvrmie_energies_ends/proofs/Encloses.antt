@@ -16,7 +16,8 @@ use Rattle.enclosure.specs.Ends.{Encloses, endsAlone}
 use Rattle.enclosure.proofs.Relations.{Value, values, contains}
 use Rattle.enclosure.proofs.TwoEnds.{operation-1, operation-2, operation-alone, operation-encloses}
 use Rattle.saftvrmie_parameters.specs.declared.SaftVRMiePars.{SaftVRMiePars}
-use Rattle.saftvrmie_energies.specs.Energies.{rightLists, withinLimits, energyRun, energyBy}
+use Rattle.limits.specs.Limits.{stateWithin}
+use Rattle.saftvrmie_energies.specs.Energies.{rightLists, energyRun, energyBy}
 use Rattle.saftvrmie_energies.proofs.Relation.{energyRun-rel}
 use Rattle.saftvrmie_energies_ends.specs.Operation.{dispersionEnds}
 
@@ -32,12 +33,12 @@ module _ (E : Answers) (s : SaftVRMiePars) (t : Float) (x rho d : List Float) (c
   refuses-1 = operation-1 run-values _ _
 
   module _ (p : rightLists (s .count) (length x) (length rho) (length d) ≡ true) where
-    pub refuses-2 : withinLimits (s .count) t x rho ≡ false → refused 2 ≡ dispersionEnds E s t x rho d chain
+    pub refuses-2 : stateWithin (s .count) t x rho ≡ false → refused 2 ≡ dispersionEnds E s t x rho d chain
     unfolding dispersionEnds energyBy
     refuses-2 = operation-2 run-values _ _ p
 
     -- 6, 7, 8 or the ends, from the two-ended run
-    pub ends-are : withinLimits (s .count) t x rho ≡ true → (a : Ans Enclosure) (r : Ans Ends) → a ≡ energyRun enclosures (calls enclosures E) s t x rho d chain → r ≡ endsAlone a → r ≡ dispersionEnds E s t x rho d chain
+    pub ends-are : stateWithin (s .count) t x rho ≡ true → (a : Ans Enclosure) (r : Ans Ends) → a ≡ energyRun enclosures (calls enclosures E) s t x rho d chain → r ≡ endsAlone a → r ≡ dispersionEnds E s t x rho d chain
     unfolding dispersionEnds energyBy
     ends-are q a r g h = h ∙ (ap endsAlone g ∙ operation-alone run-values _ _ p q)
 

@@ -10,7 +10,7 @@ ghost use Rattle.elementary.specs.Port.{port};
 ghost use Rattle.enclosure.specs.Answer.{answer, ends};
 ghost use Rattle.enclosure.specs.Enclosure.{enclosures, addE, mulE, divE, afterE, point};
 ghost use Rattle.saftvrmie_dispersion.specs.Answer.{pairIn};
-ghost use Rattle.saftvrmie_energies.specs.Properties.{nth};
+ghost use Rattle.number.specs.Lists.{nth};
 ghost use Rattle.saftvrmie_energies.specs.Dispersion.{pairTurn, pairRow, dispRow, chainRow, dispRows, chainRows, dispersion, dispersionChain};
 ghost use Rattle.saftvrmie_energies.specs.Energies.{pureAt, stateIn, energyRun};
 ghost use Rattle.saftvrmie_dispersion_ends.specs.Answer.{fluidIn, barIn, sumsIn, sumsAnswer};

@@ -8,6 +8,7 @@ use lib.Ieee.{Float}
 use mathlib.Core.List.{List}
 use borrow.Author.Tests.{eqb-true}
 use Rattle.number.specs.Ans.{Ans, held, refused, _>>=_, demand}
+use Rattle.number.specs.Arith.{floats}
 use Rattle.number.specs.Lists.{at}
 use Rattle.number.specs.Side.{side, cell}
 use Rattle.number.proofs.Walk.{via}
@@ -107,7 +108,7 @@ module _ (l : Lists) where
   refuses-6 k p q t = rw (p, q, t)
 
   pub holds : (x m s e r a : List Float) → rightLengths l ≡ true → Within l ≡ true → sheetsIn l ≡ held x
-      → m ≡ inPlaces (l .count) (l .m) → s ≡ inPlaces (l .count) (l .sigma) → e ≡ inPlaces (l .count) (l .epsilon-k) → r ≡ inPlaces (l .count) (l .lr) → a ≡ inPlaces (l .count) (l .la)
+      → m ≡ inPlaces floats (l .count) (at (l .m)) → s ≡ inPlaces floats (l .count) (at (l .sigma)) → e ≡ inPlaces floats (l .count) (at (l .epsilon-k)) → r ≡ inPlaces floats (l .count) (at (l .lr)) → a ≡ inPlaces floats (l .count) (at (l .la))
       → record { answer = Held; set = record { count = l .count; m = m; sigma = s; «epsilon_k» = e; lr = r; la = a; sheets = x } } ≡ given (saftVRMiePars l)
   unfolding saftVRMiePars demand _>>=_ given
   holds x m s e r a p q t u v w y z = rw (p, q, t, u, v, w, y, z)

@@ -79,6 +79,18 @@ unfoldable pub storePair : List Float → ℕ → PairParameters → List Float
 storePair s e p =
     set (set (set (set (set (set s e (p .sigma)) (1 * sheet + e) (p .«epsilon_k»)) (2 * sheet + e) (p .lr)) (3 * sheet + e) (p .la)) (4 * sheet + e) (p .c)) (5 * sheet + e) (p .alpha)
 
+-- the sheets at (i, j)
+abbrev pub pairAt : List Float → ℕ → ℕ → PairParameters
+pairAt s i j =
+    record {
+      sigma = at s (cell i j);
+      «epsilon_k» = at s (1 * sheet + cell i j);
+      lr = at s (2 * sheet + cell i j);
+      la = at s (3 * sheet + cell i j);
+      c = at s (4 * sheet + cell i j);
+      alpha = at s (5 * sheet + cell i j);
+    }
+
 module _ (n : ℕ) (c : ℕ → Component) (k gamma : ℕ → ℕ → Float) where
   -- pair (i, j) into its entry; pairs row by row
   unfoldable pub sheetsTurn : ℕ → ℕ → List Float → Ans (List Float)
@@ -99,11 +111,11 @@ saftVRMiePars l =
     sheetsOf (l .count) (componentOf l) (square (l .count) (l .k-ij)) (square (l .count) (l .gamma-ij)) >>= λ s.
     held (record {
       count = l .count;
-      m = inPlaces (l .count) (l .m);
-      sigma = inPlaces (l .count) (l .sigma);
-      «epsilon_k» = inPlaces (l .count) (l .epsilon-k);
-      lr = inPlaces (l .count) (l .lr);
-      la = inPlaces (l .count) (l .la);
+      m = inPlaces floats (l .count) (at (l .m));
+      sigma = inPlaces floats (l .count) (at (l .sigma));
+      «epsilon_k» = inPlaces floats (l .count) (at (l .epsilon-k));
+      lr = inPlaces floats (l .count) (at (l .lr));
+      la = inPlaces floats (l .count) (at (l .la));
       sheets = s;
     })
 

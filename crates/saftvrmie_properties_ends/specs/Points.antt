@@ -7,7 +7,7 @@ use Rattle.enclosure.specs.declared.Enclosure.{Enclosure}
 use Rattle.enclosure.specs.Enclosure.{point}
 use Rattle.saftvrmie_dispersion.specs.Terms.{PairIn}
 use Rattle.saftvrmie_dispersion.specs.Answer.{pairIn}
-use Rattle.saftvrmie_energies.specs.Energies.{pairAt}
+use Rattle.saftvrmie_parameters.specs.Parameters.{pairAt}
 
 abbrev pub points : List Float → ℕ → Enclosure
 points l i = point (at l i)

@@ -10,7 +10,7 @@ use lib.Dec.{eqb}
 use borrow.Author.Tests.{eqb-true}
 use lib.ListN.{length, getD, set, take, drop, length-drop, length-set, drop-of-length-le}
 use lib.Seq.{paste-suc, getD-drop, take-at, drop-at, take-add, drop-drop, length-take-le, take-all}
-use Rattle.mie_parameters.specs.Answer.{verdict, kept}
+use Rattle.mie_parameters.specs.Answer.{verdict, stored}
 use Rattle.number.specs.Ans.{Ans, held, refused, _>>=_, demand}
 use Rattle.number.specs.Arith.{floats}
 use Rattle.number.specs.Functions.{calls}
@@ -23,13 +23,13 @@ use Rattle.mie_parameters.specs.declared.ParameterAnswer.the-variants.{Held, Re
 use Rattle.mie_parameters.proofs.Laws.{and-left, and-right, count-high}
 use Rattle.saftvrqmie_parameters.specs.declared.OrderRecord.{OrderRecord}
 use Rattle.saftvrqmie_parameters.specs.declared.SaftVRQMiePars.{SaftVRQMiePars}
-use Rattle.saftvrqmie_potential.specs.Potential.{pairIn}
+use Rattle.saftvrqmie_potential.specs.Potential.{pairIn, pairAt}
 use Rattle.saftvrqmie_potential.specs.declared.Pair.{Pair}
 use Rattle.saftvrqmie_properties.specs.Properties.{PropertiesIn, propertiesIn, propertiesAnswer, pairProperties}
 use Rattle.saftvrqmie_properties.specs.declared.PairProperties.{PairProperties}
 use Rattle.saftvrqmie_properties.specs.declared.PropertiesAnswer.{PropertiesAnswer}
 use Rattle.saftvrqmie_properties.specs.declared.PropertiesAnswer.the-variants.{At, Outside}
-use Rattle.saftvrqmie.specs.Table.{Lent, pairAt, store, workTurn, workRow, workPairs, blank, allFinite, rightLists, temperatureTable}
+use Rattle.saftvrqmie.specs.Table.{Lent, store, workTurn, workRow, workPairs, blank, allFinite, rightLists, temperatureTable}
 
 -- a loop that copies v from `from` on over d
 module _ {A : Type 0} (v d : List A) (from : ℕ) where
@@ -118,13 +118,13 @@ module _ (s : SaftVRQMiePars) (t : Float) (l : Lent) where
       holds w p q = rw (right, h, p, q)
 
 pub refused-done : (q : Ans Lent) (l : Lent) (r : ParameterAnswer) (m : ℕ) → q ≡ refused m → r ≡ Refused m
-    → (r ≡ verdict q) × (l .values ≡ kept l q .values) × (l .numbers ≡ kept l q .numbers)
-unfolding verdict kept
+    → (r ≡ verdict q) × (l .values ≡ stored l q .values) × (l .numbers ≡ stored l q .numbers)
+unfolding verdict stored
 refused-done q l r m p e = rw p (e, refl, refl)
 
 pub held-done : (q : Ans Lent) (l w : Lent) (x : List Float) (y : List ℕ) → q ≡ held w → x ≡ w .values → y ≡ w .numbers
-    → (Held ≡ verdict q) × (x ≡ kept l q .values) × (y ≡ kept l q .numbers)
-unfolding verdict kept
+    → (Held ≡ verdict q) × (x ≡ stored l q .values) × (y ≡ stored l q .numbers)
+unfolding verdict stored
 held-done q l w x y p d e = rw p (refl, d, e)
 
 -- four parts, each its own write

@@ -11,10 +11,9 @@ use Rattle.number.specs.Side.{cell}
 use Rattle.elementary.specs.Port.{port}
 use Rattle.limits.specs.Limits.{indexWithin, temperatureWithin}
 use Rattle.saftvrqmie_parameters.specs.declared.SaftVRQMiePars.{SaftVRQMiePars}
-use Rattle.saftvrqmie_potential.specs.Potential.{pairIn}
+use Rattle.saftvrqmie_potential.specs.Potential.{pairIn, pairAt}
 use Rattle.saftvrqmie_potential.specs.declared.Pair.{Pair}
 use Rattle.saftvrqmie_searches.specs.Diameter.{diameter}
-use Rattle.saftvrqmie.specs.Table.{pairAt}
 use Rattle.saftvrqmie.specs.Pairs.{SearchesIn, pairSearches, searches, diameterIjBy, diameterIj}
 
 module _ (s : SaftVRQMiePars) (i j : ℕ) (t : Float) where

@@ -9,12 +9,10 @@ use Rattle.number.specs.Side.{cell}
 use Rattle.elementary.specs.Port.{port}
 use Rattle.limits.specs.Limits.{indexWithin, temperatureWithin}
 use Rattle.saftvrqmie_parameters.specs.declared.SaftVRQMiePars.{SaftVRQMiePars}
-use Rattle.saftvrqmie_potential.specs.Potential.{PairIn, pairIn}
-use Rattle.saftvrqmie_potential.specs.declared.Pair.{Pair}
+use Rattle.saftvrqmie_potential.specs.Potential.{PairIn, pointsOf, pairIn, pairAt}
 use Rattle.saftvrqmie_searches.specs.Searches.{Counted, searchIn, sigmaEff, zeroIntegrand, epsilonKEff}
 use Rattle.saftvrqmie_searches.specs.Diameter.{diameter}
 use Rattle.saftvrqmie_properties.specs.Properties.{radiusOf}
-use Rattle.saftvrqmie.specs.Table.{pairAt}
 use Rattle.saftvrqmie.specs.declared.PairSearches.{PairSearches}
 use Rattle.saftvrqmie.specs.declared.SearchesAnswer.{SearchesAnswer}
 use Rattle.saftvrqmie.specs.declared.SearchesAnswer.the-variants.{Searched, Refused}
@@ -52,20 +50,6 @@ searches s i j t =
     demand 1 (indexWithin (s .count) i j) >>= λ _.
     demand 2 (temperatureWithin t) >>= λ _.
     pairSearches floats (calls floats port) (pairIn (pairAt (s .sheets) (s .orders) t (cell i j)))
-
--- a pair as a run reads it: each number a point
-abbrev pub pointsOf : (A : Arith) → Pair → PairIn (A .Num)
-pointsOf A p =
-    record {
-      sigma = A .lit (p .sigma);
-      epsilon-k = A .lit (p .«epsilon_k»);
-      c = A .lit (p .c);
-      lr = A .lit (p .lr);
-      la = A .lit (p .la);
-      mass = A .lit (p .mass);
-      order = p .order;
-      temperature = A .lit (p .temperature);
-    }
 
 -- a run of the diameter from searched radii: the set's numbers, the temperature and both radii are read as they are
 abbrev pub diameterRun : (A : Arith) → Answers → SaftVRQMiePars → ℕ → ℕ → Float → Float → Float → Ans (A .Num)

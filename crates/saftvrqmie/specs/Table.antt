@@ -3,7 +3,7 @@ use Prim.Native.Nat.{ℕ, _+_, _*_}
 use lib.Dec.{eqb}
 use lib.Ieee.{Float}
 use lib.Ieee.Scale.{finite}
-use lib.ListN.{getD, length, set, replicate}
+use lib.ListN.{length, set, replicate}
 use mathlib.Core.List.{List, []}
 use mathlib.Core.Bool.{Bool, _&&_}
 use Rattle.number.specs.Ans.{Ans, held, _>>=_, demand}
@@ -14,31 +14,15 @@ use Rattle.number.specs.Side.{sheet, cell}
 use Rattle.number.specs.Walk.{every, walk}
 use Rattle.elementary.specs.Port.{port}
 use Rattle.limits.specs.Limits.{countWithin, temperatureWithin}
-use Rattle.saftvrqmie_parameters.specs.Parameters.{unused}
 use Rattle.saftvrqmie_parameters.specs.declared.OrderRecord.{OrderRecord}
 use Rattle.saftvrqmie_parameters.specs.declared.SaftVRQMiePars.{SaftVRQMiePars}
-use Rattle.saftvrqmie_potential.specs.Potential.{pairIn}
-use Rattle.saftvrqmie_potential.specs.declared.Pair.{Pair}
+use Rattle.saftvrqmie_potential.specs.Potential.{pairIn, pairAt}
 use Rattle.saftvrqmie_properties.specs.Properties.{PropertiesIn, pairProperties}
 
 -- the two lists: '256 floats, and 192 bytes of counts'
 pub record Lent : Type 0 where
   pub values : List Float
   pub numbers : List ℕ
-
--- what a set holds at entry e of its sheets
-abbrev pub pairAt : List Float → List OrderRecord → Float → ℕ → Pair
-pairAt s orders t e =
-    record {
-      sigma = at s e;
-      «epsilon_k» = at s (1 * sheet + e);
-      c = at s (2 * sheet + e);
-      lr = at s (3 * sheet + e);
-      la = at s (4 * sheet + e);
-      mass = at s (5 * sheet + e);
-      order = getD orders e unused .order;
-      temperature = t;
-    }
 
 -- 'sigma_eff, hs_diameter, epsilon_k_eff, quantum_d'; 'sheets for sigma, zero, depth'
 unfoldable pub store : Lent → ℕ → PropertiesIn Float → Lent

@@ -6,10 +6,10 @@ ghost use Rattle.number.specs.Arith.{floats};
 ghost use Rattle.number.specs.Functions.{calls};
 ghost use Rattle.number.specs.Side.{side, sheet};
 ghost use Rattle.elementary.specs.Port.{port};
-ghost use Rattle.mie_parameters.specs.Answer.{outcome, verdict, kept, numberAnswer};
-ghost use Rattle.saftvrqmie_potential.specs.Potential.{pairIn};
+ghost use Rattle.mie_parameters.specs.Answer.{outcome, verdict, numberAnswer, stored};
+ghost use Rattle.saftvrqmie_potential.specs.Potential.{pairIn, pairAt};
 ghost use Rattle.saftvrqmie_properties.specs.Properties.{propertiesIn};
-ghost use Rattle.saftvrqmie.specs.Table.{Lent, pairAt, store, workRow, workPairs, allFinite, rightLists, temperatureTable, pairsOf};
+ghost use Rattle.saftvrqmie.specs.Table.{Lent, store, workRow, workPairs, allFinite, rightLists, temperatureTable, pairsOf};
 ghost use Rattle.saftvrqmie.specs.Pairs.{searchesAnswer, pairSearches, searches, diameterIj};
 use mie_parameters::NumberAnswer;
 use mie_parameters::ParameterAnswer;
@@ -187,7 +187,7 @@ pub fn table_of(
     table: &mut [f64],
     counts: &mut [u8],
 ) -> ParameterAnswer
-    ensures { λ r. ⌜ (r ≡ verdict (temperatureTable (pairsOf n (now (sheets .entry)) orders) temperature (record { values = now (table .entry); numbers = now (counts .entry) }))) × (now (table .exit) ≡ kept (record { values = now (table .entry); numbers = now (counts .entry) }) (temperatureTable (pairsOf n (now (sheets .entry)) orders) temperature (record { values = now (table .entry); numbers = now (counts .entry) })) .values) × (now (counts .exit) ≡ kept (record { values = now (table .entry); numbers = now (counts .entry) }) (temperatureTable (pairsOf n (now (sheets .entry)) orders) temperature (record { values = now (table .entry); numbers = now (counts .entry) })) .numbers) ⌝ }
+    ensures { λ r. ⌜ (r ≡ verdict (temperatureTable (pairsOf n (now (sheets .entry)) orders) temperature (record { values = now (table .entry); numbers = now (counts .entry) }))) × (now (table .exit) ≡ stored (record { values = now (table .entry); numbers = now (counts .entry) }) (temperatureTable (pairsOf n (now (sheets .entry)) orders) temperature (record { values = now (table .entry); numbers = now (counts .entry) })) .values) × (now (counts .exit) ≡ stored (record { values = now (table .entry); numbers = now (counts .entry) }) (temperatureTable (pairsOf n (now (sheets .entry)) orders) temperature (record { values = now (table .entry); numbers = now (counts .entry) })) .numbers) ⌝ }
 {
     if !right_lists(n, table.len(), counts.len()) {
         return ParameterAnswer::Refused(1);
@@ -216,7 +216,7 @@ pub fn temperature_dependent_properties(
     table: &mut [f64],
     counts: &mut [u8],
 ) -> ParameterAnswer
-    ensures { λ r. ⌜ (r ≡ verdict (temperatureTable set temperature (record { values = now (table .entry); numbers = now (counts .entry) }))) × (now (table .exit) ≡ kept (record { values = now (table .entry); numbers = now (counts .entry) }) (temperatureTable set temperature (record { values = now (table .entry); numbers = now (counts .entry) })) .values) × (now (counts .exit) ≡ kept (record { values = now (table .entry); numbers = now (counts .entry) }) (temperatureTable set temperature (record { values = now (table .entry); numbers = now (counts .entry) })) .numbers) ⌝ }
+    ensures { λ r. ⌜ (r ≡ verdict (temperatureTable set temperature (record { values = now (table .entry); numbers = now (counts .entry) }))) × (now (table .exit) ≡ stored (record { values = now (table .entry); numbers = now (counts .entry) }) (temperatureTable set temperature (record { values = now (table .entry); numbers = now (counts .entry) })) .values) × (now (counts .exit) ≡ stored (record { values = now (table .entry); numbers = now (counts .entry) }) (temperatureTable set temperature (record { values = now (table .entry); numbers = now (counts .entry) })) .numbers) ⌝ }
 {
     let sheets = set.sheets;
     let orders = set.orders;

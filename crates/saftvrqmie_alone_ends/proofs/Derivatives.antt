@@ -10,7 +10,7 @@ use lib.Ieee.Fits.{and-l, and-r}
 use lib.Ieee.Bits.{is-true}
 use lib.Ieee.Scale.{finite}
 use Rattle.number.specs.Ans.{held, _>>=_, demand}
-use Rattle.number.specs.Arith.{one64, decimal}
+use Rattle.number.specs.Arith.{one64, decimal, whole}
 use Rattle.number.specs.Functions.{calls, answered₂}
 use Rattle.elementary.specs.Port.{port}
 use Rattle.exponential.proofs.Decode.{inside-is}
@@ -26,7 +26,7 @@ use Rattle.enclosure.specs.Enclosure.{enclosures, point, addE, subE, mulE, divE
 use Rattle.saftvrqmie_parameters.specs.declared.FeynmanHibbsOrder.{FeynmanHibbsOrder}
 use Rattle.saftvrqmie_parameters.specs.declared.FeynmanHibbsOrder.the-variants.{FH0, FH1, FH2}
 use Rattle.saftvrqmie_alpha_ends.specs.Pair.{pairIn}
-use Rattle.saftvrqmie_potential.specs.Potential.{PotentialIn, firstOrder, secondOrder, whole, recip, uMie, urMie, urrMie, uFirst, urFirst, urrFirst, uSecond, urSecond, urrSecond, corrected, scaled, afterShared, line, mie, addFirst, addSecond, potential}
+use Rattle.saftvrqmie_potential.specs.Potential.{PotentialIn, firstOrder, secondOrder, recip, uMie, urMie, urrMie, urFirst, urrFirst, urSecond, urrSecond, corrected, scaled, afterShared, line, mie, addFirst, addSecond, potential, uQuantum}
 use Rattle.saftvrqmie_potential_ends.specs.declared.PairShared.{PairShared}
 use Rattle.saftvrqmie_potential_ends.specs.Shared.{Sharing}
 use Rattle.saftvrqmie_alone_ends.specs.Alone.{big, withinOf, smallOf, plainOf, plainFrom, tameOf, aloneOf, sureOf, soundOf, powerAt, uAlone, uAfter}
@@ -270,7 +270,7 @@ module _ (w : PairShared) (s : Sharing w) (z : Tamed w) (r : Enclosure) (base : 
     abbrev firstV : PotentialIn Enclosure
     firstV =
         corrected enclosures (w .d) v
-        (uFirst enclosures (w .q1r) (w .q1a) (power (up-by lr 2)) (w .sr) (power (up-by la 2)) (w .sa))
+        (uQuantum enclosures (w .q1r) (w .q1a) (power (up-by lr 2)) (w .sr) (power (up-by la 2)) (w .sa))
         (urFirst enclosures lr la (w .q1r) (w .q1a) (power (up-by lr 3)) (w .sr) (power (up-by la 3)) (w .sa))
         (urrFirst enclosures lr la (w .q1r) (w .q1a) (power (up-by lr 4)) (w .sr) (power (up-by la 4)) (w .sa))
 
@@ -281,7 +281,7 @@ module _ (w : PairShared) (s : Sharing w) (z : Tamed w) (r : Enclosure) (base : 
           ← s .d,
           ← s .q1r,
           ← s .q1a,
-          line-held (up-by lr 2) (up-by la 2) (uFirst enclosures (w .q1r) (w .q1a)) (z .r .p2) (z .a .p2),
+          line-held (up-by lr 2) (up-by la 2) (uQuantum enclosures (w .q1r) (w .q1a)) (z .r .p2) (z .a .p2),
           line-held (up-by lr 3) (up-by la 3) (urFirst enclosures lr la (w .q1r) (w .q1a)) (z .r .p3) (z .a .p3),
           line-held (up-by lr 4) (up-by la 4) (urrFirst enclosures lr la (w .q1r) (w .q1a)) (z .r .p4) (z .a .p4),
         )
@@ -289,7 +289,7 @@ module _ (w : PairShared) (s : Sharing w) (z : Tamed w) (r : Enclosure) (base : 
     abbrev secondV : PotentialIn Enclosure
     secondV =
         corrected enclosures (w .d2) v
-        (uSecond enclosures (w .q2r) (w .q2a) (power (up-by lr 4)) (w .sr) (power (up-by la 4)) (w .sa))
+        (uQuantum enclosures (w .q2r) (w .q2a) (power (up-by lr 4)) (w .sr) (power (up-by la 4)) (w .sa))
         (urSecond enclosures lr la (w .q2r) (w .q2a) (power (up-by lr 5)) (w .sr) (power (up-by la 5)) (w .sa))
         (urrSecond enclosures lr la (w .q2r) (w .q2a) (power (up-by lr 6)) (w .sr) (power (up-by la 6)) (w .sa))
 
@@ -300,7 +300,7 @@ module _ (w : PairShared) (s : Sharing w) (z : Tamed w) (r : Enclosure) (base : 
           ← s .d2,
           ← s .q2r,
           ← s .q2a,
-          line-held (up-by lr 4) (up-by la 4) (uSecond enclosures (w .q2r) (w .q2a)) (z .r .p4) (z .a .p4),
+          line-held (up-by lr 4) (up-by la 4) (uQuantum enclosures (w .q2r) (w .q2a)) (z .r .p4) (z .a .p4),
           line-held (up-by lr 5) (up-by la 5) (urSecond enclosures lr la (w .q2r) (w .q2a)) (z .r .p5) (z .a .p5),
           line-held (up-by lr 6) (up-by la 6) (urrSecond enclosures lr la (w .q2r) (w .q2a)) (z .r .p6) (z .a .p6),
         )
@@ -436,10 +436,10 @@ module _ (w : PairShared) (s : Sharing w) (z : Tamed w) (r : Enclosure) (base : 
   same-mie = sub-same (mul-same (at-recip lr) same) (mul-same (at-recip la) same)
 
   same-line : (d qr qa er ea u v : Enclosure) → Same u v
-      → Same (addE u (mulE d (uFirst enclosures qr qa (powerAt L (exponentOf (er .value))) (w .sr) (powerAt L (exponentOf (ea .value))) (w .sa)))) (addE v (mulE d (uFirst enclosures qr qa (power er) (w .sr) (power ea) (w .sa))))
+      → Same (addE u (mulE d (uQuantum enclosures qr qa (powerAt L (exponentOf (er .value))) (w .sr) (powerAt L (exponentOf (ea .value))) (w .sa)))) (addE v (mulE d (uQuantum enclosures qr qa (power er) (w .sr) (power ea) (w .sa))))
   same-line d qr qa er ea u v p = add-same p (mul-same same (sub-same (mul-same (mul-same (at-recip er) same) same) (mul-same (mul-same (at-recip ea) same) same)))
 
-  same-first : Same (addE (uMie enclosures (powerAt L (exponentOf (lr .value))) (w .sr) (powerAt L (exponentOf (la .value))) (w .sa)) (mulE (w .d) (uFirst enclosures (w .q1r) (w .q1a) (powerAt L (exponentOf (up-by lr 2 .value))) (w .sr) (powerAt L (exponentOf (up-by la 2 .value))) (w .sa)))) (firstV mieV .u)
+  same-first : Same (addE (uMie enclosures (powerAt L (exponentOf (lr .value))) (w .sr) (powerAt L (exponentOf (la .value))) (w .sa)) (mulE (w .d) (uQuantum enclosures (w .q1r) (w .q1a) (powerAt L (exponentOf (up-by lr 2 .value))) (w .sr) (powerAt L (exponentOf (up-by la 2 .value))) (w .sa)))) (firstV mieV .u)
   same-first = same-line (w .d) (w .q1r) (w .q1a) (up-by lr 2) (up-by la 2) _ _ same-mie
 
   same-u : (o : FeynmanHibbsOrder) → w .pair .order ≡ o → Same (uAlone w (aloneOf w) L) (mulE (valuesOf o .u) (w .ce))

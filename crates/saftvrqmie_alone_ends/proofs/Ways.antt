@@ -12,7 +12,7 @@ use Rattle.binary_log.specs.BinaryLog.{baseInside, logOf}
 use Rattle.enclosure.specs.declared.Enclosure.{Enclosure}
 use Rattle.enclosure.specs.Enclosure.{enclosures, addE, subE, mulE, afterE}
 use Rattle.saftvrqmie_alpha_ends.specs.Pair.{pairIn}
-use Rattle.saftvrqmie_potential.specs.Potential.{recip, uMie, uFirst, uSecond, potential}
+use Rattle.saftvrqmie_potential.specs.Potential.{recip, uMie, potential, uQuantum}
 use Rattle.saftvrqmie_potential_ends.specs.declared.PairShared.{PairShared}
 use Rattle.saftvrqmie_potential_ends.specs.Shared.{Sharing}
 use Rattle.saftvrqmie_alone_ends.specs.declared.Alone.{Alone}
@@ -32,7 +32,7 @@ module _ (u d qr qa pr pa sr sa : Enclosure) where
   abbrev term-a : Enclosure
   term-a = mulE (mulE (recip enclosures pa) qa) sa
 
-  pub line-added : (t v : Sure) (a b y m n : Enclosure) → t ≡ sureOf term-r → a ≡ soundOf t → v ≡ sureOf term-a → b ≡ soundOf v → y ≡ subE a b → m ≡ mulE d y → n ≡ addE u m → Same n (addE u (mulE d (uFirst enclosures qr qa pr sr pa sa)))
+  pub line-added : (t v : Sure) (a b y m n : Enclosure) → t ≡ sureOf term-r → a ≡ soundOf t → v ≡ sureOf term-a → b ≡ soundOf v → y ≡ subE a b → m ≡ mulE d y → n ≡ addE u m → Same n (addE u (mulE d (uQuantum enclosures qr qa pr sr pa sa)))
   line-added t v a b y m n h i j k l o p = rw (p, o, l, i, h, k, j) (add-same same (mul-same same (sub-same set set)))
 
 module _ (w : PairShared) (x : Alone) (l : Log) (u : Enclosure) where
@@ -47,12 +47,12 @@ module _ (w : PairShared) (x : Alone) (l : Log) (u : Enclosure) where
     unfolding uAlone
     order-0 m r h i f = rw (i, h, f, is)
 
-    module _ (u₁ : Enclosure) (with-first : Same u₁ (addE u (mulE (w .d) (uFirst enclosures (w .q1r) (w .q1a) (powerAt l (x .er2)) (w .sr) (powerAt l (x .ea2)) (w .sa))))) (f : x .first ≡ true) where
+    module _ (u₁ : Enclosure) (with-first : Same u₁ (addE u (mulE (w .d) (uQuantum enclosures (w .q1r) (w .q1a) (powerAt l (x .er2)) (w .sr) (powerAt l (x .ea2)) (w .sa))))) (f : x .first ≡ true) where
       pub order-1 : (m : Enclosure) (r : Sure) → m ≡ mulE u₁ (w .ce) → r ≡ sureOf m → x .second ≡ false → r ≡ sureOf (uAlone w x l)
       unfolding uAlone
       order-1 m r h i g = i ∙ (ap sureOf h ∙ (mul-same with-first (same {x = w .ce}) .is ∙ rw (f, g, is)))
 
-      pub order-2 : (u₂ m : Enclosure) (r : Sure) → Same u₂ (addE u₁ (mulE (w .d2) (uSecond enclosures (w .q2r) (w .q2a) (powerAt l (x .er4)) (w .sr) (powerAt l (x .ea4)) (w .sa))))
+      pub order-2 : (u₂ m : Enclosure) (r : Sure) → Same u₂ (addE u₁ (mulE (w .d2) (uQuantum enclosures (w .q2r) (w .q2a) (powerAt l (x .er4)) (w .sr) (powerAt l (x .ea4)) (w .sa))))
           → m ≡ mulE u₂ (w .ce) → r ≡ sureOf m → x .second ≡ true → r ≡ sureOf (uAlone w x l)
       unfolding uAlone
       order-2 u₂ m r s h i g = i ∙ (ap sureOf h ∙ (mul-same s (same {x = w .ce}) .is ∙ (mul-same (add-same with-first same) (same {x = w .ce}) .is ∙ rw (f, g, is))))

@@ -8,7 +8,7 @@ use Rattle.power.specs.declared.FixedExponent.{FixedExponent}
 use Rattle.power.specs.Power.{exponentInside, exponentOf, powerOf}
 use Rattle.enclosure.specs.declared.Enclosure.{Enclosure}
 use Rattle.enclosure.specs.Enclosure.{enclosures, point, addE, mulE, afterE}
-use Rattle.saftvrqmie_potential.specs.Potential.{PotentialIn, firstOrder, secondOrder, uMie, uFirst, uSecond}
+use Rattle.saftvrqmie_potential.specs.Potential.{PotentialIn, firstOrder, secondOrder, uMie, uQuantum}
 use Rattle.saftvrqmie_potential_ends.specs.declared.PairShared.{PairShared}
 use Rattle.saftvrqmie_alone_ends.specs.declared.Alone.{Alone}
 use Rattle.saftvrqmie_alone_ends.specs.declared.Sure.{Sure}
@@ -79,8 +79,8 @@ module _ (w : PairShared) (x : Alone) (l : Log) where
   unfoldable pub uAlone : Enclosure
   uAlone =
       let u = uMie enclosures (powerAt l (x .er0)) (w .sr) (powerAt l (x .ea0)) (w .sa) in
-      let u₁ = addE u (mulE (w .d) (uFirst enclosures (w .q1r) (w .q1a) (powerAt l (x .er2)) (w .sr) (powerAt l (x .ea2)) (w .sa))) in
-      let u₂ = addE u₁ (mulE (w .d2) (uSecond enclosures (w .q2r) (w .q2a) (powerAt l (x .er4)) (w .sr) (powerAt l (x .ea4)) (w .sa))) in
+      let u₁ = addE u (mulE (w .d) (uQuantum enclosures (w .q1r) (w .q1a) (powerAt l (x .er2)) (w .sr) (powerAt l (x .ea2)) (w .sa))) in
+      let u₂ = addE u₁ (mulE (w .d2) (uQuantum enclosures (w .q2r) (w .q2a) (powerAt l (x .er4)) (w .sr) (powerAt l (x .ea4)) (w .sa))) in
       mulE (cond (x .first) (cond (x .second) u₂ u₁) u) (w .ce)
 
 -- u, both derivatives having been worked on the way

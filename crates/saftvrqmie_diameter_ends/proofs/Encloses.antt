@@ -17,13 +17,12 @@ use Rattle.enclosure.specs.Ends.{Encloses, endsAlone}
 use Rattle.enclosure.proofs.Relations.{Value, values, contains}
 use Rattle.enclosure.proofs.TwoEnds.{operation-1, operation-2, operation-alone, operation-encloses}
 use Rattle.saftvrqmie_parameters.specs.declared.SaftVRQMiePars.{SaftVRQMiePars}
-use Rattle.saftvrqmie_potential.specs.Potential.{PairIn}
+use Rattle.saftvrqmie_potential.specs.Potential.{PairIn, pairAt, pointsOf}
 use Rattle.saftvrqmie_potential.specs.declared.Pair.{Pair}
 use Rattle.saftvrqmie_potential.proofs.Relation.{PairR}
 use Rattle.saftvrqmie_searches.specs.Diameter.{diameter}
 use Rattle.saftvrqmie_searches.proofs.Relation.{diameter-rel}
-use Rattle.saftvrqmie.specs.Table.{pairAt}
-use Rattle.saftvrqmie.specs.Pairs.{pointsOf, diameterRun, diameterIjBy}
+use Rattle.saftvrqmie.specs.Pairs.{diameterRun, diameterIjBy}
 use Rattle.saftvrqmie_diameter_ends.specs.Operations.{diameterEnds}
 
 -- a pair read by two runs

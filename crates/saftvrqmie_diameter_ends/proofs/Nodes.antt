@@ -8,7 +8,7 @@ use lib.Ieee.{Float}
 use lib.Ieee.Fits.{and-l, and-r}
 use Rattle.number.specs.Ans.{Ans, held, refused, _>>=_}
 use Rattle.number.specs.Arith.{decimal}
-use Rattle.number.specs.Functions.{calls, answered}
+use Rattle.number.specs.Functions.{calls, answered, entry}
 use Rattle.number.proofs.Walk.{walk-none, walk-stop}
 use Rattle.elementary.specs.Port.{port}
 use Rattle.enclosure.specs.declared.Enclosure.{Enclosure}
@@ -16,7 +16,7 @@ use Rattle.interval.specs.Interval.{negI, afterI}
 use Rattle.interval.proofs.Encloses.{add-sound, mul-sound, div-sound}
 use Rattle.enclosure.specs.Enclosure.{enclosures, point, addE, subE, mulE, divE, negE, afterE}
 use Rattle.saftvrqmie_potential.specs.Potential.{PairIn, PotentialIn, potential}
-use Rattle.saftvrqmie_searches.specs.Diameter.{abscissas, weights, entry, nodeTurn, diameterBy, diameter}
+use Rattle.saftvrqmie_searches.specs.Diameter.{abscissas, weights, nodeTurn, diameterBy, diameter}
 use Rattle.saftvrqmie_alone_ends.specs.Alone.{uAfter}
 use Rattle.saftvrqmie_alone_ends.proofs.Same.{Same, same, add-same, mul-same, neg-same, one-flag, flags}
 use Rattle.saftvrqmie_diameter_ends.specs.Operations.{widthOf}

@@ -1,19 +1,17 @@
 // The diameter of a pair from its two searched radii (saftvrqmie/eos/hard_sphere.rs, `hs_diameter_ij`) in the two-ended run, and as a two-ended operation.
 ghost use mathlib.Core.Path.{_≡_};
 ghost use Prim.Native.Nat.{_<_};
-ghost use Rattle.number.specs.Functions.{calls};
+ghost use Rattle.number.specs.Functions.{calls, entry};
 ghost use Rattle.number.specs.Side.{sheet};
 ghost use Rattle.elementary.specs.Port.{port};
 ghost use Rattle.enclosure.specs.Answer.{answer, ends};
 ghost use Rattle.enclosure.specs.Enclosure.{enclosures};
 ghost use Rattle.saftvrqmie_alpha_ends.specs.Pair.{pairIn};
-ghost use Rattle.saftvrqmie_potential.specs.Potential.{potential};
+ghost use Rattle.saftvrqmie_potential.specs.Potential.{potential, pairAt, pointsOf};
 ghost use Rattle.enclosure.specs.declared.Enclosure.{Enclosure};
 ghost use Rattle.saftvrqmie_potential_ends.specs.Shared.{Sharing};
 ghost use Rattle.saftvrqmie_alone_ends.specs.Alone.{aloneOf};
-ghost use Rattle.saftvrqmie_searches.specs.Diameter.{abscissas, weights, entry, nodeTurn, diameterBy, diameter};
-ghost use Rattle.saftvrqmie.specs.Table.{pairAt};
-ghost use Rattle.saftvrqmie.specs.Pairs.{pointsOf};
+ghost use Rattle.saftvrqmie_searches.specs.Diameter.{abscissas, weights, nodeTurn, diameterBy, diameter};
 ghost use Rattle.saftvrqmie_diameter_ends.specs.Operations.{diameterEnds, widthOf};
 use enclosure::Enclosure;
 use enclosure::EnclosureAnswer;

@@ -3,9 +3,9 @@ use Prim.Native.Nat.{ℕ}
 use lib.Ieee.{Float}
 use mathlib.Core.Bool.{false, cond}
 use Rattle.number.specs.Ans.{Ans, held, _>>=_}
-use Rattle.number.specs.Arith.{Arith, decimal}
+use Rattle.number.specs.Arith.{Arith, decimal, whole}
 use Rattle.number.specs.Functions.{Functions}
-use Rattle.saftvrqmie_potential.specs.Potential.{PairIn, firstOrder, secondOrder, whole, quantumD}
+use Rattle.saftvrqmie_potential.specs.Potential.{PairIn, firstOrder, secondOrder, quantumD}
 use Rattle.saftvrqmie_dispersion.specs.Constants.{phi}
 
 module _ (A : Arith) where

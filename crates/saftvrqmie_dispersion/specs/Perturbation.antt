@@ -6,11 +6,11 @@ use lib.Ieee.{Float, binary64}
 use lib.IntN.{pos}
 use mathlib.Core.Bool.{false, cond}
 use Rattle.number.specs.Ans.{Ans, held, _>>=_}
-use Rattle.number.specs.Arith.{Arith, decimal}
+use Rattle.number.specs.Arith.{Arith, decimal, whole}
 use Rattle.number.specs.Functions.{Functions}
 use Rattle.number.specs.Walk.{walk}
 use Rattle.saftvrqmie_parameters.specs.declared.FeynmanHibbsOrder.{FeynmanHibbsOrder}
-use Rattle.saftvrqmie_potential.specs.Potential.{PairIn, orderNumber, firstOrder, secondOrder, whole, recip, q1, q2}
+use Rattle.saftvrqmie_potential.specs.Potential.{PairIn, orderNumber, firstOrder, secondOrder, recip, q1, q2}
 use Rattle.saftvrqmie_dispersion_terms.specs.Terms.{combineSutherlandAndB}
 use Rattle.saftvrqmie_dispersion.specs.declared.DispersionPair.{DispersionPair}
 use Rattle.saftvrqmie_dispersion.specs.declared.Quantum.{Quantum}

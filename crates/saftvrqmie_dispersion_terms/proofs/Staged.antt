@@ -4,13 +4,13 @@ use lib.Ieee.{Float}
 use mathlib.Core.Path.{_≡_, refl, sym, _∙_, fun-ext}
 use mathlib.Core.Bool.{Bool, true, false}
 use Rattle.number.specs.Ans.{Ans, held, refused, _>>=_, demand}
-use Rattle.number.specs.Arith.{floats}
+use Rattle.number.specs.Arith.{floats, whole}
 use Rattle.number.specs.Functions.{calls, answered₂}
 use Rattle.elementary.specs.Port.{port}
 use Rattle.binary_log.specs.BinaryLog.{baseInside, logOf}
-use Rattle.power.specs.Power.{exponentInside, powfOf}
-use Rattle.saftvrqmie_dispersion_terms.specs.Terms.{whole, factorI, factorJ, sutherland, ilambda, b, combine, combineSutherlandAndB}
-use Rattle.saftvrqmie_dispersion_terms.specs.Staged.{powfAt, termsOf, combineAt}
+use Rattle.power.specs.Power.{exponentInside, powfOf, powfAt}
+use Rattle.saftvrqmie_dispersion_terms.specs.Terms.{factorI, factorJ, sutherland, ilambda, b, combine, combineSutherlandAndB}
+use Rattle.saftvrqmie_dispersion_terms.specs.Staged.{termsOf, combineAt}
 use Rattle.saftvrqmie_dispersion_terms.specs.declared.PairTerms.{PairTerms}
 
 -- ---- a power in its stages
@@ -24,7 +24,7 @@ unfolding powfOf demand _>>=_
 powf-outside x y h = asked x y (powfOf x y) ∙ rw h
 
 pub powf-inside : (x y : Float) → baseInside x ≡ true → calls floats port .powf x y ≡ powfAt (logOf x) y
-unfolding powfOf powfAt demand _>>=_
+unfolding powfOf demand _>>=_
 powf-inside x y h = asked x y (powfOf x y) ∙ rw h
 
 powers : (x : Float) → baseInside x ≡ true → calls floats port .powf x ≡ powfAt (logOf x)
@@ -43,7 +43,7 @@ module _ (e z x y l : Float) where
   no-x0 h = rw (powf-outside x l h)
 
   no-x0-eff : baseInside x ≡ true → baseInside y ≡ false → Formula ≡ refused 6
-  unfolding combineSutherlandAndB combine sutherland b ilambda powfAt demand _>>=_
+  unfolding combineSutherlandAndB combine sutherland b ilambda demand _>>=_
   no-x0-eff h k = either (exponentInside l) refl
     where
       either : (t : Bool) → exponentInside l ≡ t → Formula ≡ refused 6

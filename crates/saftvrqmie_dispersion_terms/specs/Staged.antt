@@ -2,9 +2,8 @@
 use lib.Ieee.{Float}
 use Rattle.number.specs.Ans.{Ans, held, refused, _>>=_, demand}
 use Rattle.number.specs.Arith.{floats}
-use Rattle.binary_log.specs.declared.Log.{Log}
 use Rattle.binary_log.specs.BinaryLog.{baseInside, logOf}
-use Rattle.power.specs.Power.{exponentInside, exponentOf, powerOf}
+use Rattle.power.specs.Power.{powfAt}
 use Rattle.saftvrqmie_dispersion_terms.specs.Terms.{factorI, factorJ, combine}
 use Rattle.saftvrqmie_dispersion_terms.specs.declared.PairTerms.{PairTerms}
 use Rattle.saftvrqmie_dispersion_terms.specs.declared.TermsAnswer.{TermsAnswer}
@@ -14,10 +13,6 @@ use Rattle.saftvrqmie_dispersion_terms.specs.declared.TermsAnswer.the-va
 abbrev pub termsAnswer : TermsAnswer → Ans PairTerms
 termsAnswer (At w) = held w
 termsAnswer Outside = refused 6
-
--- the power of a base within its domain, by its logarithm
-unfoldable pub powfAt : Log → Float → Ans Float
-powfAt l y = demand 6 (exponentInside y) >>= λ _. held (powerOf l (exponentOf y))
 
 -- 6 where a base is outside: then no exponent has a value
 unfoldable pub termsOf : Float → Float → Float → Float → Ans PairTerms

@@ -2,7 +2,7 @@
 use Prim.Native.Nat.{ℕ}
 use mathlib.Core.Bool.{true, false}
 use Rattle.number.specs.Ans.{Ans, held, _>>=_}
-use Rattle.number.specs.Arith.{Arith, decimal}
+use Rattle.number.specs.Arith.{Arith, decimal, whole}
 use Rattle.number.specs.Functions.{Functions}
 use Rattle.saftvrqmie_dispersion_terms.specs.Constants.{lam}
 
@@ -14,10 +14,6 @@ module _ (A : Arith) where
   infixl 70 _⊗_
   infixl 70 _⊘_
   infix 80 ⊖_
-  -- a whole number of the source, as a point
-  abbrev pub whole : ℕ → Num
-  whole n = lit (decimal false n 0)
-
   -- c[i] of `eta_eff`, from the inverse powers of lambda
   unfoldable pub lamSum : ℕ → Num → Num → Num → Num → Num
   lamSum i l0 l1 l2 l3 = l0 ⊗ lit (lam i 0) ⊕ l1 ⊗ lit (lam i 1) ⊕ l2 ⊗ lit (lam i 2) ⊕ l3 ⊗ lit (lam i 3)
@@ -25,10 +21,10 @@ module _ (A : Arith) where
   -- `eta_eff`
   unfoldable pub etaEff : Num → Num → Num
   etaEff lambda zeta =
-      let l0 = whole 1 in
-      let l1 = whole 1 ⊘ lambda in
-      let l2 = whole 1 ⊘ pow lambda 2 in
-      let l3 = whole 1 ⊘ pow lambda 3 in
+      let l0 = whole A 1 in
+      let l1 = whole A 1 ⊘ lambda in
+      let l2 = whole A 1 ⊘ pow lambda 2 in
+      let l3 = whole A 1 ⊘ pow lambda 3 in
       let c0 = lamSum 0 l0 l1 l2 l3 in
       let c1 = lamSum 1 l0 l1 l2 l3 in
       let c2 = lamSum 2 l0 l1 l2 l3 in
@@ -38,25 +34,25 @@ module _ (A : Arith) where
   -- `sutherland` from ef = eta_eff and its power p of x0
   unfoldable pub sutherlandOf : Num → Num → Num → Num → Num
   sutherlandOf lambda epsilon-k ef p =
-      (⊖ ef ⊗ lit (decimal false 5 1) ⊕ whole 1) ⊗ lit (decimal true 12 0) ⊗ p ⊗ epsilon-k ⊘ (lambda ⊖ whole 3) ⊘ pow (⊖ ef ⊕ whole 1) 3
+      (⊖ ef ⊗ lit (decimal false 5 1) ⊕ whole A 1) ⊗ lit (decimal true 12 0) ⊗ p ⊗ epsilon-k ⊘ (lambda ⊖ whole A 3) ⊘ pow (⊖ ef ⊕ whole A 1) 3
 
   -- `ilambda` from its power 3 - lambda, `jlambda` from its powers 4 - lambda and 3 - lambda
   unfoldable pub ilambdaOf : Num → Num → Num
-  ilambdaOf lambda p3 = ⊖ (p3 ⊖ whole 1) ⊘ (lambda ⊖ whole 3)
+  ilambdaOf lambda p3 = ⊖ (p3 ⊖ whole A 1) ⊘ (lambda ⊖ whole A 3)
 
   unfoldable pub jlambdaOf : Num → Num → Num → Num
-  jlambdaOf lambda p4 p3 = ⊖ (p4 ⊗ (lambda ⊖ whole 3) ⊖ p3 ⊗ (lambda ⊖ whole 4) ⊖ whole 1) ⊘ ((lambda ⊖ whole 3) ⊗ (lambda ⊖ whole 4))
+  jlambdaOf lambda p4 p3 = ⊖ (p4 ⊗ (lambda ⊖ whole A 3) ⊖ p3 ⊗ (lambda ⊖ whole A 4) ⊖ whole A 1) ⊘ ((lambda ⊖ whole A 3) ⊗ (lambda ⊖ whole A 4))
 
   -- the factors of the two integrals in `b`, by the packing fraction alone
   unfoldable pub factorI : Num → Num
-  factorI zeta = (⊖ zeta ⊕ whole 2) ⊘ pow (⊖ zeta ⊕ whole 1) 3
+  factorI zeta = (⊖ zeta ⊕ whole A 2) ⊘ pow (⊖ zeta ⊕ whole A 1) 3
 
   unfoldable pub factorJ : Num → Num
-  factorJ zeta = ⊖ zeta ⊗ whole 9 ⊗ (zeta ⊕ whole 1) ⊘ pow (⊖ zeta ⊕ whole 1) 3
+  factorJ zeta = ⊖ zeta ⊗ whole A 9 ⊗ (zeta ⊕ whole A 1) ⊘ pow (⊖ zeta ⊕ whole A 1) 3
 
   -- `b` from its factors, the two integrals, and its power p of x0
   unfoldable pub bOf : Num → Num → Num → Num → Num → Num → Num
-  bOf epsilon-k fi fj i j p = p ⊗ (fi ⊗ i ⊕ fj ⊗ j) ⊗ whole 6 ⊗ epsilon-k
+  bOf epsilon-k fi fj i j p = p ⊗ (fi ⊗ i ⊕ fj ⊗ j) ⊗ whole A 6 ⊗ epsilon-k
 
   -- From here on `power` and `power-eff` stand for x0.powf and x0_eff.powf.
   unfoldable pub sutherland : Num → Num → Num → (Num → Ans Num) → Ans Num
@@ -67,13 +63,13 @@ module _ (A : Arith) where
 
   unfoldable pub ilambda : Num → (Num → Ans Num) → Ans Num
   ilambda lambda power-eff =
-      power-eff (whole 3 ⊖ lambda) >>= λ p3.
+      power-eff (whole A 3 ⊖ lambda) >>= λ p3.
       held (ilambdaOf lambda p3)
 
   unfoldable pub jlambda : Num → (Num → Ans Num) → Ans Num
   jlambda lambda power-eff =
-      power-eff (whole 4 ⊖ lambda) >>= λ p4.
-      power-eff (whole 3 ⊖ lambda) >>= λ p3.
+      power-eff (whole A 4 ⊖ lambda) >>= λ p4.
+      power-eff (whole A 3 ⊖ lambda) >>= λ p3.
       held (jlambdaOf lambda p4 p3)
 
   -- `b`: eq. 33 of Lafitte et al. 2013, divided by the packing fraction, as the Rust says

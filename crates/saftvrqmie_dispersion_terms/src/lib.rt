@@ -6,7 +6,8 @@ ghost use Rattle.number.specs.Arith.{floats};
 ghost use Rattle.number.specs.Functions.{calls};
 ghost use Rattle.elementary.specs.Port.{port};
 ghost use Rattle.saftvrqmie_dispersion_terms.specs.Terms.{etaEff, sutherlandOf, ilambdaOf, jlambdaOf, factorI, factorJ, bOf, combineSutherlandAndB};
-ghost use Rattle.saftvrqmie_dispersion_terms.specs.Staged.{termsAnswer, powfAt, termsOf, combineAt};
+ghost use Rattle.power.specs.Power.{powfAt};
+ghost use Rattle.saftvrqmie_dispersion_terms.specs.Staged.{termsAnswer, termsOf, combineAt};
 use binary_log::Log;
 use number::FloatAnswer;
 

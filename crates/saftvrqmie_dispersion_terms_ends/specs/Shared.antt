@@ -1,18 +1,18 @@
 -- `combine_sutherland_and_b` in the two-ended run, from what the code works once for a pair and once for an exponent: the contracts of helpers. `terms_of` ensures that this is the formula.
 use mathlib.Core.Bool.{true, false}
 use Rattle.number.specs.Ans.{Ans, _>>=_, demand}
-use Rattle.number.specs.Arith.{decimal}
+use Rattle.number.specs.Arith.{decimal, whole}
 use Rattle.number.specs.Functions.{answered₂}
 use Rattle.enclosure.specs.declared.Enclosure.{Enclosure}
 use Rattle.enclosure.specs.Enclosure.{enclosures, point, addE, subE, mulE, divE, negE, powE}
-use Rattle.saftvrqmie_dispersion_terms.specs.Staged as Floats
-use Rattle.saftvrqmie_dispersion_terms.specs.Terms.{whole, combine}
+use Rattle.power.specs.Power as Power
+use Rattle.saftvrqmie_dispersion_terms.specs.Terms.{combine}
 use Rattle.saftvrqmie_dispersion_terms_ends.specs.declared.Base.{Base}
 use Rattle.saftvrqmie_dispersion_terms_ends.specs.declared.PairTerms.{PairTerms}
 
 -- the power of a base by its logarithm
 unfoldable pub powfAt : Base → Enclosure → Ans Enclosure
-powfAt b y = answered₂ enclosures (demand 6 (b .inside) >>= λ _. Floats.powfAt (b .log) (y .value)) (b .x) y
+powfAt b y = answered₂ enclosures (demand 6 (b .inside) >>= λ _. Power.powfAt (b .log) (y .value)) (b .x) y
 
 -- `sutherlandOf`, `ilambdaOf`, `jlambdaOf` from l3 = lambda - 3 and l4 = lambda - 4
 unfoldable pub sutherlandBy : Enclosure → Enclosure → Enclosure → Enclosure → Enclosure

@@ -10,12 +10,16 @@ use Rattle.number.specs.Functions.{Functions}
 use Rattle.number.specs.Side.{side, sheet, cell}
 use Rattle.number.proofs.Rel.{Rel, FunRel, Both, both-held, then-both, cond-rel, turns-rel, walk-rel}
 use Rattle.saftvrqmie_parameters.specs.declared.SaftVRQMiePars.{SaftVRQMiePars}
+use Rattle.saftvrqmie_potential.specs.Potential.{recip}
 use Rattle.saftvrqmie_potential.proofs.Relation.{PairR}
 use Rattle.saftvrqmie_dispersion.proofs.Relation.{DispersionR, alpha-rel, chi-rel, kFactor-rel, dispersionPair-rel, firstOrderIj-rel, secondOrderIj-rel, thirdOrderIj-rel}
-use Rattle.saftvrqmie_energies.specs.State.{SheetsIn, sheetsOf, nth, filled, segmentDensity}
+use Rattle.number.specs.Lists.{nth}
+use Rattle.mie_parameters.specs.Sums.{weighted, ordersSum}
+use Rattle.mie_parameters.specs.Places.{inPlaces}
+use Rattle.saftvrqmie_energies.specs.State.{SheetsIn, sheetsOf}
 use Rattle.saftvrqmie_energies.specs.HardSphere.{ZetaIn, Zeta23In, zetaAdded, zeta, frac1mz3, zeta23Added, zeta23Sums, zeta23, hardSphereOf, hardSphere}
 use Rattle.saftvrqmie_energies.specs.NonAdditive.{gHs, nonAdditiveIj, nonAdditiveTurn, nonAdditiveColumn, nonAdditiveSum, densityShares, nonAdditive}
-use Rattle.saftvrqmie_energies.specs.Dispersion.{MixtureIn, invXsSum, segmentFractions, lead, perturbation, packingTurn, packingRow, packing, alphaTurn, alphaRow, alphas, pairAt, leadAt, firstTurn, firstRow, first, secondTurn, secondRow, second, thirdTurn, thirdRow, third, mixture, dispersion}
+use Rattle.saftvrqmie_energies.specs.Dispersion.{MixtureIn, invXsSum, segmentFractions, lead, packingTurn, packingRow, packing, alphaTurn, alphaRow, alphas, pairAt, leadAt, firstTurn, firstRow, first, secondTurn, secondRow, second, thirdTurn, thirdRow, third, mixture, dispersion}
 use Rattle.saftvrqmie_energies.specs.Energies.{EnergiesIn, contributions, contributionsOf}
 use Rattle.saftvrqmie_energies.proofs.Lists.{All, all-replicate, all-set, all-get}
 
@@ -61,22 +65,22 @@ module _ (A B : Arith) (K : Rel A B) where
   nth-rel : {l : List (A .Num)} {l' : List (B .Num)} → All R l l' → Each (nth A l) (nth B l')
   nth-rel h i = all-get R i _ _ _ _ h (r-lit nan)
 
-  filled-rel : (n : ℕ) {f : ℕ → A .Num} {g : ℕ → B .Num} → Each f g → All R (filled A n f) (filled B n g)
-  unfolding filled
-  filled-rel n h = turns-rel (All R) n _ _ (λ i l l' p. all-set R i l l' _ _ p (h i)) (all-replicate R side _ _ (r-lit _))
+  inPlaces-rel : (n : ℕ) {f : ℕ → A .Num} {g : ℕ → B .Num} → Each f g → All R (inPlaces A n f) (inPlaces B n g)
+  unfolding inPlaces
+  inPlaces-rel n h = turns-rel (All R) n _ _ (λ i l l' p. all-set R i l l' _ _ p (h i)) (all-replicate R side _ _ (r-lit _))
 
   module _ (n : ℕ) {x m : ℕ → A .Num} {x' m' : ℕ → B .Num} (px : Each x x') (pm : Each m m') where
-    segmentDensity-rel : R (segmentDensity A n x m) (segmentDensity B n x' m')
-    unfolding segmentDensity
-    segmentDensity-rel = turns-rel R n _ _ (λ i r r' p. r-add p (r-mul (px i) (pm i))) (r-lit _)
+    weighted-rel : R (weighted A n x m) (weighted B n x' m')
+    unfolding weighted
+    weighted-rel = turns-rel R n _ _ (λ i r r' p. r-add p (r-mul (px i) (pm i))) (r-lit _)
 
     invXsSum-rel : R (invXsSum A n x m) (invXsSum B n x' m')
     unfolding invXsSum
-    invXsSum-rel = r-div (r-lit _) (turns-rel R n _ _ (λ i r r' p. r-add p (r-mul (px i) (pm i))) (r-lit _))
+    invXsSum-rel = r-div (r-lit _) weighted-rel
 
     segmentFractions-rel : All R (segmentFractions A n x m) (segmentFractions B n x' m')
     unfolding segmentFractions
-    segmentFractions-rel = filled-rel n (λ i. r-mul (r-mul (px i) (pm i)) invXsSum-rel)
+    segmentFractions-rel = inPlaces-rel n (λ i. r-mul (r-mul (px i) (pm i)) invXsSum-rel)
 
   -- ---- hard sphere
   frac1mz3-rel : {z : A .Num} {z' : B .Num} → R z z' → R (frac1mz3 A z) (frac1mz3 B z')
@@ -104,8 +108,8 @@ module _ (A B : Arith) (K : Rel A B) where
       r-add (r-add f (r-mul (r-mul (r-mul mu z) (r-pow 2 f)) (r-lit _))) (r-mul (r-mul (r-pow 2 (r-mul mu z)) (r-pow 3 f)) (r-lit _))
 
   -- ---- dispersion
-  perturbation-rel : {t a b c : A .Num} {t' a' b' c' : B .Num} → R t t' → R a a' → R b b' → R c c' → R (perturbation A t a b c) (perturbation B t' a' b' c')
-  unfolding perturbation
+  perturbation-rel : {t a b c : A .Num} {t' a' b' c' : B .Num} → R t t' → R a a' → R b b' → R c c' → R (ordersSum A (recip A t) a b c) (ordersSum B (recip B t') a' b' c')
+  unfolding ordersSum
   perturbation-rel t a b c = let i = r-div (r-lit _) t in r-add (r-add (r-mul a i) (r-mul b (r-pow 2 i))) (r-mul c (r-pow 3 i))
 
   module _ (F : Functions (A .Num)) (G : Functions (B .Num)) (H : FunRel R F G) where
@@ -163,13 +167,13 @@ module _ (A B : Arith) (K : Rel A B) where
 
       densityShares-rel : {r : A .Num} {r' : B .Num} {rho m : ℕ → A .Num} {rho' m' : ℕ → B .Num} → R r r' → Each rho rho' → Each m m' → All R (densityShares A F n r rho m) (densityShares B G n r' rho' m')
       unfolding densityShares
-      densityShares-rel r rho m = filled-rel n (λ i. r-div (r-mul (rho i) (m i)) r)
+      densityShares-rel r rho m = inPlaces-rel n (λ i. r-div (r-mul (rho i) (m i)) r)
 
       pub nonAdditive-rel : {rho m d : ℕ → A .Num} {rho' m' d' : ℕ → B .Num} → Each rho rho' → Each m m' → Each d d' → R (nonAdditive A F n rho m d) (nonAdditive B G n rho' m' d')
       unfolding nonAdditive
       nonAdditive-rel rho m d =
           let z = zeta-rel n rho (λ i. d _) m in
-          let r = segmentDensity-rel n rho m in
+          let r = weighted-rel n rho m in
           r-after (z .z0) (r-after (z .z1) (r-mul r (nonAdditiveSum-rel (nth-rel (densityShares-rel r rho m)) d r (z .z2) (frac1mz3-rel (z .z3)))))
 
     lead-rel : (i j : ℕ) {x y r d : A .Num} {x' y' r' d' : B .Num} → R x x' → R y y' → R r r' → R d d' → R (lead A F i j x y r d) (lead B G i j x' y' r' d')
@@ -192,7 +196,7 @@ module _ (A B : Arith) (K : Rel A B) where
     mixture-rel : (n : ℕ) {s h x rho m : ℕ → A .Num} {s' h' x' rho' m' : ℕ → B .Num} → Each s s' → Each h h' → Each x x' → Each rho rho' → Each m m' → MixtureR R (mixture A F n s h x rho m) (mixture B G n s' h' x' rho' m')
     unfolding mixture
     mixture-rel n s h x rho m =
-        let r = segmentDensity-rel n rho m in
+        let r = weighted-rel n rho m in
         record { rho-s = r; zeta = packing-rel n x h r; zeta-bar = packing-rel n x s r }
 
     module _ (n : ℕ) {e x a : ℕ → A .Num} {e' x' a' : ℕ → B .Num} {z : A .Num} {z' : B .Num} (pe : Each e e') (px : Each x x') (pz : R z z') (pa : Each a a') where
@@ -273,7 +277,7 @@ module _ (A B : Arith) (K : Rel A B) where
           then-both (first-rel xs W) (λ _ _ a1.
           then-both (second-rel xs W (nth-rel l)) (λ _ _ a2.
           then-both (third-rel n (P .epsilon-k-eff) xs (W .zeta-bar) (nth-rel l)) (λ _ _ a3.
-          both-held (r-mul (segmentDensity-rel n rho m) (perturbation-rel t a1 a2 a3))))))
+          both-held (r-mul (weighted-rel n rho m) (perturbation-rel t a1 a2 a3))))))
 
       pub contributions-rel : {x rho m : ℕ → A .Num} {x' rho' m' : ℕ → B .Num} {tm : A .Num} {tm' : B .Num} → Each x x' → Each rho rho' → Each m m' → R tm tm' → (wanted : Bool)
           → Both (EnergiesR R) (contributions A F t x rho m tm wanted) (contributions B G t' x' rho' m' tm' wanted)

@@ -6,17 +6,19 @@ use mathlib.Core.List.{List}
 use mathlib.Core.Path.{_≡_, refl, sym, ap, _∙_}
 use mathlib.Core.Bool.{Bool, true, false}
 use Rattle.number.specs.Ans.{Ans, held, refused, _>>=_}
-use Rattle.number.specs.Arith.{Arith, floats, decimal}
+use Rattle.number.specs.Arith.{Arith, floats, decimal, whole}
 use Rattle.number.specs.Functions.{Functions, answered, calls}
 use Rattle.number.specs.Side.{cell}
 use Rattle.elementary.specs.Port.{port}
-use Rattle.saftvrqmie_potential.specs.Potential.{PairIn, whole}
+use Rattle.saftvrqmie_potential.specs.Potential.{PairIn, recip}
 use Rattle.saftvrqmie_dispersion.specs.Alpha.{alpha, chi, thirdOrderIj}
 use Rattle.saftvrqmie_dispersion.specs.Perturbation.{DispersionIn, firstOrderIj, secondOrderIj}
-use Rattle.saftvrqmie_energies.specs.State.{SheetsIn, heldOr6, diagonal, nth, segmentDensity}
+use Rattle.number.specs.Lists.{nth}
+use Rattle.mie_parameters.specs.Sums.{weighted, ordersSum}
+use Rattle.saftvrqmie_energies.specs.State.{SheetsIn, heldOr6, diagonal}
 use Rattle.saftvrqmie_energies.specs.HardSphere.{ZetaIn, zeta, frac1mz3, zeta23, hardSphereOf, hardSphere}
 use Rattle.saftvrqmie_energies.specs.NonAdditive.{nonAdditiveSum, densityShares, nonAdditive}
-use Rattle.saftvrqmie_energies.specs.Dispersion.{MixtureIn, segmentFractions, perturbation, alphas, first, second, third, mixture, dispersion, alphaTurn, firstTurn, secondTurn, thirdTurn, pairAt, leadAt}
+use Rattle.saftvrqmie_energies.specs.Dispersion.{MixtureIn, segmentFractions, alphas, first, second, third, mixture, dispersion, alphaTurn, firstTurn, secondTurn, thirdTurn, pairAt, leadAt}
 
 pub left-refused : {S : Type 0} (b : Bool) (x : S) (a : Ans S) → b ≡ false → refused 6 ≡ a → heldOr6 b x ≡ a
 unfolding heldOr6
@@ -111,7 +113,7 @@ module _ (A : Arith) (F : Functions (A .Num)) where
     unfolding hardSphere _>>=_
     hs-held l z23 r g h q = rw (← is-z, ln-here, g, ← h, q)
 
-  pub non-additive-is : (n : ℕ) (rho m d : ℕ → Num) (z : ZetaIn Num) (xs : List Num) (rho-s f v p q r : Num) → z ≡ zeta A F n rho (diagonal d) m → rho-s ≡ segmentDensity A n rho m → xs ≡ densityShares A F n rho-s rho m
+  pub non-additive-is : (n : ℕ) (rho m d : ℕ → Num) (z : ZetaIn Num) (xs : List Num) (rho-s f v p q r : Num) → z ≡ zeta A F n rho (diagonal d) m → rho-s ≡ weighted A n rho m → xs ≡ densityShares A F n rho-s rho m
       → f ≡ frac1mz3 A (z .z3) → v ≡ nonAdditiveSum A F n (nth A xs) d rho-s (z .z2) f → p ≡ rho-s ⊗ v → q ≡ after (z .z1) p → r ≡ after (z .z0) q → r ≡ nonAdditive A F n rho m d
   unfolding nonAdditive
   non-additive-is n rho m d z xs rho-s f v p q r is-z is-rho is-xs is-f is-v is-p is-q is-r = rw (nonAdditive, ← is-z, ← is-rho, ← is-xs, ← is-f, ← is-v, is-r, is-q, is-p)
@@ -140,6 +142,6 @@ module _ (A : Arith) (F : Functions (A .Num)) where
           unfolding dispersion _>>=_
           no-third k p = rw (is-l, ← is-xs, ← is-w, is-a1, is-a2, p)
 
-          pub dispersion-is : (a3 ns v r : Num) → third A F (s .count) (s .epsilon-k-eff) (nth A xs) (w .zeta-bar) (nth A l) ≡ held a3 → ns ≡ segmentDensity A (s .count) rho m → v ≡ perturbation A t a1 a2 a3 → r ≡ ns ⊗ v → held r ≡ result
+          pub dispersion-is : (a3 ns v r : Num) → third A F (s .count) (s .epsilon-k-eff) (nth A xs) (w .zeta-bar) (nth A l) ≡ held a3 → ns ≡ weighted A (s .count) rho m → v ≡ ordersSum A (recip A t) a1 a2 a3 → r ≡ ns ⊗ v → held r ≡ result
           unfolding dispersion _>>=_
           dispersion-is a3 ns v r p q g h = rw (is-l, ← is-xs, ← is-w, is-a1, is-a2, p, ← q, ← g, h)

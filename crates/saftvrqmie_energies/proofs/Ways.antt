@@ -12,14 +12,14 @@ use Rattle.number.specs.Arith.{floats, zero64}
 use Rattle.number.specs.Functions.{Functions, calls}
 use Rattle.number.specs.Side.{side, sheet}
 use Rattle.elementary.specs.Port.{port}
-use Rattle.limits.specs.Limits.{countWithin}
+use Rattle.limits.specs.Limits.{countWithin, stateWithin}
 use Rattle.mie_parameters.proofs.Laws.{and-left, and-right, count-high}
 use Rattle.saftvrqmie_parameters.specs.declared.SaftVRQMiePars.{SaftVRQMiePars}
 use Rattle.saftvrqmie_energies.specs.State.{SheetsIn, sheetsOf, points, sheetOf, diagonal}
 use Rattle.saftvrqmie_energies.specs.HardSphere.{hardSphere}
 use Rattle.saftvrqmie_energies.specs.NonAdditive.{nonAdditive}
 use Rattle.saftvrqmie_energies.specs.Dispersion.{dispersion}
-use Rattle.saftvrqmie_energies.specs.Energies.{EnergiesIn, contributions, allFinite, rightLengths, withinLimits, energiesBy, energies}
+use Rattle.saftvrqmie_energies.specs.Energies.{EnergiesIn, contributions, allFinite, rightLengths, energiesBy, energies}
 
 abbrev F : Functions Float
 F = calls floats port
@@ -59,11 +59,11 @@ module _ (s : SaftVRQMiePars) (t : Float) (x rho table : List Float) (wanted : B
   refuses-1 p = rw p
 
   module _ (p : rightLengths (s .count) x rho table ≡ true) where
-    pub refuses-2 : withinLimits (s .count) t x rho ≡ false → refused 2 ≡ outcome
+    pub refuses-2 : stateWithin (s .count) t x rho ≡ false → refused 2 ≡ outcome
     unfolding energiesBy demand _>>=_
     refuses-2 q = rw (p, q)
 
-    module _ (q : withinLimits (s .count) t x rho ≡ true) where
+    module _ (q : stateWithin (s .count) t x rho ≡ true) where
       pub no-hard-sphere : (k : ℕ) → hardSphere floats F (s .count) (points floats x) (points floats rho) (diagonal (sheetOf floats table 1)) (points floats (s .m)) ≡ refused k → refused k ≡ outcome
       unfolding energiesBy contributions demand _>>=_
       no-hard-sphere k h = rw (p, q, h)

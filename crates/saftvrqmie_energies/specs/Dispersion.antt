@@ -6,14 +6,17 @@ use lib.ListN.{set, replicate}
 use mathlib.Core.List.{List}
 use mathlib.Core.Bool.{cond}
 use Rattle.number.specs.Ans.{Ans, held, _>>=_}
-use Rattle.number.specs.Arith.{Arith}
+use Rattle.number.specs.Arith.{Arith, whole}
 use Rattle.number.specs.Functions.{Functions}
+use Rattle.number.specs.Lists.{nth}
 use Rattle.number.specs.Side.{sheet, cell}
 use Rattle.number.specs.Walk.{turns, walk}
-use Rattle.saftvrqmie_potential.specs.Potential.{whole, recip}
+use Rattle.saftvrqmie_potential.specs.Potential.{recip}
+use Rattle.mie_parameters.specs.Places.{inPlaces}
+use Rattle.mie_parameters.specs.Sums.{weighted, ordersSum}
 use Rattle.saftvrqmie_dispersion.specs.Alpha.{alpha, chi, thirdOrderIj}
 use Rattle.saftvrqmie_dispersion.specs.Perturbation.{DispersionIn, dispersionPair, firstOrderIj, secondOrderIj, kFactor}
-use Rattle.saftvrqmie_energies.specs.State.{SheetsIn, nth, filled, segmentDensity}
+use Rattle.saftvrqmie_energies.specs.State.{SheetsIn}
 use Rattle.saftvrqmie_energies.specs.declared.SegmentState.{SegmentState}
 
 -- what the sums over pairs share
@@ -32,19 +35,15 @@ module _ (A : Arith) where
   infixl 70 _⊗_
   -- x_s.sum().recip(), where x_s[i] is molefracs[i] * m[i]
   unfoldable pub invXsSum : ℕ → (ℕ → Num) → (ℕ → Num) → Num
-  invXsSum n x m = recip A (turns n (λ i r. r ⊕ x i ⊗ m i) (whole A 0))
+  invXsSum n x m = recip A (weighted A n x m)
 
   -- x_s after x_s[i] *= inv_x_s_sum
   unfoldable pub segmentFractions : ℕ → (ℕ → Num) → (ℕ → Num) → List Num
-  segmentFractions n x m = let inv = invXsSum n x m in filled A n (λ i. x i ⊗ m i ⊗ inv)
+  segmentFractions n x m = let inv = invXsSum n x m in inPlaces A n (λ i. x i ⊗ m i ⊗ inv)
 
   -- x_s[i] * x_s[j] * fac * FRAC_PI_6 * rho_s * d_hs_ij.powi(3); fac is 1.0 on the diagonal, else 2.0
   unfoldable pub lead : Functions Num → ℕ → ℕ → Num → Num → Num → Num → Num
   lead F i j xi xj rho-s d = xi ⊗ xj ⊗ cond (eqb i j) (whole A 1) (whole A 2) ⊗ F .frac-pi-6 ⊗ rho-s ⊗ pow d 3
-
-  -- a1 * inv_t + a2 * inv_t.powi(2) + a3 * inv_t.powi(3)
-  unfoldable pub perturbation : Num → Num → Num → Num → Num
-  perturbation temperature a1 a2 a3 = let inv-t = recip A temperature in a1 ⊗ inv-t ⊕ a2 ⊗ pow inv-t 2 ⊕ a3 ⊗ pow inv-t 3
 
   module _ (F : Functions Num) where
     -- `zeta_saft_vrq_mie` of a sheet; x are the segment fractions
@@ -72,7 +71,7 @@ module _ (A : Arith) where
     -- rho_s and both packing fractions, from sigma_eff, diameters, segment fractions x, partial densities and m
     unfoldable pub mixture : ℕ → (ℕ → Num) → (ℕ → Num) → (ℕ → Num) → (ℕ → Num) → (ℕ → Num) → MixtureIn Num
     mixture n sigma-eff hs-diameter x rho m =
-        let rho-s = segmentDensity A n rho m in
+        let rho-s = weighted A n rho m in
         record { rho-s = rho-s; zeta = packing n x hs-diameter rho-s; zeta-bar = packing n x sigma-eff rho-s }
 
     module _ (s : SheetsIn Num) where
@@ -130,4 +129,4 @@ module _ (A : Arith) where
           first x w >>= λ a1.
           second x w (nth A l) >>= λ a2.
           third (s .count) (s .epsilon-k-eff) x (w .zeta-bar) (nth A l) >>= λ a3.
-          held (segmentDensity A (s .count) rho m ⊗ perturbation temperature a1 a2 a3)
+          held (weighted A (s .count) rho m ⊗ ordersSum A (recip A temperature) a1 a2 a3)

@@ -9,10 +9,9 @@ use mathlib.Core.Bool.{Bool, _&&_, cond}
 use Rattle.number.specs.Ans.{Ans, held, refused, _>>=_, demand}
 use Rattle.number.specs.Arith.{Arith, floats, zero64}
 use Rattle.number.specs.Functions.{Functions, Answers, calls}
-use Rattle.number.specs.Lists.{at}
 use Rattle.number.specs.Side.{sheet}
 use Rattle.elementary.specs.Port.{port}
-use Rattle.limits.specs.Limits.{countWithin, temperatureWithin, sharesWithin}
+use Rattle.limits.specs.Limits.{countWithin, stateWithin}
 use Rattle.saftvrqmie_parameters.specs.declared.SaftVRQMiePars.{SaftVRQMiePars}
 use Rattle.saftvrqmie_energies.specs.State.{SheetsIn, sheetsOf, points, diagonal}
 use Rattle.saftvrqmie_energies.specs.HardSphere.{hardSphere}
@@ -56,15 +55,11 @@ allFinite e = finite (e .hard-sphere) && finite (e .dispersion) && finite (e .no
 unfoldable pub rightLengths : ℕ → List Float → List Float → List Float → Bool
 rightLengths n x rho table = countWithin n && eqb (length x) n && eqb (length rho) n && eqb (length table) (4 * sheet)
 
--- 2: temperature, fractions or densities
-unfoldable pub withinLimits : ℕ → Float → List Float → List Float → Bool
-withinLimits n t x rho = temperatureWithin t && sharesWithin n (at x) && sharesWithin n (at rho)
-
 -- '1; 2 for temperature, fractions or densities; 6; 7 if a contribution is not finite', whatever the elementary functions answer
 unfoldable pub energiesBy : Answers → SaftVRQMiePars → Float → List Float → List Float → List Float → Bool → Ans (EnergiesIn Float)
 energiesBy E s t x rho table wanted =
     demand 1 (rightLengths (s .count) x rho table) >>= λ _.
-    demand 2 (withinLimits (s .count) t x rho) >>= λ _.
+    demand 2 (stateWithin (s .count) t x rho) >>= λ _.
     contributionsOf floats (calls floats E) s t x rho table wanted >>= λ e.
     demand 7 (allFinite e) >>= λ _.
     held e

@@ -3,10 +3,10 @@ use Prim.Native.Nat.{ℕ}
 use lib.Ieee.{Float}
 use mathlib.Core.Bool.{true}
 use Rattle.number.specs.Ans.{Ans, held, _>>=_}
-use Rattle.number.specs.Arith.{Arith, decimal}
+use Rattle.number.specs.Arith.{Arith, decimal, whole}
 use Rattle.number.specs.Functions.{Functions}
 use Rattle.number.specs.Walk.{turns}
-use Rattle.saftvrqmie_potential.specs.Potential.{whole, recip}
+use Rattle.saftvrqmie_potential.specs.Potential.{recip}
 use Rattle.saftvrqmie_energies.specs.declared.Zetas.{Zetas}
 use Rattle.saftvrqmie_energies.specs.declared.Zeta23.{Zeta23}
 

@@ -2,12 +2,14 @@
 use Prim.Native.Nat.{ℕ}
 use mathlib.Core.Bool.{false}
 use mathlib.Core.List.{List}
-use Rattle.number.specs.Arith.{Arith, decimal}
+use Rattle.number.specs.Arith.{Arith, decimal, whole}
 use Rattle.number.specs.Functions.{Functions}
+use Rattle.number.specs.Lists.{nth}
 use Rattle.number.specs.Side.{cell}
+use Rattle.mie_parameters.specs.Places.{inPlaces}
+use Rattle.mie_parameters.specs.Sums.{weighted}
 use Rattle.number.specs.Walk.{turns}
-use Rattle.saftvrqmie_potential.specs.Potential.{whole}
-use Rattle.saftvrqmie_energies.specs.State.{diagonal, nth, filled, segmentDensity}
+use Rattle.saftvrqmie_energies.specs.State.{diagonal}
 use Rattle.saftvrqmie_energies.specs.HardSphere.{zeta, frac1mz3}
 
 module _ (A : Arith) where
@@ -45,12 +47,12 @@ module _ (A : Arith) where
 
     -- x_s: rho[i] * m[i] / rho_s
     unfoldable pub densityShares : Num → (ℕ → Num) → (ℕ → Num) → List Num
-    densityShares rho-s rho m = filled A n (λ i. rho i ⊗ m i ⊘ rho-s)
+    densityShares rho-s rho m = inPlaces A n (λ i. rho i ⊗ m i ⊘ rho-s)
 
     -- from partial densities, m and the pairs' diameters; zeta[0] and zeta[1] are worked, though nothing uses them
     unfoldable pub nonAdditive : (ℕ → Num) → (ℕ → Num) → (ℕ → Num) → Num
     nonAdditive rho m d =
         let z = zeta A F n rho (diagonal d) m in
-        let rho-s = segmentDensity A n rho m in
+        let rho-s = weighted A n rho m in
         let x = nth A (densityShares rho-s rho m) in
         after (z .z0) (after (z .z1) (rho-s ⊗ nonAdditiveSum x d rho-s (z .z2) (frac1mz3 A (z .z3))))

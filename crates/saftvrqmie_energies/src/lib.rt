@@ -3,20 +3,23 @@ ghost use mathlib.Core.Path.{_≡_};
 ghost use Prim.Native.Nat.{_+_, _*_, _-_, _<_, _≤_};
 ghost use lib.ListN.{length};
 ghost use Rattle.number.specs.Answer.{answer};
-ghost use Rattle.number.specs.Arith.{floats, zero64};
+ghost use Rattle.number.specs.Arith.{floats, zero64, whole};
 ghost use mathlib.Core.Bool.{cond};
 ghost use Rattle.number.specs.Functions.{calls};
 ghost use Rattle.number.specs.Walk.{walk};
 ghost use Rattle.number.specs.Side.{side, sheet, cell};
 ghost use Rattle.elementary.specs.Port.{port};
 ghost use lib.Dec.{eqb};
-ghost use Rattle.saftvrqmie_potential.specs.Potential.{pairIn, whole};
+ghost use Rattle.saftvrqmie_potential.specs.Potential.{pairIn, recip};
 ghost use Rattle.saftvrqmie_dispersion.specs.Perturbation.{dispersionIn, dispersionPair};
-ghost use Rattle.saftvrqmie_energies.specs.State.{heldOr6, diagonal, points, sheetOf, pairOf, sheetsOf, filled, segmentDensity};
+ghost use Rattle.mie_parameters.specs.Sums.{weighted, ordersSum};
+ghost use Rattle.mie_parameters.specs.Places.{inPlaces};
+ghost use Rattle.saftvrqmie_energies.specs.State.{heldOr6, diagonal, points, sheetOf, pairOf, sheetsOf};
 ghost use Rattle.saftvrqmie_energies.specs.HardSphere.{zetaIn, zeta23In, zetaAdded, zeta, frac1mz3, zeta23Added, zeta23Sums, zeta23, hardSphereOf, hardSphere};
 ghost use Rattle.saftvrqmie_energies.specs.NonAdditive.{gHs, nonAdditiveIj, nonAdditiveColumn, nonAdditiveSum, densityShares, nonAdditive};
-ghost use Rattle.saftvrqmie_energies.specs.Dispersion.{mixtureIn, invXsSum, segmentFractions, lead, perturbation, packingRow, packing, alphaRow, pairAt, firstRow, first, secondRow, second, thirdRow, third, mixture, dispersion};
-ghost use Rattle.saftvrqmie_energies.specs.Energies.{energiesIn, energiesAnswer, allFinite, rightLengths, withinLimits, energies};
+ghost use Rattle.saftvrqmie_energies.specs.Dispersion.{mixtureIn, invXsSum, segmentFractions, lead, packingRow, packing, alphaRow, pairAt, firstRow, first, secondRow, second, thirdRow, third, mixture, dispersion};
+ghost use Rattle.limits.specs.Limits.{stateWithin};
+ghost use Rattle.saftvrqmie_energies.specs.Energies.{energiesIn, energiesAnswer, allFinite, rightLengths, energies};
 use number::FloatAnswer;
 use number::SHEET;
 use number::SIDE;
@@ -75,7 +78,7 @@ pub enum EnergiesAnswer {
 
 fn segment_density(n: usize, rho: &[f64], m: &[f64; 8]) -> f64
     requires { ⌜ (n ≤ side) × (length (now rho) ≡ n) ⌝ }
-    ensures { λ r. ⌜ r ≡ segmentDensity floats n (points floats (now (rho .entry))) (points floats (now (m .entry))) ⌝ }
+    ensures { λ r. ⌜ r ≡ weighted floats n (points floats (now (rho .entry))) (points floats (now (m .entry))) ⌝ }
 {
     let mut r = 0.0;
     for i in 0usize..n {
@@ -560,7 +563,7 @@ fn mixture(n: usize, xs: &[f64; 8], rho: &[f64], m: &[f64; 8], table: &[f64]) ->
 }
 
 fn perturbation(temperature: f64, a1: f64, a2: f64, a3: f64) -> f64
-    ensures { λ r. ⌜ r ≡ perturbation floats temperature a1 a2 a3 ⌝ }
+    ensures { λ r. ⌜ r ≡ ordersSum floats (recip floats temperature) a1 a2 a3 ⌝ }
 {
     let inv_t = 1.0 / temperature;
     a1 * inv_t + a2 * number::pow_up(inv_t, 2) + a3 * number::pow_up(inv_t, 3)
@@ -617,7 +620,7 @@ pub fn right_lengths(n: usize, x: &[f64], rho: &[f64], table: &[f64]) -> bool
 // The lists are as long as the count: both operations refuse others with 1 before they ask.
 pub fn within_limits(n: usize, t: f64, x: &[f64], rho: &[f64]) -> bool
     requires { ⌜ (length (now x) ≡ n) × (length (now rho) ≡ n) ⌝ }
-    ensures { λ r. ⌜ r ≡ withinLimits n t (now (x .entry)) (now (rho .entry)) ⌝ }
+    ensures { λ r. ⌜ r ≡ stateWithin n t (now (x .entry)) (now (rho .entry)) ⌝ }
 {
     limits::temperature_within(t) & limits::shares_within(n, x) & limits::shares_within(n, rho)
 }

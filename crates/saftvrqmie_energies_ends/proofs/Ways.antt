@@ -17,7 +17,8 @@ use Rattle.saftvrqmie_energies.specs.State.{sheetsOf, points, sheetOf, diagonal
 use Rattle.saftvrqmie_energies.specs.HardSphere.{hardSphere}
 use Rattle.saftvrqmie_energies.specs.NonAdditive.{nonAdditive}
 use Rattle.saftvrqmie_energies.specs.Dispersion.{dispersion}
-use Rattle.saftvrqmie_energies.specs.Energies.{EnergiesIn, contributions, contributionsOf, allFinite, rightLengths, withinLimits, energiesBy}
+use Rattle.limits.specs.Limits.{stateWithin}
+use Rattle.saftvrqmie_energies.specs.Energies.{EnergiesIn, contributions, contributionsOf, allFinite, rightLengths, energiesBy}
 use Rattle.saftvrqmie_energies.proofs.Relation.{EnergiesR, contributionsOf-rel}
 use Rattle.saftvrqmie_energies_ends.specs.Operation.{together, valuesOf, eachEnds, allSound, energiesEnds}
 
@@ -53,11 +54,11 @@ module _ (E : Answers) (s : SaftVRQMiePars) (t : Float) (x rho table : List Floa
   refuses-1 p = rw p
 
   module _ (p : rightLengths (s .count) x rho table ≡ true) where
-    pub refuses-2 : withinLimits (s .count) t x rho ≡ false → refused 2 ≡ outcome
+    pub refuses-2 : stateWithin (s .count) t x rho ≡ false → refused 2 ≡ outcome
     unfolding energiesEnds energiesBy demand _>>=_
     refuses-2 q = rw (p, q)
 
-    module _ (q : withinLimits (s .count) t x rho ≡ true) where
+    module _ (q : stateWithin (s .count) t x rho ≡ true) where
       stops : (k : ℕ) → worked ≡ refused k → refused k ≡ outcome
       unfolding energiesEnds energiesBy demand _>>=_
       stops k h = rw (p, q, float-refused worked-values k h)

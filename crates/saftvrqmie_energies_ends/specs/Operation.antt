@@ -10,12 +10,17 @@ use Rattle.enclosure.specs.Enclosure.{enclosures}
 use Rattle.enclosure.specs.Ends.{endsIn}
 use Rattle.saftvrqmie_parameters.specs.declared.SaftVRQMiePars.{SaftVRQMiePars}
 use Rattle.saftvrqmie_energies.specs.Energies.{EnergiesIn, contributionsOf, energiesBy}
+use Rattle.saftvrqmie_energies_ends.specs.declared.EnergiesEnds.{EnergiesEnds}
 use Rattle.saftvrqmie_energies_ends.specs.declared.EnergiesEndsAnswer.{EnergiesEndsAnswer}
 use Rattle.saftvrqmie_energies_ends.specs.declared.EnergiesEndsAnswer.the-variants.{Held, Refused}
 
+-- the ends of the three contributions, as the code's struct holds them
+abbrev pub endsEach : EnergiesEnds → EnergiesIn Ends
+endsEach e = record { hard-sphere = e .«hard_sphere»; dispersion = e .dispersion; non-additive = e .«non_additive» }
+
 -- document 01's number or values of each case of `EnergiesEndsAnswer`
 abbrev pub energiesEndsAnswer : EnergiesEndsAnswer → Ans (EnergiesIn Ends)
-energiesEndsAnswer (Held e) = held (record { hard-sphere = e .«hard_sphere»; dispersion = e .dispersion; non-additive = e .«non_additive» })
+energiesEndsAnswer (Held e) = held (endsEach e)
 energiesEndsAnswer (Refused n) = refused n
 
 abbrev pub together : {N : Type 0} → N → N → N → EnergiesIn N

@@ -4,18 +4,20 @@ ghost use Prim.Native.Nat.{_+_, _*_, _-_, _<_, _≤_};
 ghost use lib.Dec.{eqb};
 ghost use lib.ListN.{length};
 ghost use mathlib.Core.Bool.{cond};
-ghost use Rattle.number.specs.Arith.{zero64};
+ghost use Rattle.number.specs.Arith.{zero64, whole};
 ghost use Rattle.number.specs.Functions.{calls};
 ghost use Rattle.number.specs.Side.{side, sheet};
 ghost use Rattle.elementary.specs.Port.{port};
 ghost use Rattle.enclosure.specs.Answer.{answer};
 ghost use Rattle.enclosure.specs.Enclosure.{enclosures, addE, mulE, divE, point};
-ghost use Rattle.saftvrqmie_potential.specs.Potential.{whole};
 ghost use Rattle.saftvrqmie_dispersion.specs.Perturbation.{dispersionPair};
-ghost use Rattle.saftvrqmie_energies.specs.State.{heldOr6, diagonal, points, sheetOf, pairOf, sheetsOf, nth, segmentDensity};
+ghost use Rattle.number.specs.Lists.{nth};
+ghost use Rattle.mie_parameters.specs.Sums.{weighted, ordersSum};
+ghost use Rattle.saftvrqmie_potential.specs.Potential.{recip};
+ghost use Rattle.saftvrqmie_energies.specs.State.{heldOr6, diagonal, points, sheetOf, pairOf, sheetsOf};
 ghost use Rattle.saftvrqmie_energies.specs.HardSphere.{zetaAdded, zeta, frac1mz3, zeta23Added, zeta23, hardSphereOf};
 ghost use Rattle.saftvrqmie_energies.specs.NonAdditive.{gHs, nonAdditiveIj, nonAdditiveColumn, nonAdditiveSum, densityShares, nonAdditive};
-ghost use Rattle.saftvrqmie_energies.specs.Dispersion.{invXsSum, segmentFractions, lead, perturbation, packingRow, packing, alphaRow, alphas, firstRow, first, secondRow, second, thirdRow, third, mixture, dispersion};
+ghost use Rattle.saftvrqmie_energies.specs.Dispersion.{invXsSum, segmentFractions, lead, packingRow, packing, alphaRow, alphas, firstRow, first, secondRow, second, thirdRow, third, mixture, dispersion};
 ghost use Rattle.saftvrqmie_alpha_ends.specs.Pair.{pairIn};
 ghost use Rattle.saftvrqmie_dispersion_ends.specs.Pair.{dispersionIn};
 ghost use Rattle.enclosure.specs.Ends.{endsIn};
@@ -117,7 +119,7 @@ fn at_64(xs: [Enclosure; 64], e: usize) -> Enclosure
 
 fn segment_density(n: usize, rho: &[f64], m: &[f64; 8]) -> Enclosure
     requires { ⌜ (n ≤ side) × (length (now rho) ≡ n) ⌝ }
-    ensures { λ r. ⌜ r ≡ segmentDensity enclosures n (points enclosures (now (rho .entry))) (points enclosures (now (m .entry))) ⌝ }
+    ensures { λ r. ⌜ r ≡ weighted enclosures n (points enclosures (now (rho .entry))) (points enclosures (now (m .entry))) ⌝ }
 {
     let mut r = enclosure::point(0.0);
     for i in 0usize..n {
@@ -441,7 +443,7 @@ fn mixture(
 }
 
 fn perturbation(temperature: Enclosure, a1: Enclosure, a2: Enclosure, a3: Enclosure) -> Enclosure
-    ensures { λ r. ⌜ r ≡ perturbation enclosures temperature a1 a2 a3 ⌝ }
+    ensures { λ r. ⌜ r ≡ ordersSum enclosures (recip enclosures temperature) a1 a2 a3 ⌝ }
 {
     let one = enclosure::point(1.0);
     let inv_t = enclosure::div(one, temperature);

@@ -10,6 +10,7 @@ use lib.Ieee.{Float}
 use mathlib.Core.List.{List}
 use borrow.Author.Tests.{lt-leb, le-leb, eq-eqb, ne-eqb, eqb-true}
 use Rattle.number.specs.Ans.{Ans, held, refused, _>>=_, demand}
+use Rattle.number.specs.Arith.{floats}
 use Rattle.number.specs.Lists.{at}
 use Rattle.number.specs.Side.{side, cell}
 use Rattle.number.proofs.Walk.{via}
@@ -148,7 +149,7 @@ module _ (l : Lists) where
 
   pub holds : (x y : List Float) (o : List OrderRecord) → rightLengths l ≡ true → Within l ≡ true → allOne (l .count) (at (l .m)) ≡ true
       → orderWalk (l .count) (l .fh) ≡ held true → sheetsIn l ≡ held x
-      → y ≡ inPlaces (l .count) (l .m) → o ≡ ordersOf (l .count) (l .fh)
+      → y ≡ inPlaces floats (l .count) (at (l .m)) → o ≡ ordersOf (l .count) (l .fh)
       → record { answer = Held; set = record { count = l .count; m = y; sheets = x; orders = o } } ≡ given (saftVRQMiePars l)
   unfolding saftVRQMiePars demand _>>=_ given
   holds x y o p q r s t d e = rw (p, q, r, s, t, d, e)

@@ -3,7 +3,7 @@ use mathlib.Core.Bool.{false}
 use Rattle.number.specs.Arith.{Arith, decimal}
 
 module _ (A : Arith) where
-  open Arith A using (Num, add as _⊕_, sub as _⊖_, mul as _⊗_, div as _⊘_, pow, lit)
+  open Arith A using (Num, add as _⊕_, sub as _⊖_, mul as _⊗_, div as _⊘_, lit)
 
   infixl 60 _⊕_
   infixl 60 _⊖_

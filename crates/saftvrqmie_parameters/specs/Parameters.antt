@@ -1,11 +1,11 @@
 -- The quantum parameters: their tests in document 01's order, and the set.
 use Prim.Native.Nat.{ℕ, _+_, _*_, max}
 use lib.Dec.{eqb, leb}
-use lib.Ieee.{Float, eq}
+use lib.Ieee.{Float}
 use lib.ListN.{getD, length, set, replicate}
 use mathlib.Core.List.{List}
 use mathlib.Core.Bool.{Bool, true, not, _&&_, cond}
-use Rattle.number.specs.Arith.{floats, zero64, one64}
+use Rattle.number.specs.Arith.{floats, zero64}
 use Rattle.number.specs.Ans.{Ans, held, refused, _>>=_, demand}
 use Rattle.number.specs.Functions.{calls}
 use Rattle.number.specs.Lists.{at}
@@ -14,7 +14,7 @@ use Rattle.number.specs.Walk.{turns, walk}
 use Rattle.elementary.specs.Port.{port}
 use Rattle.mie_parameters.specs.Combine.{epsilonKIj, lambdaIj, cIj}
 use Rattle.limits.specs.declared.Component.{Component}
-use Rattle.limits.specs.Limits.{square, components, countWithin, componentsWithin, massesWithin, pairsWithin, allOne}
+use Rattle.limits.specs.Limits.{square, components, countWithin, componentsWithin, massesWithin, pairsWithin, isOne, allOne}
 use Rattle.saftvrqmie_parameters.specs.Combine.{sigmaIj, massIj}
 use Rattle.saftvrqmie_parameters.specs.declared.FeynmanHibbsOrder.{FeynmanHibbsOrder}
 use Rattle.saftvrqmie_parameters.specs.declared.FeynmanHibbsOrder.the-variants.{FH0, FH1, FH2}
@@ -71,7 +71,7 @@ withinLimits n c mass k l = componentsWithin n c && massesWithin n mass && pairs
 
 -- `SaftVRQMieRecord::new`: 3 if m is not equal to 1.0, NaN included
 unfoldable pub recordM : Float → Ans Bool
-recordM m = demand 3 (eq m one64)
+recordM m = demand 3 (isOne m)
 
 -- at a pair the larger order is tested first, then the product of the orders against 2
 unfoldable pub pairOrders : ℕ → ℕ → Ans Bool
@@ -139,7 +139,7 @@ saftVRQMiePars l =
     demand 3 (allOne (l .count) (at (l .m))) >>= λ _.
     orderWalk (l .count) (l .fh) >>= λ _.
     sheetsOf (l .count) (componentOf l) (at (l .mass)) (square (l .count) (l .k-ij)) (square (l .count) (l .l-ij)) >>= λ s.
-    held (record { count = l .count; m = inPlaces (l .count) (l .m); sheets = s; orders = ordersOf (l .count) (l .fh) })
+    held (record { count = l .count; m = inPlaces floats (l .count) (at (l .m)); sheets = s; orders = ordersOf (l .count) (l .fh) })
 
 -- the set beside a refusal: count 0, all +0, FH0
 abbrev pub emptySet : SaftVRQMiePars

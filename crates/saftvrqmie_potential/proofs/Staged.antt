@@ -10,7 +10,7 @@ use Rattle.elementary.specs.Port.{port}
 use Rattle.binary_log.specs.declared.Log.{Log}
 use Rattle.binary_log.specs.BinaryLog.{baseInside, logOf}
 use Rattle.power.specs.Power.{exponentInside, exponentOf, powerOf, powfOf}
-use Rattle.saftvrqmie_potential.specs.Potential.{PotentialIn, pairIn, firstOrder, secondOrder, q1, q2, uMie, uFirst, uSecond, corrected, scaled, line, mie, addFirst, addSecond, afterShared, potential}
+use Rattle.saftvrqmie_potential.specs.Potential.{PotentialIn, pairIn, firstOrder, secondOrder, q1, q2, uMie, corrected, scaled, line, mie, addFirst, addSecond, afterShared, potential, uQuantum}
 use Rattle.saftvrqmie_potential.specs.Staged.{bothInside, bothAt, exponentsInside, termOf, sharedValues, sharedOf, mieAt, firstAt, secondAt, valuesAt, potentialAt}
 use Rattle.saftvrqmie_parameters.specs.declared.FeynmanHibbsOrder.{FeynmanHibbsOrder}
 use Rattle.saftvrqmie_parameters.specs.declared.FeynmanHibbsOrder.the-variants.{FH0, FH1, FH2}
@@ -228,14 +228,14 @@ module _ (w : Shared) (l : Log) (r0 a0 : Float) (is-r0 : r0 ≡ powerOf l (w .r 
 
   module _ (r2 a2 : Float) (is-r2 : r2 ≡ powerOf l (w .r .e2)) (is-a2 : a2 ≡ powerOf l (w .a .e2)) (h : w .first ≡ true) where
     abbrev u₁ : Float
-    u₁ = floats .add u₀ (floats .mul (w .d) (uFirst floats (w .r .q1) (w .a .q1) r2 (w .r .power) a2 (w .a .power)))
+    u₁ = floats .add u₀ (floats .mul (w .d) (uQuantum floats (w .r .q1) (w .a .q1) r2 (w .r .power) a2 (w .a .power)))
 
     pub u-order-1 : w .second ≡ false → floats .mul u₁ (w .ce) ≡ valuesAt w l .u
     unfolding valuesAt scaled firstAt mieAt
     u-order-1 k = rw (is-r0, is-a0, is-r2, is-a2) (ap (λ (v : PotentialIn Float). floats .mul (v .u) (w .ce)) (when-false (w .second) _ (firstAt w l (powerOf l (w .r .e2)) (powerOf l (w .a .e2)) (powerOf l (w .r .e4)) (powerOf l (w .a .e4)) (mieAt w l (powerOf l (w .r .e2)) (powerOf l (w .a .e2)))) k ∙ when-true (w .first) _ _ h))
 
     pub u-order-2 : (r4 a4 : Float) → r4 ≡ powerOf l (w .r .e4) → a4 ≡ powerOf l (w .a .e4) → w .second ≡ true
-        → floats .mul (floats .add u₁ (floats .mul (w .d2) (uSecond floats (w .r .q2) (w .a .q2) r4 (w .r .power) a4 (w .a .power)))) (w .ce) ≡ valuesAt w l .u
+        → floats .mul (floats .add u₁ (floats .mul (w .d2) (uQuantum floats (w .r .q2) (w .a .q2) r4 (w .r .power) a4 (w .a .power)))) (w .ce) ≡ valuesAt w l .u
     unfolding valuesAt scaled secondAt firstAt mieAt
     u-order-2 r4 a4 is-r4 is-a4 k = rw (is-r0, is-a0, is-r2, is-a2, is-r4, is-a4) (ap (λ (v : PotentialIn Float). floats .mul (v .u) (w .ce)) (when-true (w .second) (secondAt w l (powerOf l (w .r .e4)) (powerOf l (w .a .e4)) (firstAt w l (powerOf l (w .r .e2)) (powerOf l (w .a .e2)) (powerOf l (w .r .e4)) (powerOf l (w .a .e4)) (mieAt w l (powerOf l (w .r .e2)) (powerOf l (w .a .e2))))) _ k ∙ when-true (w .first) _ _ h))
 

@@ -1,11 +1,17 @@
 -- `qmie_potential_ij` of saftvrqmie/eos/hard_sphere.rs: the Mie potential with Feynman-Hibbs corrections and its two derivatives (Aasen et al. 2019), over any arithmetic, in the Rust's order of operations.
-use Prim.Native.Nat.{ℕ}
+use Prim.Native.Nat.{ℕ, _+_, _*_}
 use lib.Dec.{ltb}
 use lib.Ieee.{Float}
+use lib.ListN.{getD}
+use mathlib.Core.List.{List}
 use mathlib.Core.Bool.{Bool, false, cond}
 use Rattle.number.specs.Ans.{Ans, held, refused, _>>=_}
-use Rattle.number.specs.Arith.{Arith, decimal}
+use Rattle.number.specs.Arith.{Arith, decimal, floats, whole}
 use Rattle.number.specs.Functions.{Functions}
+use Rattle.number.specs.Lists.{at}
+use Rattle.number.specs.Side.{sheet}
+use Rattle.saftvrqmie_parameters.specs.Parameters.{unused}
+use Rattle.saftvrqmie_parameters.specs.declared.OrderRecord.{OrderRecord}
 use Rattle.saftvrqmie_parameters.specs.declared.FeynmanHibbsOrder.{FeynmanHibbsOrder}
 use Rattle.saftvrqmie_parameters.specs.declared.FeynmanHibbsOrder.the-variants.{FH0, FH1, FH2}
 use Rattle.saftvrqmie_potential.specs.declared.Pair.{Pair}
@@ -24,8 +30,36 @@ pub record PairIn (N : Type 0) : Type 0 where
   pub order : FeynmanHibbsOrder
   pub temperature : N
 
+-- a pair as a run reads it: each number a point
+abbrev pub pointsOf : (A : Arith) → Pair → PairIn (A .Num)
+pointsOf A p =
+    record {
+      sigma = A .lit (p .sigma);
+      epsilon-k = A .lit (p .«epsilon_k»);
+      c = A .lit (p .c);
+      lr = A .lit (p .lr);
+      la = A .lit (p .la);
+      mass = A .lit (p .mass);
+      order = p .order;
+      temperature = A .lit (p .temperature);
+    }
+
 abbrev pub pairIn : Pair → PairIn Float
-pairIn p = record { sigma = p .sigma; epsilon-k = p .«epsilon_k»; c = p .c; lr = p .lr; la = p .la; mass = p .mass; order = p .order; temperature = p .temperature }
+pairIn p = pointsOf floats p
+
+-- what a set holds at entry e of its sheets, and the temperature
+abbrev pub pairAt : List Float → List OrderRecord → Float → ℕ → Pair
+pairAt s orders t e =
+    record {
+      sigma = at s e;
+      «epsilon_k» = at s (1 * sheet + e);
+      c = at s (2 * sheet + e);
+      lr = at s (3 * sheet + e);
+      la = at s (4 * sheet + e);
+      mass = at s (5 * sheet + e);
+      order = getD orders e unused .order;
+      temperature = t;
+    }
 
 -- [u, u_r, u_rr]
 pub record PotentialIn (N : Type 0) : Type 0 where
@@ -62,19 +96,16 @@ module _ (A : Arith) where
   infixl 70 _⊗_
   infixl 70 _⊘_
   infix 80 ⊖_
-  -- a whole number of the source, as a point; and x.recip()
-  abbrev pub whole : ℕ → Num
-  whole n = lit (decimal false n 0)
-
+  -- x.recip()
   abbrev pub recip : Num → Num
-  recip x = whole 1 ⊘ x
+  recip x = whole A 1 ⊘ x
 
   -- D_QM_PREFACTOR = PLANCK * PLANCK / (TAU * TAU) / 12.0 * 1e20 / KB
   unfoldable pub prefactor : Functions Num → Num
   prefactor F =
       let planck = lit (decimal false 662607015 42) in
       let kb = lit (decimal false 1380649 29) in
-      planck ⊗ planck ⊘ (F .tau ⊗ F .tau) ⊘ whole 12 ⊗ whole 100000000000000000000 ⊘ kb
+      planck ⊗ planck ⊘ (F .tau ⊗ F .tau) ⊘ whole A 12 ⊗ whole A 100000000000000000000 ⊘ kb
 
   -- `quantum_d_mass`: temperature.recip() / mass * D_QM_PREFACTOR
   unfoldable pub quantumD : Functions Num → Num → Num → Num
@@ -82,11 +113,11 @@ module _ (A : Arith) where
 
   -- q1r or q1a: l * (l - 1.0)
   unfoldable pub q1 : Num → Num
-  q1 l = l ⊗ (l ⊖ whole 1)
+  q1 l = l ⊗ (l ⊖ whole A 1)
 
   -- q2r or q2a: 0.5 * (l + 2.0) * (l + 1.0) * l * (l - 1.0)
   unfoldable pub q2 : Num → Num
-  q2 l = lit (decimal false 5 1) ⊗ (l ⊕ whole 2) ⊗ (l ⊕ whole 1) ⊗ l ⊗ (l ⊖ whole 1)
+  q2 l = lit (decimal false 5 1) ⊗ (l ⊕ whole A 2) ⊗ (l ⊕ whole A 1) ⊗ l ⊗ (l ⊖ whole A 1)
 
   -- The nine lines of u, u_r and u_rr, each from its powers rr and ra of the radius and sr and sa of sigma.
   abbrev pub uMie : Num → Num → Num → Num → Num
@@ -96,27 +127,25 @@ module _ (A : Arith) where
   urMie lr la rr sr ra sa = ⊖ recip rr ⊗ lr ⊗ sr ⊕ recip ra ⊗ la ⊗ sa
 
   abbrev pub urrMie : Num → Num → Num → Num → Num → Num → Num
-  urrMie lr la rr sr ra sa = recip rr ⊗ lr ⊗ (lr ⊕ whole 1) ⊗ sr ⊖ recip ra ⊗ la ⊗ (la ⊕ whole 1) ⊗ sa
+  urrMie lr la rr sr ra sa = recip rr ⊗ lr ⊗ (lr ⊕ whole A 1) ⊗ sr ⊖ recip ra ⊗ la ⊗ (la ⊕ whole A 1) ⊗ sa
+
+  -- u of first order, from q1r and q1a, and of second order, from q2r and q2a
+  abbrev pub uQuantum : Num → Num → Num → Num → Num → Num → Num
+  uQuantum qr qa rr sr ra sa = recip rr ⊗ qr ⊗ sr ⊖ recip ra ⊗ qa ⊗ sa
 
   -- first order, to be multiplied by d
-  abbrev pub uFirst : Num → Num → Num → Num → Num → Num → Num
-  uFirst q1r q1a rr sr ra sa = recip rr ⊗ q1r ⊗ sr ⊖ recip ra ⊗ q1a ⊗ sa
-
   abbrev pub urFirst : Num → Num → Num → Num → Num → Num → Num → Num → Num
-  urFirst lr la q1r q1a rr sr ra sa = recip rr ⊗ (⊖ q1r) ⊗ (lr ⊕ whole 2) ⊗ sr ⊕ recip ra ⊗ q1a ⊗ (la ⊕ whole 2) ⊗ sa
+  urFirst lr la q1r q1a rr sr ra sa = recip rr ⊗ (⊖ q1r) ⊗ (lr ⊕ whole A 2) ⊗ sr ⊕ recip ra ⊗ q1a ⊗ (la ⊕ whole A 2) ⊗ sa
 
   abbrev pub urrFirst : Num → Num → Num → Num → Num → Num → Num → Num → Num
-  urrFirst lr la q1r q1a rr sr ra sa = recip rr ⊗ q1r ⊗ (lr ⊕ whole 2) ⊗ (lr ⊕ whole 3) ⊗ sr ⊖ recip ra ⊗ q1a ⊗ (la ⊕ whole 2) ⊗ (la ⊕ whole 3) ⊗ sa
+  urrFirst lr la q1r q1a rr sr ra sa = recip rr ⊗ q1r ⊗ (lr ⊕ whole A 2) ⊗ (lr ⊕ whole A 3) ⊗ sr ⊖ recip ra ⊗ q1a ⊗ (la ⊕ whole A 2) ⊗ (la ⊕ whole A 3) ⊗ sa
 
   -- second order, to be multiplied by d.powi(2)
-  abbrev pub uSecond : Num → Num → Num → Num → Num → Num → Num
-  uSecond q2r q2a rr sr ra sa = recip rr ⊗ q2r ⊗ sr ⊖ recip ra ⊗ q2a ⊗ sa
-
   abbrev pub urSecond : Num → Num → Num → Num → Num → Num → Num → Num → Num
-  urSecond lr la q2r q2a rr sr ra sa = ⊖ recip rr ⊗ q2r ⊗ (lr ⊕ whole 4) ⊗ sr ⊕ recip ra ⊗ q2a ⊗ (la ⊕ whole 4) ⊗ sa
+  urSecond lr la q2r q2a rr sr ra sa = ⊖ recip rr ⊗ q2r ⊗ (lr ⊕ whole A 4) ⊗ sr ⊕ recip ra ⊗ q2a ⊗ (la ⊕ whole A 4) ⊗ sa
 
   abbrev pub urrSecond : Num → Num → Num → Num → Num → Num → Num → Num → Num
-  urrSecond lr la q2r q2a rr sr ra sa = recip rr ⊗ q2r ⊗ (lr ⊕ whole 4) ⊗ (lr ⊕ whole 5) ⊗ sr ⊖ recip ra ⊗ q2a ⊗ (la ⊕ whole 4) ⊗ (la ⊕ whole 5) ⊗ sa
+  urrSecond lr la q2r q2a rr sr ra sa = recip rr ⊗ q2r ⊗ (lr ⊕ whole A 4) ⊗ (lr ⊕ whole A 5) ⊗ sr ⊖ recip ra ⊗ q2a ⊗ (la ⊕ whole A 4) ⊗ (la ⊕ whole A 5) ⊗ sa
 
   -- u += d * x, u_r += d * y, u_rr += d * z
   abbrev pub corrected : Num → PotentialIn Num → Num → Num → Num → PotentialIn Num
@@ -161,24 +190,24 @@ module _ (A : Arith) where
       unfoldable pub mie : Ans (PotentialIn Num)
       mie =
           line (p .lr) (p .la) uMie >>= λ u.
-          line (p .lr ⊕ whole 1) (p .la ⊕ whole 1) (urMie (p .lr) (p .la)) >>= λ u-r.
-          line (p .lr ⊕ whole 2) (p .la ⊕ whole 2) (urrMie (p .lr) (p .la)) >>= λ u-rr.
+          line (p .lr ⊕ whole A 1) (p .la ⊕ whole A 1) (urMie (p .lr) (p .la)) >>= λ u-r.
+          line (p .lr ⊕ whole A 2) (p .la ⊕ whole A 2) (urrMie (p .lr) (p .la)) >>= λ u-rr.
           held (record { u = u; u-r = u-r; u-rr = u-rr })
 
       -- the correction of first order
       unfoldable pub addFirst : PotentialIn Num → Ans (PotentialIn Num)
       addFirst v =
-          line (p .lr ⊕ whole 2) (p .la ⊕ whole 2) (uFirst q1r q1a) >>= λ x.
-          line (p .lr ⊕ whole 3) (p .la ⊕ whole 3) (urFirst (p .lr) (p .la) q1r q1a) >>= λ y.
-          line (p .lr ⊕ whole 4) (p .la ⊕ whole 4) (urrFirst (p .lr) (p .la) q1r q1a) >>= λ z.
+          line (p .lr ⊕ whole A 2) (p .la ⊕ whole A 2) (uQuantum q1r q1a) >>= λ x.
+          line (p .lr ⊕ whole A 3) (p .la ⊕ whole A 3) (urFirst (p .lr) (p .la) q1r q1a) >>= λ y.
+          line (p .lr ⊕ whole A 4) (p .la ⊕ whole A 4) (urrFirst (p .lr) (p .la) q1r q1a) >>= λ z.
           held (corrected d v x y z)
 
       -- the correction of second order; d.powi(2) is worked for each of the three
       unfoldable pub addSecond : PotentialIn Num → Ans (PotentialIn Num)
       addSecond v =
-          line (p .lr ⊕ whole 4) (p .la ⊕ whole 4) (uSecond q2r q2a) >>= λ x.
-          line (p .lr ⊕ whole 5) (p .la ⊕ whole 5) (urSecond (p .lr) (p .la) q2r q2a) >>= λ y.
-          line (p .lr ⊕ whole 6) (p .la ⊕ whole 6) (urrSecond (p .lr) (p .la) q2r q2a) >>= λ z.
+          line (p .lr ⊕ whole A 4) (p .la ⊕ whole A 4) (uQuantum q2r q2a) >>= λ x.
+          line (p .lr ⊕ whole A 5) (p .la ⊕ whole A 5) (urSecond (p .lr) (p .la) q2r q2a) >>= λ y.
+          line (p .lr ⊕ whole A 6) (p .la ⊕ whole A 6) (urrSecond (p .lr) (p .la) q2r q2a) >>= λ z.
           held (corrected (pow d 2) v x y z)
 
       -- `qmie_potential_ij` at the radius r

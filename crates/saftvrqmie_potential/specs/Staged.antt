@@ -3,13 +3,13 @@ use Prim.Native.Nat.{ℕ}
 use lib.Ieee.{Float}
 use mathlib.Core.Bool.{Bool, true, _&&_, cond}
 use Rattle.number.specs.Ans.{Ans, held, refused, _>>=_, demand}
-use Rattle.number.specs.Arith.{floats}
+use Rattle.number.specs.Arith.{floats, whole}
 use Rattle.number.specs.Functions.{calls}
 use Rattle.elementary.specs.Port.{port}
 use Rattle.binary_log.specs.declared.Log.{Log}
 use Rattle.binary_log.specs.BinaryLog.{baseInside, logOf}
 use Rattle.power.specs.Power.{exponentInside, exponentOf, powerOf}
-use Rattle.saftvrqmie_potential.specs.Potential.{PotentialIn, firstOrder, secondOrder, whole, quantumD, q1, q2, uMie, urMie, urrMie, uFirst, urFirst, urrFirst, uSecond, urSecond, urrSecond, corrected, scaled}
+use Rattle.saftvrqmie_potential.specs.Potential.{PotentialIn, firstOrder, secondOrder, quantumD, q1, q2, uMie, urMie, urrMie, urFirst, urrFirst, urSecond, urrSecond, corrected, scaled, uQuantum}
 use Rattle.saftvrqmie_potential.specs.declared.Pair.{Pair}
 use Rattle.saftvrqmie_potential.specs.declared.Term.{Term}
 use Rattle.saftvrqmie_potential.specs.declared.Shared.{Shared}
@@ -93,14 +93,14 @@ module _ (w : Shared) (l : Log) where
   unfoldable pub firstAt : Float → Float → Float → Float → PotentialIn Float → PotentialIn Float
   firstAt r2 a2 r4 a4 v =
       corrected floats (w .d) v
-      (uFirst floats (w .r .q1) (w .a .q1) r2 (w .r .power) a2 (w .a .power))
+      (uQuantum floats (w .r .q1) (w .a .q1) r2 (w .r .power) a2 (w .a .power))
       (urFirst floats (w .r .lambda) (w .a .lambda) (w .r .q1) (w .a .q1) (powerOf l (w .r .e3)) (w .r .power) (powerOf l (w .a .e3)) (w .a .power))
       (urrFirst floats (w .r .lambda) (w .a .lambda) (w .r .q1) (w .a .q1) r4 (w .r .power) a4 (w .a .power))
 
   unfoldable pub secondAt : Float → Float → PotentialIn Float → PotentialIn Float
   secondAt r4 a4 v =
       corrected floats (w .d2) v
-      (uSecond floats (w .r .q2) (w .a .q2) r4 (w .r .power) a4 (w .a .power))
+      (uQuantum floats (w .r .q2) (w .a .q2) r4 (w .r .power) a4 (w .a .power))
       (urSecond floats (w .r .lambda) (w .a .lambda) (w .r .q2) (w .a .q2) (powerOf l (w .r .e5)) (w .r .power) (powerOf l (w .a .e5)) (w .a .power))
       (urrSecond floats (w .r .lambda) (w .a .lambda) (w .r .q2) (w .a .q2) (powerOf l (w .r .e6)) (w .r .power) (powerOf l (w .a .e6)) (w .a .power))
 

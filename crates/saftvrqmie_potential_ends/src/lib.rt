@@ -6,7 +6,7 @@ ghost use Rattle.number.specs.Functions.{calls};
 ghost use Rattle.elementary.specs.Port.{port};
 ghost use Rattle.enclosure.specs.Enclosure.{enclosures, point, addE};
 ghost use Rattle.saftvrqmie_alpha_ends.specs.Pair.{pairIn};
-ghost use Rattle.saftvrqmie_potential.specs.Potential.{recip, q1, q2, uMie, urMie, urrMie, uFirst, urFirst, urrFirst, urSecond, urrSecond, corrected, scaled, afterShared, line, mie, addFirst, addSecond, potential};
+ghost use Rattle.saftvrqmie_potential.specs.Potential.{recip, q1, q2, uMie, urMie, urrMie, urFirst, urrFirst, urSecond, urrSecond, corrected, scaled, afterShared, line, mie, addFirst, addSecond, potential, uQuantum};
 ghost use Rattle.saftvrqmie_potential_ends.specs.Values.{potentialIn, potentialAnswer};
 ghost use Rattle.saftvrqmie_potential_ends.specs.Shared.{Sharing, Shares, lineOf};
 use enclosure::Enclosure;
@@ -146,7 +146,7 @@ fn urr_mie(w: PairShared, l: LinePowers) -> Enclosure
 
 // The first line of both orders.
 fn u_corrected(w: PairShared, qr: Enclosure, qa: Enclosure, l: LinePowers) -> Enclosure
-    ensures { λ r. ⌜ r ≡ uFirst enclosures qr qa (l .rr) (w .sr) (l .ra) (w .sa) ⌝ }
+    ensures { λ r. ⌜ r ≡ uQuantum enclosures qr qa (l .rr) (w .sr) (l .ra) (w .sa) ⌝ }
 {
     enclosure::sub(one_factor(l.rr, qr, w.sr), one_factor(l.ra, qa, w.sa))
 }

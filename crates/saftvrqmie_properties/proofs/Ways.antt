@@ -3,10 +3,10 @@ use Prim.Native.Nat.{ℕ}
 use lib.Ieee.{Float}
 use mathlib.Core.Path.{_≡_, sym, _∙_}
 use Rattle.number.specs.Ans.{Ans, held, refused, _>>=_}
-use Rattle.number.specs.Arith.{floats}
+use Rattle.number.specs.Arith.{floats, whole}
 use Rattle.number.specs.Functions.{calls}
 use Rattle.elementary.specs.Port.{port}
-use Rattle.saftvrqmie_potential.specs.Potential.{pairIn, whole, quantumD}
+use Rattle.saftvrqmie_potential.specs.Potential.{pairIn, quantumD}
 use Rattle.saftvrqmie_potential.specs.Staged.{sharedOf, potentialAt}
 use Rattle.saftvrqmie_potential.specs.declared.Pair.{Pair}
 use Rattle.saftvrqmie_potential.specs.declared.Shared.{Shared}

@@ -2,9 +2,9 @@
 use Prim.Native.Nat.{ℕ}
 use lib.Ieee.{Float}
 use Rattle.number.specs.Ans.{Ans, held, refused, _>>=_}
-use Rattle.number.specs.Arith.{Arith}
+use Rattle.number.specs.Arith.{Arith, whole}
 use Rattle.number.specs.Functions.{Functions}
-use Rattle.saftvrqmie_potential.specs.Potential.{PairIn, PotentialIn, whole, quantumD, potential}
+use Rattle.saftvrqmie_potential.specs.Potential.{PairIn, PotentialIn, quantumD, potential}
 use Rattle.saftvrqmie_searches.specs.Searches.{SearchIn, found, spent, sigmaSearch, zeroSearch, depthSearch}
 use Rattle.saftvrqmie_searches.specs.Diameter.{diameterBy}
 use Rattle.saftvrqmie_properties.specs.declared.PairProperties.{PairProperties}

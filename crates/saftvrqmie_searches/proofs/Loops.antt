@@ -5,7 +5,7 @@ use lib.Ieee.{Float}
 use mathlib.Core.Path.{_≡_, refl, fun-ext}
 use mathlib.Core.Bool.{Bool, true, false}
 use Rattle.number.specs.Ans.{Ans, held, refused, _>>=_}
-use Rattle.number.specs.Arith.{floats, decimal}
+use Rattle.number.specs.Arith.{floats, decimal, epsilon64}
 use Rattle.number.specs.Functions.{calls, answered}
 use Rattle.elementary.specs.Port.{port}
 use Rattle.saftvrqmie_potential.specs.Potential.{PotentialIn}
@@ -13,7 +13,7 @@ use Rattle.saftvrqmie_potential.specs.Staged.{potentialAt}
 use Rattle.saftvrqmie_potential.specs.declared.Shared.{Shared}
 use Rattle.saftvrqmie_potential.proofs.Staged.{at-either}
 use Rattle.saftvrqmie_searches.specs.declared.SearchKind.the-variants.{Sigma, Zero, Depth}
-use Rattle.saftvrqmie_searches.specs.Searches.{Counted, found, spent, small, searchFrom, searched, epsilon, zeroValue, zeroTested, sigmaSearch, depthSearch, zeroSearch, searchBy}
+use Rattle.saftvrqmie_searches.specs.Searches.{Counted, found, spent, small, searchFrom, searched, zeroValue, zeroTested, sigmaSearch, depthSearch, zeroSearch, searchBy}
 
 -- ---- at the loop: k evaluations done; what is left, run on from here, is the whole search
 module _ (U : Float → Ans (PotentialIn Float)) (tested : PotentialIn Float → Float) (moved : Float → PotentialIn Float → Float → Float) where
@@ -79,14 +79,14 @@ once (held v) x = refl
 once (refused n) x = refl
 
 module _ (w : Shared) (t s : Float) where
-  tested-held : (l : Float) → port .ln epsilon ≡ held l → zeroTested floats (calls floats port) t ≡ (λ v. held (zeroValue floats t l v))
+  tested-held : (l : Float) → port .ln epsilon64 ≡ held l → zeroTested floats (calls floats port) t ≡ (λ v. held (zeroValue floats t l v))
   unfolding zeroTested _>>=_
-  tested-held l e = fun-ext (λ v. rw (once (port .ln epsilon) epsilon, e))
+  tested-held l e = fun-ext (λ v. rw (once (port .ln epsilon64) epsilon64, e))
 
-  pub log-held : (l : Float) → port .ln epsilon ≡ held l → searchBy floats Zero (potentialAt w) t l (floats .mul s (decimal false 7 1)) ≡ zeroSearch floats (potentialAt w) (calls floats port) t s
+  pub log-held : (l : Float) → port .ln epsilon64 ≡ held l → searchBy floats Zero (potentialAt w) t l (floats .mul s (decimal false 7 1)) ≡ zeroSearch floats (potentialAt w) (calls floats port) t s
   unfolding zeroSearch searchBy
   log-held l e = rw (tested-held l e)
 
-  pub log-refused : port .ln epsilon ≡ refused 6 → refused 6 ≡ zeroSearch floats (potentialAt w) (calls floats port) t s
+  pub log-refused : port .ln epsilon64 ≡ refused 6 → refused 6 ≡ zeroSearch floats (potentialAt w) (calls floats port) t s
   unfolding zeroSearch searched searchFrom zeroTested _>>=_
-  log-refused e = at-either w (floats .mul s (decimal false 7 1)) (λ v q. rw (q, once (port .ln epsilon) epsilon, e)) (λ q. rw q)
+  log-refused e = at-either w (floats .mul s (decimal false 7 1)) (λ v q. rw (q, once (port .ln epsilon64) epsilon64, e)) (λ q. rw q)

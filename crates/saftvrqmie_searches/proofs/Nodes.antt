@@ -1,36 +1,19 @@
 -- Laws of the 21-node rule: its tables, one node, a pair without a potential. Assumes nothing.
-use Prim.Native.Nat.{ℕ, zero, suc, _≤_}
+use Prim.Native.Nat.{ℕ}
 use native.Mathlib.Omega.{arith}
-use native.Mathlib.Nat.{not-suc-le-zero, le-of-suc-le-suc}
 use lib.Ieee.{Float}
-use lib.ListN.{getD, length}
-use mathlib.Core.Path.{_≡_, refl, sym, ap, _∙_}
-use mathlib.Core.List.{List, [], _∷_}
+use mathlib.Core.Path.{_≡_, refl, sym, _∙_}
 use mathlib.Core.Bool.{false}
 use Rattle.number.specs.Ans.{Ans, held, refused, _>>=_}
 use Rattle.number.specs.Arith.{floats, decimal}
-use Rattle.number.specs.Functions.{calls}
+use Rattle.number.specs.Functions.{calls, entry}
 use Rattle.number.proofs.Walk.{walk-none, walk-stop}
 use Rattle.elementary.specs.Port.{port}
 use Rattle.saftvrqmie_potential.specs.Potential.{PotentialIn}
 use Rattle.saftvrqmie_potential.specs.Staged.{potentialAt, uAt}
 use Rattle.saftvrqmie_potential.specs.declared.Shared.{Shared}
 use Rattle.saftvrqmie_searches.proofs.Loops.{once, none}
-use Rattle.saftvrqmie_searches.specs.Diameter.{Decimal, above, abscissas, weights, entry, nodeTurn, diameterBy}
-
--- ---- the tables: an entry at a place that is told, and none beyond
-module _ (l : List Decimal) where
-  pub entry-at : (j k : ℕ) → j ≡ k → entry (calls floats port) l k ≡ entry (calls floats port) l j
-  entry-at j k e = ap (λ (z : ℕ). entry (calls floats port) l z) (sym e)
-
-none-beyond : (l : List Decimal) (k : ℕ) → length l ≤ k → getD l k (above 0) ≡ above 0
-none-beyond [] k h = refl
-none-beyond (e ∷ l) zero h = absurd (not-suc-le-zero h)
-none-beyond (e ∷ l) (suc k) h = none-beyond l k (le-of-suc-le-suc h)
-
-pub entry-beyond : (l : List Decimal) (k : ℕ) → length l ≤ k → decimal false 0 33 ≡ entry (calls floats port) l k
-unfolding entry
-entry-beyond l k h = rw (none-beyond l k h)
+use Rattle.saftvrqmie_searches.specs.Diameter.{abscissas, weights, nodeTurn, diameterBy}
 
 -- ---- one node, of which only u is read
 by-u : {S : Type 0} (a : Ans (PotentialIn Float)) (g : Float → Ans S) → (a >>= λ v. g (v .u)) ≡ (a >>= (λ v. held (v .u)) >>= g)

@@ -7,13 +7,13 @@ use mathlib.Core.Bool.{false}
 use mathlib.Core.List.{List}
 use Rattle.number.specs.Ans.{Ans}
 use Rattle.number.specs.Arith.{Arith, decimal}
-use Rattle.number.specs.Functions.{Functions}
+use Rattle.number.specs.Functions.{Functions, Decimal, entry}
 use Rattle.number.specs.Neighbour.{absolute}
 use Rattle.number.proofs.Rel.{Rel, FunRel, Both, both-held, then-both, cond-rel, walk-rel}
 use Rattle.saftvrqmie_potential.specs.Potential.{PairIn, PotentialIn, potential}
 use Rattle.saftvrqmie_potential.proofs.Relation.{PairR, PotentialR, potential-rel}
 use Rattle.saftvrqmie_searches.specs.Searches.{SearchIn, Counted, found, spent, clamped, searchFrom, searched, zeroTested, sigmaSearch, depthSearch, zeroSearch, sigmaEff, zeroIntegrand, epsilonKEff}
-use Rattle.saftvrqmie_searches.specs.Diameter.{Decimal, abscissas, weights, entry, nodeTurn, diameterBy, diameter}
+use Rattle.saftvrqmie_searches.specs.Diameter.{abscissas, weights, nodeTurn, diameterBy, diameter}
 
 pub data SearchR {S T : Type 0} (R : S → T → Type 0) : SearchIn S → SearchIn T → Type 0 where
   found-both : {r u : S} {r' u' : T} → R r r' → R u u' → SearchR R (found r u) (found r' u')

@@ -1,24 +1,19 @@
 -- `hs_diameter_ij` of saftvrqmie/eos/hard_sphere.rs: the 21-node rule of QUADPACK from r0 to sigma_eff, over any arithmetic.
 use Prim.Native.Nat.{ℕ}
-use lib.ListN.{getD}
-use mathlib.Core.Bool.{Bool, true, false}
+use mathlib.Core.Bool.{true, false}
 use mathlib.Core.List.{List, [], _∷_}
 use Rattle.number.specs.Ans.{Ans, held, _>>=_}
 use Rattle.number.specs.Arith.{Arith, decimal}
-use Rattle.number.specs.Functions.{Functions}
+use Rattle.number.specs.Functions.{Functions, Decimal, dec, entry}
 use Rattle.number.specs.Walk.{walk}
 use Rattle.saftvrqmie_potential.specs.Potential.{PairIn, PotentialIn, potential}
 
--- a decimal below 1 with 33 places: whether it is negative, and its digits
-pub record Decimal : Type 0 where
-  pub minus : Bool
-  pub digits : ℕ
-
+-- a decimal below 1 with 33 places, below and above 0
 abbrev pub below : ℕ → Decimal
-below n = record { minus = true; digits = n }
+below n = dec true n 33
 
 abbrev pub above : ℕ → Decimal
-above n = record { minus = false; digits = n }
+above n = dec false n 33
 
 -- X_K21
 abbrev pub abscissas : List Decimal
@@ -69,10 +64,6 @@ weights =
     above 54755896574351996031381300244580 ∷
     above 32558162307964727478818972459390 ∷
     above 11694638867371874278064396062192 ∷ []
-
--- entry k of a table; beyond it is not read
-unfoldable pub entry : {N : Type 0} → Functions N → List Decimal → ℕ → N
-entry F table k = let e = getD table k (above 0) in F .node (e .minus) (e .digits) 33
 
 module _ (A : Arith) where
   open Arith A using (Num, add as _⊕_, sub as _⊖_, mul as _⊗_, div as _⊘_, neg as ⊖_, lit, after)

@@ -4,10 +4,10 @@ use lib.Ieee as Ieee
 use lib.Ieee.{Float, binary64, lt}
 use mathlib.Core.Bool.{Bool, false, cond}
 use Rattle.number.specs.Ans.{Ans, held, refused, _>>=_}
-use Rattle.number.specs.Arith.{Arith, decimal, zero64, bits}
+use Rattle.number.specs.Arith.{Arith, decimal, zero64, epsilon64, whole}
 use Rattle.number.specs.Functions.{Functions}
 use Rattle.number.specs.Neighbour.{absolute}
-use Rattle.saftvrqmie_potential.specs.Potential.{PairIn, PotentialIn, whole, potential}
+use Rattle.saftvrqmie_potential.specs.Potential.{PairIn, PotentialIn, potential}
 use Rattle.saftvrqmie_searches.specs.declared.Search.{Search}
 use Rattle.saftvrqmie_searches.specs.declared.Search.the-variants.{Found, Spent}
 use Rattle.saftvrqmie_searches.specs.declared.SearchKind.{SearchKind}
@@ -28,10 +28,6 @@ pub record Counted (N : Type 0) : Type 0 where
 abbrev pub searchIn : Search → SearchIn Float
 searchIn (Found r u) = found r u
 searchIn (Spent r u) = spent r u
-
--- f64::EPSILON, 2^-52
-abbrev pub epsilon : Float
-epsilon = bits 0x3cb0_0000_0000_0000
 
 -- document 01's number or values of each case of `SearchAnswer`
 abbrev pub searchAnswer : SearchAnswer → Ans (Counted Float)
@@ -54,7 +50,7 @@ module _ (A : Arith) where
   clamped dr =
       cond (lt (decimal false 5 1) (absolute (val dr))) (dr ⊗ lit (Ieee.div binary64 (decimal false 5 1) (absolute (val dr)))) dr
 
-  -- A search by the potential U: what is tested, and the next radius from the radius, its potential and the tested value. The radius stands after both derivatives; u is kept beside it, as the last potential.
+  -- A search by the potential U: what is tested, and the next radius from the radius, its potential and the tested value. Both derivatives are worked at each evaluation, whether used or not, so that the radius stands `after` them (number/specs/Arith; in floats it is the radius itself); u is kept beside it, as the last potential.
   module _ (U : Num → Ans (PotentialIn Num)) (tested : PotentialIn Num → Ans Num) (moved : Num → PotentialIn Num → Num → Num) where
     -- at most n evaluations more from the radius r; u is the last potential
     unfoldable pub searchFrom : ℕ → Num → Num → Ans (Counted Num)
@@ -86,7 +82,7 @@ module _ (A : Arith) where
   zeroValue temperature l v = v .u ⊘ temperature ⊕ l
 
   unfoldable pub zeroTested : Functions Num → Num → PotentialIn Num → Ans Num
-  zeroTested F temperature v = F .ln (lit epsilon) >>= λ l. held (zeroValue temperature l v)
+  zeroTested F temperature v = F .ln (lit epsilon64) >>= λ l. held (zeroValue temperature l v)
 
   module _ (U : Num → Ans (PotentialIn Num)) where
     -- the searches by a potential U: the sigma search tests u, the depth search u_r, the zero search f

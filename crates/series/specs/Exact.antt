@@ -1,6 +1,6 @@
 -- The exact values of the elementary functions as document 01 has them ('Exact values are brackets of fractions'): what lies in the bracket of each, as a relation.
-use mathlib.Core.Bool.{Bool, true, false, cond}
-use Prim.Native.Nat.{ℕ, _+_, _*_, _^_}
+use mathlib.Core.Bool.{Bool, cond}
+use Prim.Native.Nat.{ℕ, _+_, _*_}
 use Rattle.number.specs.Frac.{Frac, frac, Pos, leF, ltF, negF, addF, subF, mulF, divF, sgn}
 use Rattle.series.specs.Sums.{natF, overF, absF, eqF, powF, sumF, factorial, scaleF}
 

@@ -5,7 +5,7 @@ use mathlib.Core.Bool.{Bool, true, false}
 use Rattle.number.specs.Ans.{Ans, held, refused}
 use Rattle.mie_parameters.specs.declared.ParameterAnswer.{ParameterAnswer}
 use Rattle.mie_parameters.specs.declared.ParameterAnswer.the-variants.{Held, Refused}
-use Rattle.mie_parameters.specs.Answer.{verdict, kept}
+use Rattle.mie_parameters.specs.Answer.{verdict, stored}
 use Rattle.saftvrqmie_parameters.specs.Parameters as Quantum
 use Rattle.saftvrqmie_parameters.specs.declared.SaftVRQMiePars.{SaftVRQMiePars}
 use Rattle.saftvrqmie_parameters.specs.declared.ParameterSet as QuantumGiven
@@ -50,13 +50,13 @@ mie-not (refused k) n e = cc
 pub mie-refused : (q : Ans SaftVRMiePars) (g : MieGiven.ParameterSet) (n : ℕ) → g ≡ Mie.given q → g .answer ≡ Refused n → q ≡ refused n
 mie-refused q g n p e = mie-not q n (ap (λ (g : MieGiven.ParameterSet). g .answer) (sym p) ∙ e)
 
--- an operation that leaves what it was lent by `kept`
-was : {S : Type 0} (q : Ans S) (l : S) → verdict q ≡ Held → q ≡ held (kept l q)
-unfolding verdict kept
+-- an operation that leaves what it was lent by `stored`
+was : {S : Type 0} (q : Ans S) (l : S) → verdict q ≡ Held → q ≡ held (stored l q)
+unfolding verdict stored
 was (held x) l e = refl
 was (refused n) l e = absurd (mathlib.Core.Bool.false≢true (ap isHeld e))
 
-pub verdict-held : {S : Type 0} (q : Ans S) (l : S) (r : ParameterAnswer) → r ≡ verdict q → r ≡ Held → q ≡ held (kept l q)
+pub verdict-held : {S : Type 0} (q : Ans S) (l : S) (r : ParameterAnswer) → r ≡ verdict q → r ≡ Held → q ≡ held (stored l q)
 verdict-held q l r p e = was q l (sym p ∙ e)
 
 was-not : {S : Type 0} (q : Ans S) (n : ℕ) → verdict q ≡ Refused n → q ≡ refused n

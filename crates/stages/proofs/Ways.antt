@@ -11,14 +11,14 @@ use Rattle.number.specs.Side.{side}
 use Rattle.number.proofs.Walk.{then-held, held-inj}
 use Rattle.saftvrqmie_parameters.specs.Parameters as Quantum
 use Rattle.saftvrqmie_parameters.specs.declared.SaftVRQMiePars.{SaftVRQMiePars}
-use Rattle.saftvrqmie.specs.Table.{Lent, temperatureTable}
+use Rattle.saftvrqmie.specs.Table.{Lent, temperatureTable, blank}
 use Rattle.saftvrqmie_energies.specs.Energies.{EnergiesIn, energies}
 use Rattle.saftvrmie_parameters.specs.Parameters as Mie
 use Rattle.saftvrmie_parameters.specs.declared.SaftVRMiePars.{SaftVRMiePars}
 use Rattle.saftvrmie_parameters.proofs.Laws as MieLaws
 use Rattle.saftvrmie.specs.Diameters.{diameters}
 use Rattle.saftvrmie_energies.specs.Energies.{energy}
-use Rattle.stages.specs.Stages.{ownTable, quantumStage, ownDiameters, mieEnergy, mieStage}
+use Rattle.stages.specs.Stages.{quantumStage, ownDiameters, mieEnergy, mieStage}
 
 module _ (l : Quantum.Lists) (t : Float) (x rho : List Float) (wanted : Bool) where
   pub quantum-parameters : (a : Ans (EnergiesIn Float)) (k : ℕ) → Quantum.saftVRQMiePars l ≡ refused k → a ≡ refused k → a ≡ quantumStage l t x rho wanted
@@ -26,11 +26,11 @@ module _ (l : Quantum.Lists) (t : Float) (x rho : List Float) (wanted : Bool) wh
   quantum-parameters a k p q = rw (p, q)
 
   module _ (s : SaftVRQMiePars) (p : Quantum.saftVRQMiePars l ≡ held s) where
-    pub quantum-table : (a : Ans (EnergiesIn Float)) (k : ℕ) → temperatureTable s t ownTable ≡ refused k → a ≡ refused k → a ≡ quantumStage l t x rho wanted
+    pub quantum-table : (a : Ans (EnergiesIn Float)) (k : ℕ) → temperatureTable s t blank ≡ refused k → a ≡ refused k → a ≡ quantumStage l t x rho wanted
     unfolding quantumStage _>>=_
     quantum-table a k q r = rw (p, q, r)
 
-    pub quantum-energies : (a : Ans (EnergiesIn Float)) (w : Lent) (table : List Float) → temperatureTable s t ownTable ≡ held w → table ≡ w .values → a ≡ energies s t x rho table wanted → a ≡ quantumStage l t x rho wanted
+    pub quantum-energies : (a : Ans (EnergiesIn Float)) (w : Lent) (table : List Float) → temperatureTable s t blank ≡ held w → table ≡ w .values → a ≡ energies s t x rho table wanted → a ≡ quantumStage l t x rho wanted
     unfolding quantumStage _>>=_
     quantum-energies a w table q e r = rw (p, q, ← e) r
 

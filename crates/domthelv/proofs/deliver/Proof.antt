@@ -1,5 +1,5 @@
 -- `domthelv::deliver` meets its contract. Assumes nothing.
-use Rattle.domthelv.specs.Boundary.{status, stored}
+use Rattle.mie_parameters.specs.Answer.{verdict, status, stored}
 use borrow.Author.Needs.{needs}
 use Rattle.domthelv.proofs.deliver.Statement.{statement}
 use Rattle.domthelv.proofs.deliver.Tie as tie
@@ -11,11 +11,11 @@ enum-told : tie.Need-enum-told
 enum-told c = search needs
 
 returns : tie.Need-returns
-unfolding status stored
+unfolding status verdict stored
 returns c = (rw ((c .enum-told) .given .1), rw ((c .enum-told) .given .1))
 
 returns-2 : tie.Need-returns-2
-unfolding status stored
+unfolding status verdict stored
 returns-2 c = (rw ((c .before .a) .given .1), rw ((c .before .a) .given .1))
 
 pub deliver-spec : {M : Type 1} → statement M

@@ -1,5 +1,4 @@
 -- `saftvrmie::diagonal` meets its contract. Assumes nothing.
-use Rattle.saftvrmie.specs.Diameters.{diagonal}
 use mathlib.Core.Path.{refl}
 use borrow.Author.Needs.{needs}
 use Rattle.saftvrmie.proofs.diagonal.Statement.{statement}
@@ -24,7 +23,6 @@ element-copy-out-result : tie.Need-element-copy-out-result
 element-copy-out-result c = search needs
 
 returns : tie.Need-returns
-unfolding diagonal
 returns c = refl
 
 pub diagonal-spec : {M : Type 1} → statement M

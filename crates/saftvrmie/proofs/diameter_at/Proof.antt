@@ -1,5 +1,5 @@
 -- `saftvrmie::diameter_at` meets its contract. Assumes nothing.
-use Rattle.saftvrmie.specs.Diameters.{diameterAt}
+use Rattle.saftvrmie.proofs.Pairs.{diameter-read}
 use borrow.Author.Needs.{needs}
 use Rattle.saftvrmie.proofs.diameter_at.Statement.{statement}
 use Rattle.saftvrmie.proofs.diameter_at.Tie as tie
@@ -23,8 +23,7 @@ hs-diameter-ij-requires : tie.Need-hs-diameter-ij-requires
 hs-diameter-ij-requires c κs = search needs
 
 returns : tie.Need-returns
-unfolding diameterAt
-returns c = rw (← (c .before .diagonal5) .ensures, ← (c .before .before .diagonal4) .ensures, ← (c .before .before .before .diagonal3) .ensures, ← (c .before .before .before .before .diagonal2) .ensures, ← (c .before .before .before .before .before .diagonal) .ensures) ((c .hs-diameter-ij) .ensures)
+returns c = diameter-read _ _ _ _ _ _ _ _ _ ((c .before .before .before .before .before .diagonal) .ensures) ((c .before .before .before .before .diagonal2) .ensures) ((c .before .before .before .diagonal3) .ensures) ((c .before .before .diagonal4) .ensures) ((c .before .diagonal5) .ensures) ((c .hs-diameter-ij) .ensures)
 
 pub diameter-at-spec : {M : Type 1} → statement M
 diameter-at-spec =

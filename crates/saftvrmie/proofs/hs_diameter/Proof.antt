@@ -1,7 +1,7 @@
 -- `saftvrmie::hs_diameter` meets its contract. Assumes nothing.
 use denote.Ref.{now}
 use Rattle.saftvrmie.proofs.Laws.{own-high, own-length, own-right, own-refused, own-written}
-use Rattle.mie_parameters.specs.Answer.{verdict, kept}
+use Rattle.mie_parameters.specs.Answer.{verdict, stored}
 use Rattle.mie_parameters.proofs.Laws.{held-at, refused-at}
 use borrow.Author.Needs.{needs}
 use Rattle.saftvrmie.proofs.hs_diameter.Statement.{statement}
@@ -17,7 +17,7 @@ enum-told-2 : tie.Need-enum-told-2
 enum-told-2 c = search needs
 
 returns : tie.Need-returns
-unfolding verdict kept
+unfolding verdict stored
 returns c = let e = own-refused _ _ _ (now ((c .before .before .before .before .before .before .args) .out)) _ (refused-at _ _ _ _ ((c .before .before .diameters-of) .ensures) ((c .enum-told2) .given .1)) in (rw e ((c .enum-told2) .given .1), rw e)
 
 write-requires : tie.Need-write-requires
@@ -27,7 +27,7 @@ same-length : tie.Need-same-length
 same-length c = search needs
 
 returns-2 : tie.Need-returns-2
-unfolding verdict kept
+unfolding verdict stored
 returns-2 c = let e = own-written _ _ _ (now ((c .before .before .before .before .before .before .before .before .before .before .before .before .args) .out)) _ (held-at _ _ _ ((c .before .before .before .before .before .before .before .before .diameters-of) .ensures) ((c .before .before .before .before .before .before .enum-told) .given .1)) in (rw e, rw e ((c .before .before .write) .ensures))
 
 pub hs-diameter-spec : {M : Type 1} → statement M

@@ -1,5 +1,4 @@
 -- `saftvrmie::write` meets its contract. Assumes nothing.
-use Rattle.saftvrmie.specs.Diameters.{written}
 use mathlib.Core.Path.{_≡_, refl}
 use Prim.Native.Nat.{_≤_, _-_}
 use Rattle.number.specs.Walk.{turns}
@@ -44,7 +43,6 @@ same-length : tie.Need-same-length Inv-loop μ-loop
 same-length c = search needs
 
 returns : tie.Need-returns Inv-loop μ-loop
-unfolding written
 returns c = turns-end _ _ _ _ _ ((c .before .loop) .inv .0) ((c .loop-test) .left) ((c .before .loop) .inv .2)
 
 pub write-spec : {M : Type 1} → statement M

@@ -1,10 +1,12 @@
 -- `saftvrmie_diameter::weight` meets its contract: each arm is the list's entry, the default arm that beyond it. Assumes nothing.
 use lib.Ieee.{ofBits, neg}
 use borrow.Author.Needs.{needs}
-use Rattle.number.specs.Arith.{decimal}
+use Rattle.number.specs.Arith.{decimal, floats}
 use Rattle.fixed_point.proofs.Arms.{above}
-use Rattle.saftvrmie_diameter.specs.Diameter.{entry, weights}
-use Rattle.saftvrmie_diameter.proofs.Staged.{entry-at, entry-beyond}
+use Rattle.number.specs.Functions.{entry, calls}
+use Rattle.elementary.specs.Port.{port}
+use Rattle.saftvrmie_diameter.specs.Diameter.{weights}
+use Rattle.number.proofs.Entries.{entry-at, entry-beyond}
 use Rattle.saftvrmie_diameter.proofs.weight.Statement.{statement}
 use Rattle.saftvrmie_diameter.proofs.weight.Tie as tie
 
@@ -33,14 +35,14 @@ weight-spec =
     (λ c. search needs)
     (λ c. search needs)
     (λ c. search needs)
-    (λ c. entry-at weights _ 0 (c .before .match .keys1))
-    (λ c. entry-at weights _ 1 (c .before .match .keys2))
-    (λ c. entry-at weights _ 2 (c .before .match .keys3))
-    (λ c. entry-at weights _ 3 (c .before .match .keys4))
-    (λ c. entry-at weights _ 4 (c .before .match .keys5))
-    (λ c. entry-at weights _ 5 (c .before .match .keys6))
-    (λ c. entry-at weights _ 6 (c .before .match .keys7))
-    (λ c. entry-at weights _ 7 (c .before .match .keys8))
-    (λ c. entry-at weights _ 8 (c .before .match .keys9))
-    (λ c. entry-at weights _ 9 (c .before .match .keys10))
-    (λ c. entry-beyond weights _ (above _ 10 (c .match .rest))))
+    (λ c. entry-at (calls floats port) weights _ 0 (c .before .match .keys1))
+    (λ c. entry-at (calls floats port) weights _ 1 (c .before .match .keys2))
+    (λ c. entry-at (calls floats port) weights _ 2 (c .before .match .keys3))
+    (λ c. entry-at (calls floats port) weights _ 3 (c .before .match .keys4))
+    (λ c. entry-at (calls floats port) weights _ 4 (c .before .match .keys5))
+    (λ c. entry-at (calls floats port) weights _ 5 (c .before .match .keys6))
+    (λ c. entry-at (calls floats port) weights _ 6 (c .before .match .keys7))
+    (λ c. entry-at (calls floats port) weights _ 7 (c .before .match .keys8))
+    (λ c. entry-at (calls floats port) weights _ 8 (c .before .match .keys9))
+    (λ c. entry-at (calls floats port) weights _ 9 (c .before .match .keys10))
+    (λ c. entry-beyond (calls floats port) weights _ (above _ 10 (c .match .rest))))

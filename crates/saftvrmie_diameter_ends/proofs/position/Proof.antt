@@ -1,7 +1,7 @@
 -- `saftvrmie_diameter_ends::position` meets its contract. Assumes nothing.
 use mathlib.Core.Path.{ap, _∙_}
 use Rattle.enclosure.specs.Enclosure.{point}
-use Rattle.saftvrmie_diameter.specs.Diameter.{entry}
+use Rattle.number.specs.Functions.{entry}
 use borrow.Author.Needs.{needs}
 use Rattle.saftvrmie_diameter_ends.proofs.position.Statement.{statement}
 use Rattle.saftvrmie_diameter_ends.proofs.position.Tie as tie

@@ -1,5 +1,5 @@
 -- `saftvrmie_dispersion::orders_sum` meets its contract. Assumes nothing.
-use Rattle.saftvrmie_dispersion.specs.Terms.{ordersSum}
+use Rattle.mie_parameters.specs.Sums.{ordersSum}
 use borrow.Author.Needs.{needs}
 use Rattle.saftvrmie_dispersion.proofs.orders_sum.Statement.{statement}
 use Rattle.saftvrmie_dispersion.proofs.orders_sum.Tie as tie

@@ -1,5 +1,5 @@
 -- `saftvrmie_dispersion_ends::f_1` meets its contract. Assumes nothing.
-use Rattle.saftvrmie_dispersion.specs.Terms.{phi1}
+use Rattle.mie_parameters.specs.Tables.{phi1}
 use Rattle.saftvrmie_dispersion_ends.proofs.Shared.{f-of}
 use lib.Ieee.{ofBits, neg}
 use Rattle.number.specs.Arith.{decimal}

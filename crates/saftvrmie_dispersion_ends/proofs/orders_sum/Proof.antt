@@ -1,5 +1,5 @@
 -- `saftvrmie_dispersion_ends::orders_sum` meets its contract. Assumes nothing.
-use Rattle.saftvrmie_dispersion.specs.Terms.{ordersSum}
+use Rattle.mie_parameters.specs.Sums.{ordersSum}
 use Rattle.number.specs.Arith.{decimal}
 use lib.Ieee.{ofBits, neg}
 use borrow.Author.Needs.{needs}

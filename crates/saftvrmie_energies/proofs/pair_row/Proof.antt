@@ -10,7 +10,7 @@ use Rattle.number.specs.Functions.{calls}
 use Rattle.number.specs.Arith.{floats}
 use Rattle.number.specs.Ans.{held}
 use Rattle.saftvrmie_dispersion.specs.Answer.{pairOf, fluidIn, barIn, sumsIn, sumsAnswer}
-use Rattle.saftvrmie_energies.specs.Energies.{pairAt}
+use Rattle.saftvrmie_parameters.specs.Parameters.{pairAt}
 use Rattle.saftvrmie_energies.specs.Dispersion.{pairTurn, pairRow}
 use Rattle.saftvrmie_energies.proofs.pair_row.Statement.{statement}
 use Rattle.saftvrmie_energies.proofs.pair_row.Tie as tie

@@ -6,7 +6,7 @@ use Rattle.number.proofs.Walk.{turns-none, turns-next, turns-end}
 use Rattle.number.specs.Walk.{turns}
 use Rattle.number.specs.Lists.{at}
 use Rattle.number.specs.Arith.{floats, zero64}
-use Rattle.saftvrmie_energies.specs.Properties.{weighted}
+use Rattle.mie_parameters.specs.Sums.{weighted}
 use Rattle.saftvrmie_energies.proofs.weighted.Statement.{statement}
 use Rattle.saftvrmie_energies.proofs.weighted.Tie as tie
 

@@ -8,6 +8,7 @@ use Rattle.number.specs.Lists.{at}
 use Rattle.number.specs.Side.{side}
 use lib.ListN.{set, replicate}
 use Rattle.number.specs.Arith.{floats, zero64}
+use Rattle.mie_parameters.specs.Places.{inPlaces}
 use Rattle.saftvrmie_energies.specs.Properties.{xsOf}
 use Rattle.saftvrmie_energies.proofs.xs_of.Statement.{statement}
 use Rattle.saftvrmie_energies.proofs.xs_of.Tie as tie
@@ -49,7 +50,7 @@ loop-again : tie.Need-loop-again Inv-loop μ-loop
 loop-again c = (search needs, turns-next _ _ _ _ _ ((c .before .before .before .loop) .inv .1) (refl))
 
 returns : tie.Need-returns Inv-loop μ-loop
-unfolding xsOf
+unfolding xsOf inPlaces
 returns c = turns-end _ _ _ _ _ ((c .before .loop) .inv .0) ((c .loop-test) .left) ((c .before .loop) .inv .1)
 
 pub xs-of-spec : {M : Type 1} → statement M

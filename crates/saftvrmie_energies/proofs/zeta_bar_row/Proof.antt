@@ -8,7 +8,7 @@ use Rattle.number.specs.Lists.{at}
 use lib.Ieee.{ofBits}
 use Rattle.number.specs.Arith.{decimal, floats}
 use Rattle.saftvrmie_dispersion.specs.Answer.{pairOf}
-use Rattle.saftvrmie_energies.specs.Energies.{pairAt}
+use Rattle.saftvrmie_parameters.specs.Parameters.{pairAt}
 use Rattle.saftvrmie_energies.specs.Properties.{s3Ij, zetaTurn, zetaRow}
 use Rattle.saftvrmie_energies.proofs.zeta_bar_row.Statement.{statement}
 use Rattle.saftvrmie_energies.proofs.zeta_bar_row.Tie as tie

@@ -7,7 +7,7 @@ use Rattle.number.specs.Walk.{turns}
 use Rattle.number.specs.Lists.{at}
 use Rattle.number.specs.Arith.{floats, zero64}
 use Rattle.saftvrmie_dispersion.specs.Answer.{pairOf}
-use Rattle.saftvrmie_energies.specs.Energies.{pairAt}
+use Rattle.saftvrmie_parameters.specs.Parameters.{pairAt}
 use Rattle.saftvrmie_energies.specs.Properties.{s3Ij, zetaRow, zetaSum}
 use Rattle.saftvrmie_energies.proofs.zeta_bar_sum.Statement.{statement}
 use Rattle.saftvrmie_energies.proofs.zeta_bar_sum.Tie as tie

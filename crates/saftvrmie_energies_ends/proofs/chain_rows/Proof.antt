@@ -12,7 +12,7 @@ use Rattle.saftvrmie_dispersion.specs.Answer.{pairIn}
 use Rattle.saftvrmie_dispersion_ends.specs.Answer.{fluidIn, barIn, sumsIn, sumsAnswer}
 use Rattle.saftvrmie_properties_ends.specs.Answer.{kIn}
 use Rattle.saftvrmie_properties_ends.specs.Points.{points, pairs}
-use Rattle.saftvrmie_energies.specs.Properties.{nth}
+use Rattle.number.specs.Lists.{nth}
 use Rattle.saftvrmie_energies.specs.Energies.{pureAt}
 use Rattle.saftvrmie_energies.specs.Dispersion.{noSums, chainRow, chainRows}
 use Rattle.saftvrmie_chain_ends.specs.Duals.{fluidDualIn}

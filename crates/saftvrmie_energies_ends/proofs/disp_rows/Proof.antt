@@ -10,7 +10,7 @@ use Rattle.number.proofs.Walk.{via, walk-none, walk-next, walk-stop, walk-end}
 use Rattle.saftvrmie_dispersion.specs.Answer.{pairIn}
 use Rattle.saftvrmie_dispersion_ends.specs.Answer.{fluidIn, barIn, sumsIn, sumsAnswer}
 use Rattle.saftvrmie_properties_ends.specs.Points.{points, pairs}
-use Rattle.saftvrmie_energies.specs.Properties.{nth}
+use Rattle.number.specs.Lists.{nth}
 use Rattle.saftvrmie_energies.specs.Energies.{pureAt}
 use Rattle.saftvrmie_energies.specs.Dispersion.{noSums, dispRow, dispRows}
 use borrow.Author.Needs.{needs}

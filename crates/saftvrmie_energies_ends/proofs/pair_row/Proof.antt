@@ -9,7 +9,7 @@ use Rattle.elementary.specs.Port.{port}
 use Rattle.number.proofs.Walk.{via, walk-none, walk-next, walk-stop, walk-end}
 use Rattle.saftvrmie_dispersion_ends.specs.Answer.{fluidIn, barIn, sumsIn, sumsAnswer}
 use Rattle.saftvrmie_properties_ends.specs.Points.{points, pairs}
-use Rattle.saftvrmie_energies.specs.Properties.{nth}
+use Rattle.number.specs.Lists.{nth}
 use Rattle.saftvrmie_energies.specs.Dispersion.{pairTurn, pairRow}
 use borrow.Author.Needs.{needs}
 use Rattle.saftvrmie_energies_ends.proofs.pair_row.Statement.{statement}

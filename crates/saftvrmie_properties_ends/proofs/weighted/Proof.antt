@@ -6,7 +6,7 @@ use Rattle.number.specs.Walk.{turns}
 use Rattle.number.proofs.Walk.{turns-none, turns-next, turns-end}
 use Rattle.number.specs.Arith.{zero64}
 use Rattle.saftvrmie_properties_ends.specs.Points.{points}
-use Rattle.saftvrmie_energies.specs.Properties.{weighted}
+use Rattle.mie_parameters.specs.Sums.{weighted}
 use borrow.Author.Needs.{needs}
 use Rattle.saftvrmie_properties_ends.proofs.weighted.Statement.{statement}
 use Rattle.saftvrmie_properties_ends.proofs.weighted.Tie as tie

@@ -8,6 +8,7 @@ use Rattle.number.specs.Arith.{zero64}
 use Rattle.number.specs.Side.{side}
 use lib.ListN.{set, replicate}
 use Rattle.saftvrmie_properties_ends.specs.Points.{points}
+use Rattle.mie_parameters.specs.Places.{inPlaces}
 use Rattle.saftvrmie_energies.specs.Properties.{xsOf}
 use borrow.Author.Needs.{needs}
 use Rattle.saftvrmie_properties_ends.proofs.xs_of.Statement.{statement}
@@ -65,7 +66,7 @@ loop-again : tie.Need-loop-again Inv-loop μ-loop
 loop-again c = (search needs, turns-next _ _ _ _ _ ((c .before .before .before .before .before .before .before .loop) .inv .1) (rw ((c .div) .ensures, (c .before .mul) .ensures, (c .before .before .point3) .ensures, (c .before .before .before .before .point2) .ensures)))
 
 returns : tie.Need-returns Inv-loop μ-loop
-unfolding xsOf
+unfolding xsOf inPlaces
 returns c = turns-end _ _ _ _ _ ((c .before .loop) .inv .0) ((c .loop-test) .left) ((c .before .loop) .inv .1)
 
 pub xs-of-spec : {M : Type 1} → statement M

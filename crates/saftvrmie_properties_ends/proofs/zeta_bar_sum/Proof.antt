@@ -6,7 +6,8 @@ use Rattle.number.specs.Walk.{turns}
 use Rattle.number.proofs.Walk.{turns-none, turns-next, turns-end}
 use Rattle.number.specs.Arith.{zero64}
 use Rattle.saftvrmie_properties_ends.specs.Points.{pairs}
-use Rattle.saftvrmie_energies.specs.Properties.{nth, s3Ij, zetaRow, zetaSum}
+use Rattle.number.specs.Lists.{nth}
+use Rattle.saftvrmie_energies.specs.Properties.{s3Ij, zetaRow, zetaSum}
 use borrow.Author.Needs.{needs}
 use Rattle.saftvrmie_properties_ends.proofs.zeta_bar_sum.Statement.{statement}
 use Rattle.saftvrmie_properties_ends.proofs.zeta_bar_sum.Tie as tie

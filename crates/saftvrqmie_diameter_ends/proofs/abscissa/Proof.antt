@@ -1,7 +1,7 @@
 -- `saftvrqmie_diameter_ends::abscissa` meets its contract. Assumes nothing.
 use mathlib.Core.Path.{ap, _∙_}
 use Rattle.enclosure.specs.Enclosure.{point}
-use Rattle.saftvrqmie_searches.specs.Diameter.{entry}
+use Rattle.number.specs.Functions.{entry}
 use borrow.Author.Needs.{needs}
 use Rattle.saftvrqmie_diameter_ends.proofs.abscissa.Statement.{statement}
 use Rattle.saftvrqmie_diameter_ends.proofs.abscissa.Tie as tie

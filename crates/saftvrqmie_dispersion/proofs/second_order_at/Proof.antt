@@ -1,6 +1,6 @@
 -- `saftvrqmie_dispersion::second_order_at` meets its contract. Assumes nothing.
 use lib.Ieee.{ofBits, neg}
-use Rattle.number.specs.Arith.{decimal}
+use Rattle.number.specs.Arith.{decimal, whole}
 use Rattle.number.specs.Power.{powUp, powDigits, digits}
 use Rattle.number.specs.Ans.{_>>=_}
 use Rattle.number.specs.Answer.{answer}
@@ -11,7 +11,6 @@ use Rattle.number.specs.Ans.{held}
 use Rattle.number.specs.Arith.{floats}
 use Rattle.number.specs.Walk.{walk}
 use Rattle.number.proofs.Walk.{walk-none, walk-next, walk-stop, walk-end}
-use Rattle.saftvrqmie_potential.specs.Potential.{whole}
 use Rattle.saftvrqmie_dispersion_terms.specs.Staged.{combineAt}
 use Rattle.saftvrqmie_dispersion.specs.Perturbation.{dispersionIn, quantumIn, secondTurn, secondOrderBy, secondClosed}
 use borrow.Author.Needs.{needs}

@@ -1,6 +1,6 @@
 -- `saftvrqmie_dispersion_ends::second_order_at` meets its contract. Assumes nothing.
 use lib.Ieee.{ofBits}
-use Rattle.number.specs.Arith.{decimal}
+use Rattle.number.specs.Arith.{decimal, whole}
 use mathlib.Core.Path.{ap, _∙_}
 use Rattle.number.specs.Ans.{_>>=_}
 use Rattle.number.proofs.Walk.{via}
@@ -13,7 +13,6 @@ use mathlib.Core.Path.{_≡_}
 use Rattle.number.specs.Ans.{held}
 use Rattle.number.specs.Walk.{walk}
 use Rattle.number.proofs.Walk.{walk-none, walk-next, walk-stop, walk-end}
-use Rattle.saftvrqmie_potential.specs.Potential.{whole}
 use Rattle.saftvrqmie_dispersion_terms_ends.specs.Shared.{combineAt}
 use borrow.Author.Needs.{needs}
 use Rattle.saftvrqmie_dispersion_ends.proofs.second_order_at.Statement.{statement}

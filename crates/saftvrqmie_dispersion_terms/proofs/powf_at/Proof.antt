@@ -1,7 +1,6 @@
 -- `saftvrqmie_dispersion_terms::powf_at` meets its contract. Assumes nothing.
 use Rattle.number.specs.Ans.{_>>=_, demand}
 use Rattle.number.proofs.Walk.{told}
-use Rattle.saftvrqmie_dispersion_terms.specs.Staged.{powfAt}
 use borrow.Author.Tests.{not-true, not-false}
 use borrow.Author.Needs.{needs}
 use Rattle.saftvrqmie_dispersion_terms.proofs.powf_at.Statement.{statement}
@@ -11,7 +10,7 @@ exponent-inside-requires : tie.Need-exponent-inside-requires
 exponent-inside-requires c κs = search needs
 
 returns : tie.Need-returns
-unfolding powfAt demand _>>=_
+unfolding demand _>>=_
 returns c = rw (told ((c .before .exponent-inside) .ensures) (not-true _ ((c .if1) .taken)))
 
 exponent-requires : tie.Need-exponent-requires
@@ -21,7 +20,7 @@ raise-requires : tie.Need-raise-requires
 raise-requires c κs = search needs
 
 returns-2 : tie.Need-returns-2
-unfolding powfAt demand _>>=_
+unfolding demand _>>=_
 returns-2 c = rw ((c .raise) .ensures, (c .before .exponent) .ensures, told ((c .before .before .before .exponent-inside) .ensures) (not-false _ ((c .before .before .if1) .left)))
 
 pub powf-at-spec : {M : Type 1} → statement M

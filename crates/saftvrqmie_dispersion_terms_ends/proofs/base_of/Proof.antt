@@ -2,7 +2,6 @@
 use mathlib.Core.Path.{fun-ext}
 use Rattle.number.specs.Ans.{_>>=_, demand}
 use Rattle.power.specs.Power.{powfOf}
-use Rattle.saftvrqmie_dispersion_terms.specs.Staged as Floats
 use Rattle.saftvrqmie_dispersion_terms_ends.specs.Shared.{powfAt}
 use borrow.Author.Needs.{needs}
 use Rattle.saftvrqmie_dispersion_terms_ends.proofs.base_of.Statement.{statement}
@@ -15,7 +14,7 @@ log-base-requires : tie.Need-log-base-requires
 log-base-requires c κs = search needs
 
 returns : tie.Need-returns
-unfolding powfAt Floats.powfAt powfOf demand _>>=_
+unfolding powfAt powfOf demand _>>=_
 returns c = fun-ext (λ y. rw (c .log-base .ensures, c .before .base-inside .ensures))
 
 pub base-of-spec : {M : Type 1} → statement M

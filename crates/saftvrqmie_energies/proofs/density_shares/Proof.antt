@@ -1,14 +1,13 @@
 -- `saftvrqmie_energies::density_shares` meets its contract. Assumes nothing.
 use Rattle.saftvrqmie_energies.specs.NonAdditive.{densityShares}
-use Rattle.number.specs.Arith.{floats, decimal}
-use lib.Ieee.{ofBits}
+use Rattle.number.specs.Arith.{floats}
 use Prim.Native.Nat.{_≤_, _-_}
 use mathlib.Core.Path.{_≡_, refl}
 use Rattle.number.specs.Walk.{turns}
 use Rattle.number.proofs.Walk.{turns-none, turns-next, turns-end}
 use lib.ListN.{set}
 use Rattle.saftvrqmie_energies.specs.State.{points}
-use Rattle.saftvrqmie_energies.specs.State.{filled}
+use Rattle.mie_parameters.specs.Places.{inPlaces}
 use borrow.Author.Needs.{needs}
 use Rattle.saftvrqmie_energies.proofs.density_shares.Statement.{statement}
 use Rattle.saftvrqmie_energies.proofs.density_shares.Tie as tie
@@ -50,7 +49,7 @@ loop-again : tie.Need-loop-again Inv-loop μ-loop
 loop-again c = (search needs, turns-next _ _ _ _ _ ((c .before .before .before .loop) .inv .1) refl)
 
 returns : tie.Need-returns Inv-loop μ-loop
-unfolding densityShares filled decimal ofBits
+unfolding densityShares inPlaces
 returns c = turns-end _ _ _ _ _ ((c .before .loop) .inv .0) ((c .loop-test) .left) ((c .before .loop) .inv .1)
 
 pub density-shares-spec : {M : Type 1} → statement M

@@ -1,4 +1,5 @@
 -- `saftvrqmie_energies::inv_x_s_sum` meets its contract. Assumes nothing.
+use Rattle.mie_parameters.specs.Sums.{weighted}
 use Rattle.saftvrqmie_energies.specs.Dispersion.{invXsSum}
 use Rattle.number.specs.Arith.{floats, decimal}
 use lib.Ieee.{ofBits}
@@ -42,7 +43,7 @@ loop-again : tie.Need-loop-again Inv-loop μ-loop
 loop-again c = (search needs, turns-next _ _ _ _ _ ((c .before .before .before .loop) .inv .1) refl)
 
 returns : tie.Need-returns Inv-loop μ-loop
-unfolding invXsSum decimal ofBits
+unfolding invXsSum weighted decimal ofBits
 returns c = rw (turns-end _ _ _ _ _ ((c .before .loop) .inv .0) ((c .loop-test) .left) ((c .before .loop) .inv .1))
 
 pub inv-x-s-sum-spec : {M : Type 1} → statement M

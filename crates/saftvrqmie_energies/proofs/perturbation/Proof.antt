@@ -1,7 +1,7 @@
 -- `saftvrqmie_energies::perturbation` meets its contract. Assumes nothing.
 use lib.Ieee.{ofBits}
 use Rattle.number.specs.Arith.{decimal}
-use Rattle.saftvrqmie_energies.specs.Dispersion.{perturbation}
+use Rattle.mie_parameters.specs.Sums.{ordersSum}
 use borrow.Author.Needs.{needs}
 use Rattle.saftvrqmie_energies.proofs.perturbation.Statement.{statement}
 use Rattle.saftvrqmie_energies.proofs.perturbation.Tie as tie
@@ -13,7 +13,7 @@ pow-up-requires-2 : tie.Need-pow-up-requires-2
 pow-up-requires-2 c κs = search needs
 
 returns : tie.Need-returns
-unfolding perturbation decimal ofBits
+unfolding ordersSum decimal ofBits
 returns c =
     rw (
       c .pow-up2 .ensures,

@@ -1,7 +1,6 @@
 -- `saftvrqmie_energies::segment_density` meets its contract. Assumes nothing.
-use Rattle.saftvrqmie_energies.specs.State.{segmentDensity}
-use Rattle.number.specs.Arith.{floats, decimal}
-use lib.Ieee.{ofBits}
+use Rattle.mie_parameters.specs.Sums.{weighted}
+use Rattle.number.specs.Arith.{floats}
 use Prim.Native.Nat.{_≤_, _-_}
 use mathlib.Core.Path.{_≡_, refl}
 use Rattle.number.specs.Walk.{turns}
@@ -42,7 +41,7 @@ loop-again : tie.Need-loop-again Inv-loop μ-loop
 loop-again c = (search needs, turns-next _ _ _ _ _ ((c .before .before .before .loop) .inv .1) refl)
 
 returns : tie.Need-returns Inv-loop μ-loop
-unfolding segmentDensity decimal ofBits
+unfolding weighted
 returns c = turns-end _ _ _ _ _ ((c .before .loop) .inv .0) ((c .loop-test) .left) ((c .before .loop) .inv .1)
 
 pub segment-density-spec : {M : Type 1} → statement M

@@ -1,14 +1,13 @@
 -- `saftvrqmie_energies::segment_fractions` meets its contract. Assumes nothing.
 use Rattle.saftvrqmie_energies.specs.Dispersion.{segmentFractions}
-use Rattle.number.specs.Arith.{floats, decimal}
-use lib.Ieee.{ofBits}
+use Rattle.number.specs.Arith.{floats}
 use Prim.Native.Nat.{_≤_, _-_}
 use mathlib.Core.Path.{_≡_, refl}
 use Rattle.number.specs.Walk.{turns}
 use Rattle.number.proofs.Walk.{turns-none, turns-next, turns-end}
 use lib.ListN.{set}
 use Rattle.saftvrqmie_energies.specs.State.{points}
-use Rattle.saftvrqmie_energies.specs.State.{filled}
+use Rattle.mie_parameters.specs.Places.{inPlaces}
 use borrow.Author.Needs.{needs}
 use Rattle.saftvrqmie_energies.proofs.segment_fractions.Statement.{statement}
 use Rattle.saftvrqmie_energies.proofs.segment_fractions.Tie as tie
@@ -53,7 +52,7 @@ loop-again : tie.Need-loop-again Inv-loop μ-loop
 loop-again c = (search needs, turns-next _ _ _ _ _ ((c .before .before .before .loop) .inv .1) refl)
 
 returns : tie.Need-returns Inv-loop μ-loop
-unfolding segmentFractions filled decimal ofBits
+unfolding segmentFractions inPlaces
 returns c = rw (← ((c .before .before .inv-x-s-sum) .ensures)) (turns-end _ _ _ _ _ ((c .before .loop) .inv .0) ((c .loop-test) .left) ((c .before .loop) .inv .1))
 
 pub segment-fractions-spec : {M : Type 1} → statement M

@@ -9,7 +9,8 @@ use Rattle.number.proofs.Walk.{walk-none, walk-next, walk-stop, walk-end}
 use Rattle.elementary.specs.Port.{port}
 use Rattle.number.specs.Functions.{calls}
 use native.Mathlib.Omega.{arith}
-use Rattle.saftvrqmie_energies.specs.State.{nth, sheetsOf}
+use Rattle.number.specs.Lists.{nth}
+use Rattle.saftvrqmie_energies.specs.State.{sheetsOf}
 use Rattle.saftvrqmie_energies.specs.Dispersion.{firstTurn, firstRow}
 use Rattle.saftvrqmie_energies_ends.specs.Parts.{mixtureIn}
 use Rattle.saftvrqmie_energies.proofs.Turns.{first-held, first-outside}

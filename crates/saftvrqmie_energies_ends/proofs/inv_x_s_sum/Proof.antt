@@ -1,12 +1,12 @@
 -- `saftvrqmie_energies_ends::inv_x_s_sum` meets its contract. Assumes nothing.
 use Prim.Native.Nat.{_≤_, _-_}
 use mathlib.Core.Path.{_≡_, _∙_}
-use Rattle.saftvrqmie_potential.specs.Potential.{whole}
 use Rattle.enclosure.specs.Enclosure.{enclosures, addE, mulE, point}
 use Rattle.number.specs.Walk.{turns}
 use Rattle.number.proofs.Walk.{turns-none, turns-next, turns-end}
 use lib.Ieee.{ofBits}
-use Rattle.number.specs.Arith.{decimal}
+use Rattle.number.specs.Arith.{decimal, zero64}
+use Rattle.mie_parameters.specs.Sums.{weighted}
 use Rattle.saftvrqmie_energies.specs.State.{points}
 use Rattle.saftvrqmie_energies.specs.Dispersion.{invXsSum}
 use borrow.Author.Needs.{needs}
@@ -14,7 +14,7 @@ use Rattle.saftvrqmie_energies_ends.proofs.inv_x_s_sum.Statement.{state
 use Rattle.saftvrqmie_energies_ends.proofs.inv_x_s_sum.Tie as tie
 
 abbrev Inv-loop : tie.InvT-loop
-Inv-loop n x m one r₀ i₀ r i = (i ≤ n) × (r ≡ turns i (λ i r. addE r (mulE (points enclosures x i) (points enclosures m i))) (whole enclosures 0))
+Inv-loop n x m one r₀ i₀ r i = (i ≤ n) × (r ≡ turns i (λ i r. addE r (mulE (points enclosures x i) (points enclosures m i))) (point zero64))
 
 abbrev μ-loop : tie.MeasureT-loop
 μ-loop n x m one r₀ i₀ r i = n - i
@@ -26,7 +26,6 @@ point-requires-2 : tie.Need-point-requires-2 Inv-loop μ-loop
 point-requires-2 c κs = search needs
 
 loop-holds : tie.Need-loop-holds Inv-loop μ-loop
-unfolding decimal ofBits
 loop-holds c = (search needs, (c .point2) .ensures ∙ turns-none _ _)
 
 mul-point : tie.Need-mul-point Inv-loop μ-loop
@@ -63,7 +62,7 @@ div-requires : tie.Need-div-requires Inv-loop μ-loop
 div-requires c κs = search needs
 
 returns : tie.Need-returns Inv-loop μ-loop
-unfolding invXsSum decimal ofBits
+unfolding invXsSum weighted decimal ofBits
 returns c = rw ((c .div) .ensures, (c .before .before .before .before .point) .ensures, turns-end _ _ _ _ _ ((c .before .before .loop) .inv .0) ((c .before .loop-test) .left) ((c .before .before .loop) .inv .1))
 
 pub inv-x-s-sum-spec : {M : Type 1} → statement M

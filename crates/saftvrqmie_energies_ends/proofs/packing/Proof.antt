@@ -1,16 +1,16 @@
 -- `saftvrqmie_energies_ends::packing` meets its contract. Assumes nothing.
 use Prim.Native.Nat.{_≤_, _-_}
 use mathlib.Core.Path.{_≡_, _∙_}
-use Rattle.saftvrqmie_potential.specs.Potential.{whole}
 use Rattle.enclosure.specs.Enclosure.{enclosures, point}
 use Rattle.number.specs.Walk.{turns}
 use Rattle.number.proofs.Walk.{turns-none, turns-next, turns-end}
 use lib.Ieee.{ofBits}
-use Rattle.number.specs.Arith.{decimal}
+use Rattle.number.specs.Arith.{decimal, whole}
 use Rattle.elementary.specs.Port.{port}
 use Rattle.number.specs.Functions.{calls}
 use native.Mathlib.Omega.{arith}
-use Rattle.saftvrqmie_energies.specs.State.{nth, sheetOf}
+use Rattle.number.specs.Lists.{nth}
+use Rattle.saftvrqmie_energies.specs.State.{sheetOf}
 use Rattle.saftvrqmie_energies.specs.Dispersion.{packingRow, packing}
 use borrow.Author.Needs.{needs}
 use Rattle.saftvrqmie_energies_ends.proofs.packing.Statement.{statement}

@@ -1,5 +1,5 @@
 -- `saftvrqmie_energies_ends::perturbation` meets its contract. Assumes nothing.
-use Rattle.saftvrqmie_energies.specs.Dispersion.{perturbation}
+use Rattle.mie_parameters.specs.Sums.{ordersSum}
 use lib.Ieee.{ofBits}
 use Rattle.number.specs.Arith.{decimal}
 use borrow.Author.Needs.{needs}
@@ -28,7 +28,7 @@ plus-product-requires-2 : tie.Need-plus-product-requires-2
 plus-product-requires-2 c κs = search needs
 
 returns : tie.Need-returns
-unfolding perturbation decimal ofBits
+unfolding ordersSum decimal ofBits
 returns c = rw ((c .plus-product2) .ensures, (c .before .pow-up2) .ensures, (c .before .before .plus-product) .ensures, (c .before .before .before .pow-up) .ensures, (c .before .before .before .before .mul) .ensures, (c .before .before .before .before .before .div) .ensures, (c .before .before .before .before .before .before .point) .ensures)
 
 pub perturbation-spec : {M : Type 1} → statement M

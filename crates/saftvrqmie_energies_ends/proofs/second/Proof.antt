@@ -1,18 +1,18 @@
 -- `saftvrqmie_energies_ends::second` meets its contract. Assumes nothing.
 use Prim.Native.Nat.{_≤_, _-_}
 use mathlib.Core.Path.{_≡_, _∙_, ap}
-use Rattle.saftvrqmie_potential.specs.Potential.{whole}
 use Rattle.enclosure.specs.Enclosure.{enclosures, point}
 use Rattle.number.specs.Walk.{walk}
 use Rattle.number.specs.Ans.{held, _>>=_}
 use Rattle.number.proofs.Walk.{walk-none, walk-next, walk-stop, walk-end, via}
 use Rattle.enclosure.specs.Answer.{answer}
 use lib.Ieee.{ofBits}
-use Rattle.number.specs.Arith.{decimal}
+use Rattle.number.specs.Arith.{decimal, whole}
 use Rattle.elementary.specs.Port.{port}
 use Rattle.number.specs.Functions.{calls}
 use native.Mathlib.Omega.{arith}
-use Rattle.saftvrqmie_energies.specs.State.{nth, sheetsOf}
+use Rattle.number.specs.Lists.{nth}
+use Rattle.saftvrqmie_energies.specs.State.{sheetsOf}
 use Rattle.saftvrqmie_energies.specs.Dispersion.{secondRow, second}
 use Rattle.saftvrqmie_energies_ends.specs.Parts.{mixtureIn}
 use borrow.Author.Needs.{needs}

@@ -11,7 +11,8 @@ use Rattle.number.specs.Arith.{decimal}
 use Rattle.elementary.specs.Port.{port}
 use Rattle.number.specs.Functions.{calls}
 use native.Mathlib.Omega.{arith}
-use Rattle.saftvrqmie_energies.specs.State.{nth, sheetsOf}
+use Rattle.number.specs.Lists.{nth}
+use Rattle.saftvrqmie_energies.specs.State.{sheetsOf}
 use Rattle.saftvrqmie_energies.specs.Dispersion.{secondTurn, secondRow}
 use Rattle.saftvrqmie_energies_ends.specs.Parts.{mixtureIn}
 use Rattle.saftvrqmie_energies.proofs.Turns.{second-held, second-outside}

@@ -1,19 +1,18 @@
 -- `saftvrqmie_energies_ends::segment_density` meets its contract. Assumes nothing.
 use Prim.Native.Nat.{_≤_, _-_}
 use mathlib.Core.Path.{_≡_, _∙_}
-use Rattle.saftvrqmie_potential.specs.Potential.{whole}
 use Rattle.enclosure.specs.Enclosure.{enclosures, addE, mulE, point}
 use Rattle.number.specs.Walk.{turns}
 use Rattle.number.proofs.Walk.{turns-none, turns-next, turns-end}
-use lib.Ieee.{ofBits}
-use Rattle.number.specs.Arith.{decimal}
-use Rattle.saftvrqmie_energies.specs.State.{points, segmentDensity}
+use Rattle.number.specs.Arith.{zero64}
+use Rattle.mie_parameters.specs.Sums.{weighted}
+use Rattle.saftvrqmie_energies.specs.State.{points}
 use borrow.Author.Needs.{needs}
 use Rattle.saftvrqmie_energies_ends.proofs.segment_density.Statement.{statement}
 use Rattle.saftvrqmie_energies_ends.proofs.segment_density.Tie as tie
 
 abbrev Inv-loop : tie.InvT-loop
-Inv-loop n rho m r₀ i₀ r i = (i ≤ n) × (r ≡ turns i (λ i r. addE r (mulE (points enclosures rho i) (points enclosures m i))) (whole enclosures 0))
+Inv-loop n rho m r₀ i₀ r i = (i ≤ n) × (r ≡ turns i (λ i r. addE r (mulE (points enclosures rho i) (points enclosures m i))) (point zero64))
 
 abbrev μ-loop : tie.MeasureT-loop
 μ-loop n rho m r₀ i₀ r i = n - i
@@ -22,7 +21,6 @@ point-requires : tie.Need-point-requires Inv-loop μ-loop
 point-requires c κs = search needs
 
 loop-holds : tie.Need-loop-holds Inv-loop μ-loop
-unfolding decimal ofBits
 loop-holds c = (search needs, (c .point) .ensures ∙ turns-none _ _)
 
 mul-point : tie.Need-mul-point Inv-loop μ-loop
@@ -56,7 +54,7 @@ loop-again : tie.Need-loop-again Inv-loop μ-loop
 loop-again c = (search needs, turns-next _ _ _ _ _ ((c .before .before .before .before .before .before .loop) .inv .1) (rw ((c .plus-product) .ensures, (c .before .point3) .ensures, (c .before .before .before .point2) .ensures)))
 
 returns : tie.Need-returns Inv-loop μ-loop
-unfolding segmentDensity
+unfolding weighted
 returns c = turns-end _ _ _ _ _ ((c .before .loop) .inv .0) ((c .loop-test) .left) ((c .before .loop) .inv .1)
 
 pub segment-density-spec : {M : Type 1} → statement M

@@ -9,7 +9,8 @@ use Rattle.number.proofs.Walk.{walk-none, walk-next, walk-stop, walk-end}
 use Rattle.elementary.specs.Port.{port}
 use Rattle.number.specs.Functions.{calls}
 use native.Mathlib.Omega.{arith}
-use Rattle.saftvrqmie_energies.specs.State.{nth, sheetOf}
+use Rattle.number.specs.Lists.{nth}
+use Rattle.saftvrqmie_energies.specs.State.{sheetOf}
 use Rattle.saftvrqmie_energies.specs.Dispersion.{thirdTurn, thirdRow}
 use Rattle.saftvrqmie_energies.proofs.Turns.{third-held, third-outside}
 use borrow.Author.Needs.{needs}

@@ -2,12 +2,11 @@
 use native.Mathlib.Omega.{arith}
 use Prim.Native.Nat.{_≤_, _-_}
 use mathlib.Core.Path.{_≡_, _∙_, ap}
-use Rattle.saftvrqmie_potential.specs.Potential.{whole}
 use Rattle.enclosure.specs.Enclosure.{enclosures, divE, point}
 use Rattle.number.specs.Walk.{turns}
 use Rattle.number.proofs.Walk.{turns-none, turns-next, turns-end}
 use lib.Ieee.{ofBits}
-use Rattle.number.specs.Arith.{decimal}
+use Rattle.number.specs.Arith.{decimal, whole}
 use Rattle.saftvrqmie_energies.specs.State.{points, sheetOf, diagonal}
 use Rattle.saftvrqmie_energies.specs.HardSphere.{Zeta23In, zeta23Added, zeta23Sums, zeta23}
 use Rattle.saftvrqmie_energies_ends.specs.Parts.{zeta23In}

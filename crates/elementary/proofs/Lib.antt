@@ -1,0 +1,2 @@
+pub mod Exists
+pub mod Promised
