@@ -135,6 +135,7 @@ fn main() {
     elementary("ln_1p", -0.9, 10.0, 6.0, port::LN_1P, f64::ln_1p);
     elementary("exp", -20.0, 20.0, 1.6, port::EXP, f64::exp);
     elementary("exp_m1", -20.0, 20.0, 1.6, port::EXP_M1, f64::exp_m1);
+    elementary("exp_m1, near 0", -0.2, 0.2, 1.6, port::EXP_M1, f64::exp_m1);
     elementary("tanh", -5.0, 5.0, 1.8, port::TANH, f64::tanh);
     power();
     powers();
