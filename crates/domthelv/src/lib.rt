@@ -9,7 +9,7 @@ ghost use lib.ListN.{length};
 ghost use Rattle.number.specs.Side.{side, sheet};
 ghost use Rattle.mie_parameters.specs.Answer.{status, stored};
 ghost use Rattle.domthelv.specs.Sets.{copied, taken, placed, ordersWithin, ordersRead, ordersWritten, quantumLengths, quantumSet, mieLengths, mieSet, listsWritten};
-ghost use Rattle.domthelv.specs.Operations.{setWritten, vrqParameters, vrqTable, radiiWritten, radiiLengths, vrqRadii, energiesWritten, vrqEnergies, endsWritten, vrqEnergiesEnds, pairWritten, vrqDiameterEnds, vrqStage, mieWritten, vrParameters, vrDiameters, vrRadius, vrDispersion, vrDispersionEnds, vrDiameterEnds};
+ghost use Rattle.domthelv.specs.Operations.{vrqParameters, vrqTable, radiiWritten, radiiLengths, vrqRadii, energiesWritten, vrqEnergies, endsWritten, vrqEnergiesEnds, pairWritten, vrqDiameterEnds, vrqStage, vrParameters, vrDiameters, vrRadius, vrDispersion, vrDispersionEnds, vrDiameterEnds};
 ghost use Rattle.stages.specs.Stages.{mieStage};
 ghost use Rattle.saftvrqmie_parameters.specs.Parameters as Quantum;
 ghost use Rattle.saftvrmie_parameters.specs.Parameters as Mie;

@@ -7,7 +7,6 @@ ghost use Rattle.number.specs.Arith.{floats};
 ghost use Rattle.number.specs.Functions.{calls};
 ghost use Rattle.number.specs.Lists.{at};
 ghost use Rattle.number.specs.Side.{side};
-ghost use Rattle.number.specs.Walk.{walk};
 ghost use Rattle.elementary.specs.Port.{port};
 ghost use Rattle.saftvrmie_dispersion.specs.Answer.{pairOf, fluidIn, fluidDualIn, barIn, sumsIn, kIn, linkIn, sumsAnswer};
 ghost use Rattle.mie_parameters.specs.Sums.{weighted};

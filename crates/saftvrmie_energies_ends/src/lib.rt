@@ -8,7 +8,7 @@ ghost use Rattle.number.specs.Functions.{calls};
 ghost use Rattle.number.specs.Side.{side};
 ghost use Rattle.elementary.specs.Port.{port};
 ghost use Rattle.enclosure.specs.Answer.{answer, ends};
-ghost use Rattle.enclosure.specs.Enclosure.{enclosures, addE, mulE, divE, afterE, point};
+ghost use Rattle.enclosure.specs.Enclosure.{enclosures, divE, afterE, point};
 ghost use Rattle.saftvrmie_dispersion.specs.Answer.{pairIn};
 ghost use Rattle.number.specs.Lists.{nth};
 ghost use Rattle.saftvrmie_energies.specs.Dispersion.{pairTurn, pairRow, dispRow, chainRow, dispRows, chainRows, dispersion, dispersionChain};

@@ -1,5 +1,4 @@
 // Worked cases of SAFT-VR Mie: whether diameters and energies lie within 1e-9 of those that the Rust gives with its platform's functions, energies at density zero by their bits, and each refusal of each operation.
-use mie_parameters::ParameterAnswer;
 use saftvrmie_energies::EnergyAnswer;
 use saftvrmie_parameters::SaftVRMiePars;
 

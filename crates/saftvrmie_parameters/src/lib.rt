@@ -1,20 +1,18 @@
 // SAFT-VR Mie parameters (saftvrmie/parameters.rs): from component lists to the set of pair values.
 ghost use mathlib.Core.Path.{_≡_};
-ghost use mathlib.Core.Bool.{true};
-ghost use Prim.Native.Nat.{_*_, _<_, _≤_, max};
+ghost use Prim.Native.Nat.{_*_, _<_, _≤_};
 ghost use lib.ListN.{length};
-ghost use lib.Ieee.{eq};
 ghost use Rattle.number.specs.Ans.{refused};
 ghost use Rattle.number.specs.Answer.{answer};
 ghost use Rattle.number.specs.Functions.{calls};
 ghost use Rattle.elementary.specs.Port.{port};
-ghost use Rattle.number.specs.Arith.{floats, one64};
+ghost use Rattle.number.specs.Arith.{floats};
 ghost use Rattle.number.specs.Lists.{at};
 ghost use Rattle.number.specs.Side.{side, sheet};
 ghost use Rattle.number.specs.Walk.{walk};
 ghost use Rattle.limits.specs.Limits.{square, components};
 ghost use Rattle.saftvrmie_parameters.specs.Combine.{sigmaIj, alphaIj, lrIj};
-ghost use Rattle.saftvrmie_parameters.specs.Parameters.{Lists, pairAnswer, rightLengths, withinLimits, pairParameters, storePair, sheetsRow, saftVRMiePars, given};
+ghost use Rattle.saftvrmie_parameters.specs.Parameters.{pairAnswer, rightLengths, withinLimits, pairParameters, storePair, sheetsRow, saftVRMiePars, given};
 ghost use Rattle.mie_parameters.specs.Answer.{outcome};
 use limits::Component;
 use mie_parameters::ParameterAnswer;

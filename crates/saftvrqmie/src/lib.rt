@@ -9,7 +9,7 @@ ghost use Rattle.elementary.specs.Port.{port};
 ghost use Rattle.mie_parameters.specs.Answer.{outcome, verdict, numberAnswer, stored};
 ghost use Rattle.saftvrqmie_potential.specs.Potential.{pairIn, pairAt};
 ghost use Rattle.saftvrqmie_properties.specs.Properties.{propertiesIn};
-ghost use Rattle.saftvrqmie.specs.Table.{Lent, store, workRow, workPairs, allFinite, rightLists, temperatureTable, pairsOf};
+ghost use Rattle.saftvrqmie.specs.Table.{store, workRow, workPairs, allFinite, rightLists, temperatureTable, pairsOf};
 ghost use Rattle.saftvrqmie.specs.Pairs.{searchesAnswer, pairSearches, searches, diameterIj};
 use mie_parameters::NumberAnswer;
 use mie_parameters::ParameterAnswer;

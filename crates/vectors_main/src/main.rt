@@ -1,6 +1,5 @@
 // Runs the calls of data/quantum.bin and data/mie.bin and compares each answer, bit for bit, with the one in the file. A record is 24 words, least significant byte first, and a list of words; docs/VECTORS.md says which. Writes for each operation how often it gave each number (0 for accepted), and how many calls differ.
 ghost use Prim.Native.Nat.{_<_, _≤_};
-use mie_parameters::ParameterAnswer;
 use saftvrmie_energies::EnergyAnswer;
 use saftvrmie_parameters::SaftVRMiePars;
 use saftvrqmie_energies::EnergiesAnswer;
