@@ -2,21 +2,19 @@
 use Prim.Native.Nat.{ℕ, _+_, _*_, _≤_, _<_}
 use native.Mathlib.Omega.{arith}
 use lib.Dec.{lit<}
-use Rattle.number.specs.Frac.{Frac, frac, Pos, leF, ltF, zeroF, negF, addF, subF, mulF, divF, invF}
-use Rattle.number.proofs.Frac.{le-reflF, addF-pos, mulF-pos}
+use Rattle.number.specs.Frac.{Frac, frac, Pos, leF, ltF, zeroF, addF, subF, mulF, divF, invF}
+use Rattle.number.proofs.Frac.{le-reflF, mulF-pos}
 use Rattle.number.proofs.Hull.{invF-pos-above}
 use Rattle.series.specs.Sums.{natF}
 use Rattle.series.specs.Exact.{ExpValue, ExpM1Value, TanhValue}
+use Rattle.exponential.proofs.M1Near.{minus-one-pos}
 use Rattle.power.proofs.Exists.{exp-has-value}
-
-less-one-pos : (e : Frac) → Pos e → Pos (subF e (natF 1))
-less-one-pos e h = addF-pos e (negF (natF 1)) h (lit< tt)
 
 pub exp-m1-has-value : (v : Frac) → Pos v → (x : Frac) × ExpM1Value v x
 exp-m1-has-value v h = go (exp-has-value v h)
   where
     go : (e : Frac) × ExpValue v e × leF zeroF e → (x : Frac) × ExpM1Value v x
-    go (e, u, z) = (subF e (natF 1), record { e = e; isExp = u; proper = less-one-pos e (u .proper .0); same = (le-reflF (subF e (natF 1)), le-reflF (subF e (natF 1))) })
+    go (e, u, z) = (subF e (natF 1), record { e = e; isExp = u; proper = minus-one-pos e (u .proper .0); same = (le-reflF (subF e (natF 1)), le-reflF (subF e (natF 1))) })
 
 -- e + 1 is above 0
 more-one : (e : Frac) → Pos e → leF zeroF e → ltF zeroF (addF e (natF 1))
@@ -31,4 +29,4 @@ tanh-has-value v h = go (exp-has-value (mulF (natF 2) v) (mulF-pos (natF 2) v (l
     go : (e : Frac) × ExpValue (mulF (natF 2) v) e × leF zeroF e → (x : Frac) × TanhValue v x
     go (e, u, z) =
         let x = divF (subF e (natF 1)) (addF e (natF 1)) in
-        (x, record { e = e; isExp = u; proper = mulF-pos (subF e (natF 1)) (invF (addF e (natF 1))) (less-one-pos e (u .proper .0)) (invF-pos-above (addF e (natF 1)) (more-one e (u .proper .0) z)); same = (le-reflF x, le-reflF x) })
+        (x, record { e = e; isExp = u; proper = mulF-pos (subF e (natF 1)) (invF (addF e (natF 1))) (minus-one-pos e (u .proper .0)) (invF-pos-above (addF e (natF 1)) (more-one e (u .proper .0) z)); same = (le-reflF x, le-reflF x) })

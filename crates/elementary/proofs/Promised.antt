@@ -6,7 +6,7 @@ use mathlib.Core.Path.{_≡_, refl}
 use mathlib.Core.Bool.{Bool, true, false, not, _&&_, cond}
 use lib.Dec.{T}
 use lib.Ieee.{Float, nan, inf, fin, up, down, binary64, fits, toBits, ofBits, ofFields, odd, le, lt, eq, neg, size, span, climb}
-use lib.Ieee.Fits.{up-pos}
+use lib.Ieee.Fits.{up-pos, and-l, and-r}
 use lib.Ieee.Scale.{finite}
 use Rattle.number.specs.Ans.{held, refused, _>>=_, demand}
 use Rattle.number.specs.Frac.{leF, ltF, zeroF, valF}
@@ -96,19 +96,13 @@ two-inside : (s t : Bool) (v : Float) → T (s && t) → (r : Float) × ((demand
 unfolding demand _>>=_
 two-inside true true v h = (v, refl)
 
-first : (s t : Bool) → T (s && t) → T s
-first true t h = tt
-
-second : (s t : Bool) → T (s && t) → T t
-second true t h = h
-
 powf-keeps : Keeps {X = Float × Float} (λ x. fits binary64 (x .0) && fits binary64 (x .1)) (λ x. baseInside (x .0) && exponentInside (x .1)) (λ x. PowerValue (valF (x .0)) (valF (x .1))) within (λ x. powfOf (x .0) (x .1))
 unfolding powfOf
 powf-keeps = record {
   outside = λ x. two-outside (baseInside (x .0)) (exponentInside (x .1)) _;
   inside = λ x. two-inside (baseInside (x .0)) (exponentInside (x .1)) _;
-  distance = λ x r v f h w. power-distance (x .0) (x .1) r v (first (fits binary64 (x .0)) (fits binary64 (x .1)) f) (second (fits binary64 (x .0)) (fits binary64 (x .1)) f) h w;
-  value = λ x f h. power-has-value (x .0) (x .1) (first (fits binary64 (x .0)) (fits binary64 (x .1)) f) (first (baseInside (x .0)) (exponentInside (x .1)) h);
+  distance = λ x r v f h w. power-distance (x .0) (x .1) r v (and-l (fits binary64 (x .0)) (fits binary64 (x .1)) f) (and-r (fits binary64 (x .0)) (fits binary64 (x .1)) f) h w;
+  value = λ x f h. power-has-value (x .0) (x .1) (and-l (fits binary64 (x .0)) (fits binary64 (x .1)) f) (and-l (baseInside (x .0)) (exponentInside (x .1)) h);
 }
 
 root-not-finite : (x : Float) → T (not (finite x)) → root x ≡ refused 6

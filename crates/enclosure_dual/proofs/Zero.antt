@@ -2,7 +2,7 @@
 use Prim.Native.Nat.{ℕ, zero, suc, _-_, _*_, _/_, _%_, _^_, _<_, compare, compare·zero-suc}
 use native.Mathlib.Nat.{zero-mul, mul-zero, mul-one, zero-div, zero-mod, lt-irrefl, mul-pos}
 use mathlib.Core.Path.{_≡_, refl}
-use mathlib.Core.Bool.{Bool, true, false, _&&_, false≢true}
+use mathlib.Core.Bool.{Bool, true, false, _&&_, false≢true, and-true}
 use lib.IntN.{ℤ, pos}
 use lib.Ieee as Ieee
 use lib.Ieee.{Float, nan, inf, fin, binary64, ofBits, toBits, round, units, odd, size, span, climb, nearest, low, up, down, unlike, lt, fits}
@@ -74,10 +74,6 @@ moved false false = refl
 zeros : (g a b c d : Bool) → around g (zeroOf a) (zeroOf b) (zeroOf c) (zeroOf d) ≡ aboutZero g
 unfolding around
 zeros g a b c d = rw (least-zero a b, least-zero c d, least-zero a c, greatest-zero a b, greatest-zero c d, greatest-zero a c) (moved g a)
-
-and-true : (g : Bool) → (g && true) ≡ g
-and-true true = refl
-and-true false = refl
 
 module _ (g : Bool) where
   right-ends : (l u : Float) → (finite l && finite u) ≡ true → mulI (record { lower = l; upper = u; sound = g }) (Interval.point zero64) ≡ aboutZero g

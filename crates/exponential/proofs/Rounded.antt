@@ -24,6 +24,11 @@ pub whole-is : (n : ℕ) → n ≤ 2 ^ 53 → HasValue (whole n) false n 1
 unfolding ofInt
 whole-is n h = round-whole binary64 false n h
 
+-- a sign that no minus turns
+same : (t s : Bool) → t ≡ s → unlike t false ≡ s
+same false s p = p
+same true s p = p
+
 -- x = a / c times a whole number b
 pub product-is : (s : Bool) (x y : Float) (a c b : ℕ) → 0 < c → HasValue x s a c → HasValue y false b 1 → mul binary64 x y ≡ round binary64 s (a * b) c
 unfolding mul
@@ -34,10 +39,6 @@ product-is s (fin t m e) (inf u) a c b P h k = absurd k
 product-is s (fin t m e) (fin true n d) a c b P h k = absurd (true≢false (k .0))
 product-is s (fin t m e) (fin false n d) a c b P h k = subst (λ (v : Bool). round binary64 v (m * up e * (n * up d)) (down e * down d) ≡ round binary64 s (a * b) c) (sym (same t s (h .0))) (round-same binary64 s (m * up e * (n * up d)) (down e * down d) (a * b) c (mul-pos (down-pos e) (down-pos d)) P (cross (m * up e) (n * up d) (down e) (down d) (h .1) (k .1)))
   where
-    same : (t s : Bool) → t ≡ s → unlike t false ≡ s
-    same false s p = p
-    same true s p = p
-
     cross : (x y e d : ℕ) → x * c ≡ a * e → y * 1 ≡ b * d → x * y * c ≡ a * b * (e * d)
     cross x y e d p q = one x y c ∙ ap (λ (z : ℕ). z * y) p ∙ ap (λ (z : ℕ). a * e * z) (sym (mul-one y) ∙ q) ∙ two a b e d
       where
@@ -57,10 +58,6 @@ quotient-is s (fin t m e) (inf u) a c b C P h k = absurd k
 quotient-is s (fin t m e) (fin true n d) a c b C P h k = absurd (true≢false (k .0))
 quotient-is s (fin t m e) (fin false n d) a c b C P h k = rw (is-false (eqb n 0) (not-T (eqb n 0) (λ (u : T (eqb n 0)). some (eqb→eq n 0 u)))) (subst (λ (v : Bool). round binary64 v (m * up e * down d) (n * up d * down e) ≡ round binary64 s a (c * b)) (sym (same t s (h .0))) (round-same binary64 s (m * up e * down d) (n * up d * down e) a (c * b) (mul-pos (subst (λ (x : ℕ). 0 < x) (sym (k .1) ∙ mul-one (n * up d)) (mul-pos P (down-pos d))) (down-pos e)) (mul-pos C P) (cross (m * up e) (n * up d) (down e) (down d) (h .1) (k .1))))
   where
-    same : (t s : Bool) → t ≡ s → unlike t false ≡ s
-    same false s p = p
-    same true s p = p
-
     some : n ≡ 0 → ⊥
     some p = none (b * down d) (mul-pos P (down-pos d)) (sym (k .1) ∙ ap (λ (n : ℕ). n * up d * 1) p ∙ ap (λ (x : ℕ). x * 1) (zero-mul (up d)))
       where

@@ -23,20 +23,18 @@ three-is f g h n d = go f g h n d (pow-suc d 1) (pow-suc d 0) (pow-zero d)
     go : (f g h n d : ℕ) → d ^ 2 ≡ d ^ 1 * d → d ^ 1 ≡ d ^ 0 * d → d ^ 0 ≡ 1 → f * d ^ 2 + n * (g * d ^ 1 + n * (h * d ^ 0 + n * 0)) ≡ f * (d * d) + g * (n * d) + h * (n * n)
     go f g h n d p q r = rw (p, q, r) (simp (ring, mul-zero, zero-mul, one-mul, mul-one, add-zero) (omega arith))
 
+-- the third power of d apart
+third : (h d : ℕ) → h * 16 * d ^ 3 ≡ h * 16 * (d * d) * d
+third h d = ap (λ (z : ℕ). h * 16 * z) (pow-suc d 2 ∙ ap (λ (z : ℕ). z * d) (pow-suc d 1 ∙ ap (λ (z : ℕ). z * d) (pow-suc d 0 ∙ ap (λ (z : ℕ). z * d) (pow-zero d) ∙ one-mul d))) ∙ sym (mul-assoc (h * 16) (d * d) d)
+
 -- ---- Horner's rule at the square, q in units of 2 ^ -64 and at most 2 units too small; 16 / (2 ^ 53 + 1) the unit of the coefficients
 module _ (q n d : ℕ) (below : q * d ≤ n * 2 ^ 64) (above : n * 2 ^ 64 ≤ (q + 2) * d) (quarter : 16 * n ≤ d) (small : q ≤ 2 ^ 63) (D : 0 < d) where
   -- without the factor d
   cut-lo : (h f g k : ℕ) → h * 16 * d ^ 3 ≤ (2 ^ 53 + 1) * hom (f ∷ g ∷ k ∷ []) n d * d → h * 16 * (d * d) ≤ (2 ^ 53 + 1) * square f g k n d
-  cut-lo h f g k l = le-of-mul-le-mul-right {k = d} (le-trans (le-of-eq (sym (three h d))) (le-trans l (le-of-eq (ap (λ (z : ℕ). (2 ^ 53 + 1) * z * d) (three-is f g k n d))))) D
-    where
-      three : (h d : ℕ) → h * 16 * d ^ 3 ≡ h * 16 * (d * d) * d
-      three h d = ap (λ (z : ℕ). h * 16 * z) (pow-suc d 2 ∙ ap (λ (z : ℕ). z * d) (pow-suc d 1 ∙ ap (λ (z : ℕ). z * d) (pow-suc d 0 ∙ ap (λ (z : ℕ). z * d) (pow-zero d) ∙ one-mul d))) ∙ sym (mul-assoc (h * 16) (d * d) d)
+  cut-lo h f g k l = le-of-mul-le-mul-right {k = d} (le-trans (le-of-eq (sym (third h d))) (le-trans l (le-of-eq (ap (λ (z : ℕ). (2 ^ 53 + 1) * z * d) (three-is f g k n d))))) D
 
   cut-hi : (h f g k : ℕ) → (2 ^ 53 + 1) * hom (f ∷ g ∷ k ∷ []) n d * d ≤ h * 16 * d ^ 3 → (2 ^ 53 + 1) * square f g k n d ≤ h * 16 * (d * d)
-  cut-hi h f g k l = le-of-mul-le-mul-right {k = d} (le-trans (le-of-eq (sym (ap (λ (z : ℕ). (2 ^ 53 + 1) * z * d) (three-is f g k n d)))) (le-trans l (le-of-eq (three h d)))) D
-    where
-      three : (h d : ℕ) → h * 16 * d ^ 3 ≡ h * 16 * (d * d) * d
-      three h d = ap (λ (z : ℕ). h * 16 * z) (pow-suc d 2 ∙ ap (λ (z : ℕ). z * d) (pow-suc d 1 ∙ ap (λ (z : ℕ). z * d) (pow-suc d 0 ∙ ap (λ (z : ℕ). z * d) (pow-zero d) ∙ one-mul d))) ∙ sym (mul-assoc (h * 16) (d * d) d)
+  cut-hi h f g k l = le-of-mul-le-mul-right {k = d} (le-trans (le-of-eq (sym (ap (λ (z : ℕ). (2 ^ 53 + 1) * z * d) (three-is f g k n d)))) (le-trans l (le-of-eq (third h d)))) D
 
   over-lo : horner overTerms q * 16 * (d * d) ≤ (2 ^ 53 + 1) * square 15120 420 1 n d
   over-lo = cut-lo (horner overTerms q) 15120 420 1 (lower 16 (2 ^ 53 + 1) q n d overTerms (15120 ∷ 420 ∷ 1 ∷ []) tt below)
@@ -208,6 +206,13 @@ module _ (C H h n a c v d W : ℕ) (C-lo : 2 * C * W ≤ v * (c * d)) (C-hi : v 
           let l' = simp ring at l in
           simp ring (omega arith)
 
+-- ---- factors of a bound by 2 d
+twice-left : (C d X : ℕ) → 2 * C * (d * X) ≡ 2 * d * (C * X)
+twice-left C d X = simp (mul-assoc, mul-comm, mul-left-comm)
+
+twice-right : (v d b : ℕ) → 2 * d * (v * b) ≡ v * (2 * b * d)
+twice-right v d b = simp (mul-assoc, mul-comm, mul-left-comm)
+
 -- ---- the argument s / 2 ^ 64 of n / d, and its square
 module _ (s n d : ℕ) (lo : s * d ≤ n * 2 ^ 64) (hi : n * 2 ^ 64 ≤ (s + 1) * d) (quarter : 4 * n ≤ d) (D : 0 < d) where
   abbrev q : ℕ
@@ -317,25 +322,13 @@ module _ (s n d : ℕ) (lo : s * d ≤ n * 2 ^ 64) (hi : n * 2 ^ 64 ≤ (s + 1) 
   C-lo = go C v d X c (square 15120 1680 15 (n * n) (d * d)) (le-trans (le-of-eq (sym (mul-assoc C 16 (d * d * (d * d))))) (under-lo q (n * n) (d * d) square-lo square-hi sixteen q-small square-pos)) twice
     where
       go : (C v d X c b : ℕ) → C * X ≤ v * b → c ≡ 2 * b → 2 * C * (d * X) ≤ v * (c * d)
-      go C v d X c b h e = le-trans (le-of-eq (l C d X)) (le-trans (mul-le-mul-left (2 * d) h) (le-of-eq (r v d b ∙ ap (λ (z : ℕ). v * (z * d)) (sym e))))
-        where
-          l : (C d X : ℕ) → 2 * C * (d * X) ≡ 2 * d * (C * X)
-          l C d X = simp (mul-assoc, mul-comm, mul-left-comm)
-
-          r : (v d b : ℕ) → 2 * d * (v * b) ≡ v * (2 * b * d)
-          r v d b = simp (mul-assoc, mul-comm, mul-left-comm)
+      go C v d X c b h e = le-trans (le-of-eq (twice-left C d X)) (le-trans (mul-le-mul-left (2 * d) h) (le-of-eq (twice-right v d b ∙ ap (λ (z : ℕ). v * (z * d)) (sym e))))
 
   C-hi : v * (c * d) ≤ 2 * (C + 5) * W
   C-hi = go (C + 5) v d X c (square 15120 1680 15 (n * n) (d * d)) (le-trans (under-hi q (n * n) (d * d) square-lo square-hi sixteen q-small square-pos) (le-of-eq (mul-assoc (C + 5) 16 (d * d * (d * d))))) twice
     where
       go : (C v d X c b : ℕ) → v * b ≤ C * X → c ≡ 2 * b → v * (c * d) ≤ 2 * C * (d * X)
-      go C v d X c b h e = le-trans (le-of-eq (ap (λ (z : ℕ). v * (z * d)) e ∙ sym (r v d b))) (le-trans (mul-le-mul-left (2 * d) h) (le-of-eq (sym (l C d X))))
-        where
-          l : (C d X : ℕ) → 2 * C * (d * X) ≡ 2 * d * (C * X)
-          l C d X = simp (mul-assoc, mul-comm, mul-left-comm)
-
-          r : (v d b : ℕ) → 2 * d * (v * b) ≡ v * (2 * b * d)
-          r v d b = simp (mul-assoc, mul-comm, mul-left-comm)
+      go C v d X c b h e = le-trans (le-of-eq (ap (λ (z : ℕ). v * (z * d)) e ∙ sym (twice-right v d b))) (le-trans (mul-le-mul-left (2 * d) h) (le-of-eq (sym (twice-left C d X))))
 
   A-most : A ≤ 2 ^ 63
   A-most = over-most q (square-le s s-le)

@@ -1,6 +1,6 @@
 -- A sum with what is too small to move the other operand: each corner keeps the value of that operand's end. Assumes nothing.
-use mathlib.Core.Path.{_≡_, refl, sym, _∙_}
-use mathlib.Core.Bool.{Bool, true, false, not, _&&_}
+use mathlib.Core.Path.{_≡_, sym, _∙_}
+use mathlib.Core.Bool.{Bool, true, false, not, and-true}
 use lib.Dec.{T}
 use lib.Ieee.{Float, nan, inf, fin, binary64, fits, isNan, lt, add, sub}
 use lib.Ieee.Bits.{is-true}
@@ -121,10 +121,6 @@ module _ (F : Float) (f : T (finite F)) (x : Interval) (k : Firm F x) where
       let high = corner F (x .upper) f (k .upper-finite) (k .upper-up) (k .upper-down) in
       rw (is-true (y .sound) (b .is-sound), and-true (x .sound))
       (around-same (x .sound) (x .lower) (x .upper) (k .lower-finite) (k .lower-fits) (k .upper-finite) (k .upper-fits) _ _ _ _ (low _ (b .at-lower)) (low _ (b .at-upper)) (high _ (b .at-lower)) (high _ (b .at-upper)))
-    where
-      and-true : (b : Bool) → (b && true) ≡ b
-      and-true true = refl
-      and-true false = refl
 
   pub absorbed : (y z : Interval) → Bounded F y → Bounded F z → addI x y ≡ addI x z
   absorbed y z p q = with-small y p ∙ sym (with-small z q)

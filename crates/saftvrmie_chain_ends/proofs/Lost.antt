@@ -1,6 +1,6 @@
 -- The slope of a tiny dividend's quotient by a plain number from 1 to 2 ^ 100, times a factor below 2 ^ 100, stays below 2 ^ -800, and a sum that stays as it is with that loses it. Assumes nothing.
 use mathlib.Core.Path.{_≡_, refl, sym, ap, _∙_, subst}
-use mathlib.Core.Bool.{Bool, true, false, not, _&&_}
+use mathlib.Core.Bool.{Bool, true, false, not, _&&_, and-true}
 use Prim.Native.Nat.{ℕ}
 use lib.IntN.{pos, negsuc}
 use lib.Dec.{T, lit≤, lit<}
@@ -38,10 +38,6 @@ abbrev high : ℕ → Float
 high k = fin false 1 (pos k)
 
 -- ---- the code's tests: every f64 fits
-and-true : (b : Bool) → (b && true) ≡ b
-and-true true = refl
-and-true false = refl
-
 pub moderate-by : (l u : Float) → fits binary64 l ≡ true → fits binary64 u ≡ true → (lt zero64 l && not (lt u l) && lt u big) ≡ moderateOf l u
 unfolding moderateOf
 moderate-by l u f g = rw (f, g, and-true (lt zero64 l && not (lt u l) && lt u big && true), and-true (lt zero64 l && not (lt u l) && lt u big))

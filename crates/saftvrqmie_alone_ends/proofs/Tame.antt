@@ -1,6 +1,6 @@
 -- How large an interval may grow: its ends stay finite, and it sound, while they keep below 2 ^ 1023. Assumes nothing.
-use mathlib.Core.Path.{_≡_, refl, sym, ap, _∙_, subst}
-use mathlib.Core.Bool.{Bool, true, false, _&&_}
+use mathlib.Core.Path.{_≡_, sym, ap, _∙_, subst}
+use mathlib.Core.Bool.{false}
 use Prim.Native.Nat.{ℕ, suc, _+_, _*_, _^_, _≤_, _<_}
 use native.Mathlib.Nat.{le-of-lt, mul-one, one-mul}
 use native.Mathlib.Omega.{arith}
@@ -51,10 +51,6 @@ Tame k x = Bounded (top k) x
 
 pub widened : (j k : ℕ) → j ≤ k → (x : Interval) → Tame j x → Tame k x
 widened j k h = B.widened (top j) (top k) (whole-le (2 ^ j) (2 ^ k) (pow-mono h))
-
-pub and-true : (b : Bool) → (b && true) ≡ b
-and-true true = refl
-and-true false = refl
 
 -- ---- the operations
 corners : (a b c : ℕ) → c ≡ a * b → Corners (frac (1 * a) 0 1) (frac (1 * b) 0 1) (frac (1 * c) 0 1)

@@ -1,11 +1,10 @@
 -- `saftvrqmie_alone_ends::plain` meets its contract. Assumes nothing.
 use mathlib.Core.Path.{_≡_}
-use mathlib.Core.Bool.{Bool, true, _&&_}
+use mathlib.Core.Bool.{Bool, true, _&&_, and-true}
 use lib.Ieee.{Float, binary64, fits, lt}
 use Rattle.number.specs.Arith.{one64}
 use Rattle.power.specs.Power.{exponentInside}
 use Rattle.saftvrqmie_alone_ends.specs.Alone.{plainOf}
-use Rattle.saftvrqmie_alone_ends.proofs.Tame.{and-true}
 use borrow.Author.Needs.{needs}
 use Rattle.saftvrqmie_alone_ends.proofs.plain.Statement.{statement}
 use Rattle.saftvrqmie_alone_ends.proofs.plain.Tie as tie

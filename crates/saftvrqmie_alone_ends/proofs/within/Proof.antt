@@ -1,9 +1,8 @@
 -- `saftvrqmie_alone_ends::within` meets its contract. Assumes nothing.
 use mathlib.Core.Path.{_≡_}
-use mathlib.Core.Bool.{true, _&&_}
+use mathlib.Core.Bool.{true, _&&_, and-true}
 use lib.Ieee.{Float, binary64, fits, le, neg}
 use Rattle.saftvrqmie_alone_ends.specs.Alone.{big, withinOf}
-use Rattle.saftvrqmie_alone_ends.proofs.Tame.{and-true}
 use Rattle.saftvrqmie_alone_ends.proofs.within.Statement.{statement}
 use Rattle.saftvrqmie_alone_ends.proofs.within.Tie as tie
 
