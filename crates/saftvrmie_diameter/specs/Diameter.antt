@@ -38,6 +38,22 @@ module _ (A : Arith) where
   abbrev half : Num
   half = lit (decimal false 5 1)
 
+  -- half of what is left of the reduced distance; a node's radius, `node` its position in the rule; its inverse; the potential from its two powers; what the node adds
+  abbrev pub widthFrom : Num → Num
+  widthFrom r0 = (⊖ r0 ⊕ one) ⊗ half
+
+  abbrev pub radiusFrom : Num → Num → Num
+  radiusFrom r0 node = widthFrom r0 ⊗ node ⊕ widthFrom r0 ⊕ r0
+
+  abbrev pub inverseFrom : Num → Num
+  inverseFrom r = one ⊘ r ⊗ one
+
+  abbrev pub betaUFrom : Num → Num → Num → Num
+  betaUFrom plr pla c-eps-t = (plr ⊖ pla) ⊗ c-eps-t
+
+  abbrev pub addedFrom : Num → Num → Num → Num → Num
+  addedFrom r0 weight e d = d ⊕ widthFrom r0 ⊗ (⊖ e) ⊗ weight
+
   -- inverse_temperature * c_ij * epsilon_k_ij
   unfoldable pub cEpsT : Num → Num → Num → Num
   cEpsT temperature c epsilon-k = one ⊘ temperature ⊗ c ⊗ epsilon-k
@@ -82,18 +98,17 @@ module _ (A : Arith) where
       -- `beta_u_mie` with sigma 1.0
       unfoldable pub betaUMie : Num → Ans Num
       betaUMie r =
-          let ri = one ⊘ r ⊗ one in
+          let ri = inverseFrom r in
           F .powf ri lr >>= λ plr.
           F .powf ri la >>= λ pla.
-          held ((plr ⊖ pla) ⊗ c-eps-t)
+          held (betaUFrom plr pla c-eps-t)
 
       -- one node of the rule, from the reduced r0
       unfoldable pub nodeTurn : Num → ℕ → Num → Ans Num
       nodeTurn r0 k d =
-          let width = (⊖ r0 ⊕ one) ⊗ half in
-          betaUMie (width ⊗ entry F positions k ⊕ width ⊕ r0) >>= λ u.
+          betaUMie (radiusFrom r0 (entry F positions k)) >>= λ u.
           F .expm1 (⊖ u) >>= λ e.
-          held (d ⊕ width ⊗ (⊖ e) ⊗ entry F weights k)
+          held (addedFrom r0 (entry F weights k) e d)
 
       -- the diameter from the reduced r0
       unfoldable pub diameterFrom : Num → Num → Ans Num

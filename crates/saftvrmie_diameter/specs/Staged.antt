@@ -5,14 +5,14 @@ use lib.ListN.{getD, replicate}
 use mathlib.Core.Bool.{Bool, false, _&&_}
 use mathlib.Core.List.{List}
 use Rattle.number.specs.Ans.{Ans, held, _>>=_, demand}
-use Rattle.number.specs.Arith.{floats, bits, decimal, zero64}
+use Rattle.number.specs.Arith.{floats, bits, zero64}
 use Rattle.number.specs.Functions.{calls, entry}
 use Rattle.number.specs.Walk.{filled}
 use Rattle.elementary.specs.Port.{port}
 use Rattle.binary_log.specs.BinaryLog.{baseInside, logOf}
 use Rattle.binary_log.specs.declared.Log.{Log}
 use Rattle.power.specs.Power.{exponentInside, exponentOf, powerOf}
-use Rattle.saftvrmie_diameter.specs.Diameter.{positions, weights}
+use Rattle.saftvrmie_diameter.specs.Diameter.{positions, weights, radiusFrom, inverseFrom, betaUFrom, addedFrom}
 use Rattle.saftvrmie_diameter.specs.declared.Exponents.{Exponents}
 
 -- both exponents lie within the power's domain
@@ -22,19 +22,13 @@ exponentsInside la lr = exponentInside lr && exponentInside la
 unfoldable pub exponentsOf : Float → Float → Exponents
 exponentsOf la lr = record { lr = exponentOf lr; la = exponentOf la }
 
--- half of what is left of the reduced distance
-abbrev pub widthOf : Float → Float
-widthOf r0 = floats .mul (floats .add (floats .neg r0) (decimal false 1 0)) (decimal false 5 1)
-
 -- the inverse radius of node k
 unfoldable pub inverseAt : Float → ℕ → Float
-inverseAt r0 k =
-    let r = floats .add (floats .add (floats .mul (widthOf r0) (entry (calls floats port) positions k)) (widthOf r0)) r0 in
-    floats .mul (floats .div (decimal false 1 0) r) (decimal false 1 0)
+inverseAt r0 k = inverseFrom floats (radiusFrom floats r0 (entry (calls floats port) positions k))
 
 -- `beta_u_mie` from the logarithm of the inverse radius
 unfoldable pub betaUAt : Exponents → Float → Log → Float
-betaUAt e c-eps-t log = floats .mul (floats .sub (powerOf log (e .lr)) (powerOf log (e .la))) c-eps-t
+betaUAt e c-eps-t log = betaUFrom floats (powerOf log (e .lr)) (powerOf log (e .la)) c-eps-t
 
 -- what stands in a place before it is filled
 abbrev pub noLog : Log
@@ -56,4 +50,4 @@ unfoldable pub nodeAt : Float → ℕ → Float → Float → Float → Ans Floa
 nodeAt r0 k ri u d =
     demand 6 (baseInside ri) >>= λ _.
     port .expm1 (floats .neg u) >>= λ e.
-    held (floats .add d (floats .mul (floats .mul (widthOf r0) (floats .neg e)) (entry (calls floats port) weights k)))
+    held (addedFrom floats r0 (entry (calls floats port) weights k) e d)

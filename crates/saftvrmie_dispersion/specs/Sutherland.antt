@@ -79,29 +79,37 @@ module _ (A D : Arith) (plain : A .Num → D .Num) where
   abbrev half : Num
   half = lit (decimal false 5 1)
 
-  -- `zeta_eff`
+  -- `zeta_eff`, from the rows of C at 1 / lambda
+  abbrev pub zetaEffFrom : Num → A .Num → A .Num → A .Num → A .Num → Num
+  zetaEffFrom zeta r0 r1 r2 r3 = zeta ⊗ (zeta ⊗ (zeta ⊗ (zeta ⊗ plain r3 ⊕ plain r2) ⊕ plain r1) ⊕ plain r0)
+
   unfoldable pub zetaEff : Num → A .Num → Num
   zetaEff zeta lambda =
       let li = lit' (decimal false 1 0) /' lambda in
       let li2 = li *' li in
       let li3 = li *' li2 in
-      zeta ⊗ (zeta ⊗ (zeta ⊗ (zeta ⊗ plain (cRow A li li2 li3 c3) ⊕ plain (cRow A li li2 li3 c2)) ⊕ plain (cRow A li li2 li3 c1)) ⊕ plain (cRow A li li2 li3 c0))
+      zetaEffFrom zeta (cRow A li li2 li3 c0) (cRow A li li2 li3 c1) (cRow A li li2 li3 c2) (cRow A li li2 li3 c3)
 
-  -- `a1s_ij`: the Sutherland potential for mixtures (eq. A16), divided by 2 pi rho_s d_ij³ epsilon_k_ij
+  -- `a1s_ij`: the Sutherland potential for mixtures (eq. A16), divided by 2 pi rho_s d_ij³ epsilon_k_ij; from zeta_eff and l3 = lambda - 3
+  abbrev pub a1sFrom : Num → A .Num → Num
+  a1sFrom ze l3 = ⊖ (⊖ ze ⊗ half ⊕ one) ⊘ (pow (⊖ ze ⊕ one) 3 ⊗ plain l3)
+
   unfoldable pub a1s : Num → A .Num → Num
-  a1s zeta-x lambda =
-      let ze = zetaEff zeta-x lambda in
-      ⊖ (⊖ ze ⊗ half ⊕ one) ⊘ (pow (⊖ ze ⊕ one) 3 ⊗ plain (lambda -' three))
+  a1s zeta-x lambda = a1sFrom (zetaEff zeta-x lambda) (lambda -' three)
 
-  -- i of `b_ij`
+  -- i of `b_ij`, from l3
+  abbrev pub iFrom : Num → A .Num → Num
+  iFrom x0-3ml l3 = ⊖ (x0-3ml ⊖ one) ⊘ plain l3
+
   unfoldable pub iOf : Num → A .Num → Num
-  iOf x0-3ml lambda = ⊖ (x0-3ml ⊖ one) ⊘ plain (lambda -' three)
+  iOf x0-3ml lambda = iFrom x0-3ml (lambda -' three)
 
-  -- j of `b_ij`
+  -- j of `b_ij`, from l3 and l4 = lambda - 4
+  abbrev pub jFrom : Num → Num → A .Num → A .Num → Num
+  jFrom x0-4ml x0-3ml l3 l4 = ⊖ (x0-4ml ⊗ plain l3 ⊖ x0-3ml ⊗ plain l4 ⊖ one) ⊘ plain (l3 *' l4)
+
   unfoldable pub jOf : Num → Num → A .Num → Num
-  jOf x0-4ml x0-3ml lambda =
-      ⊖ (x0-4ml ⊗ plain (lambda -' three) ⊖ x0-3ml ⊗ plain (lambda -' four) ⊖ one)
-      ⊘ plain ((lambda -' three) *' (lambda -' four))
+  jOf x0-4ml x0-3ml lambda = jFrom x0-4ml x0-3ml (lambda -' three) (lambda -' four)
 
   -- the last line of `b_ij`
   unfoldable pub bOf : FluidIn Num → Num → Num → Num

@@ -67,26 +67,36 @@ module _ (A : Arith) where
   two = lit (decimal false 2 0)
 
   -- `f` of a row of PHI
+  abbrev pub fFrom : List Float → Num → Num → Num → Num
+  fFrom phi alpha alpha2 alpha3 =
+      (alpha ⊗ lit (at phi 1) ⊕ alpha2 ⊗ lit (at phi 2) ⊕ alpha3 ⊗ lit (at phi 3) ⊕ lit (at phi 0))
+      ⊘ (alpha ⊗ lit (at phi 4) ⊕ alpha2 ⊗ lit (at phi 5) ⊕ alpha3 ⊗ lit (at phi 6) ⊕ one)
+
   unfoldable pub f : List Float → Num → Num
   f phi alpha =
       let alpha2 = alpha ⊗ alpha in
       let alpha3 = alpha ⊗ alpha2 in
-      (alpha ⊗ lit (at phi 1) ⊕ alpha2 ⊗ lit (at phi 2) ⊕ alpha3 ⊗ lit (at phi 3) ⊕ lit (at phi 0))
-      ⊘ (alpha ⊗ lit (at phi 4) ⊕ alpha2 ⊗ lit (at phi 5) ⊕ alpha3 ⊗ lit (at phi 6) ⊕ one)
+      fFrom phi alpha alpha2 alpha3
 
   -- zeta_x_bar, `zx5` and `zx8`
   unfoldable pub barOf : Num → BarIn Num
   barOf zeta-x-bar = record { zeta-x-bar = zeta-x-bar; zx5 = pow zeta-x-bar 5; zx8 = pow zeta-x-bar 8 }
 
-  -- `xii`, `xij`
-  unfoldable pub xiOf : BarIn Num → Num → Num
-  xiOf bar alpha = bar .zeta-x-bar ⊗ f phi0 alpha ⊕ bar .zx5 ⊗ f phi1 alpha ⊕ bar .zx8 ⊗ f phi2 alpha
+  -- `xii`, `xij`, from the first three of f
+  abbrev pub xiFrom : BarIn Num → Num → Num → Num → Num
+  xiFrom bar f0 f1 f2 = bar .zeta-x-bar ⊗ f0 ⊕ bar .zx5 ⊗ f1 ⊕ bar .zx8 ⊗ f2
 
-  -- `a3_ii`, `a3_ij`
+  unfoldable pub xiOf : BarIn Num → Num → Num
+  xiOf bar alpha = xiFrom bar (f phi0 alpha) (f phi1 alpha) (f phi2 alpha)
+
+  -- `a3_ii`, `a3_ij`, from the last three
+  abbrev pub a3From : Functions Num → Num → Num → Num → Num → Num → Ans Num
+  a3From F zeta-x-bar f3 f4 f5 eps-k =
+      F .exp (zeta-x-bar ⊗ (zeta-x-bar ⊗ f5 ⊕ f4)) >>= λ e.
+      held (⊖ zeta-x-bar ⊗ f3 ⊗ e ⊗ pow eps-k 3)
+
   unfoldable pub a3Of : Functions Num → Num → Num → Num → Ans Num
-  a3Of F zeta-x-bar alpha eps-k =
-      F .exp (zeta-x-bar ⊗ (zeta-x-bar ⊗ f phi5 alpha ⊕ f phi4 alpha)) >>= λ e.
-      held (⊖ zeta-x-bar ⊗ f phi3 alpha ⊗ e ⊗ pow eps-k 3)
+  a3Of F zeta-x-bar alpha eps-k = a3From F zeta-x-bar (f phi3 alpha) (f phi4 alpha) (f phi5 alpha) eps-k
 
   -- di.recip() * sig
   unfoldable pub x0Of : Num → Num → Num

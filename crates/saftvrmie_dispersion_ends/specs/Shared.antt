@@ -1,19 +1,17 @@
 -- A pair's formulas in the two-ended run from what the code works once: of an exponent, of the base of its powers, and of alpha. The contracts of helpers alone; that these are the formulas is shown in proofs/Shared.
 use lib.Ieee.{Float}
-use mathlib.Core.Bool.{false}
 use mathlib.Core.List.{List}
-use Rattle.number.specs.Ans.{Ans, held, _>>=_}
-use Rattle.number.specs.Arith.{Arith, decimal, whole}
+use Rattle.number.specs.Ans.{Ans}
+use Rattle.number.specs.Arith.{Arith, whole}
 use Rattle.number.specs.Functions.{calls, answered₂}
-use Rattle.number.specs.Lists.{at}
 use Rattle.elementary.specs.Port.{port}
 use Rattle.binary_log.specs.declared.Log.{Log}
 use Rattle.power.specs.Power.{powfAt}
 use Rattle.enclosure.specs.declared.Enclosure.{Enclosure}
-use Rattle.enclosure.specs.Enclosure.{enclosures, point, addE, subE, mulE, divE, negE, powE}
-use Rattle.saftvrmie_dispersion.specs.Sutherland.{FluidIn, cRow, bOf}
+use Rattle.enclosure.specs.Enclosure.{enclosures, subE, mulE, divE}
+use Rattle.saftvrmie_dispersion.specs.Sutherland.{FluidIn, cRow, zetaEffFrom, a1sFrom, iFrom, jFrom, bOf}
 use Rattle.mie_parameters.specs.Tables.{phi0, phi1, phi2, phi3, phi4, phi5, c0, c1, c2, c3}
-use Rattle.saftvrmie_dispersion.specs.Terms.{BarIn, f}
+use Rattle.saftvrmie_dispersion.specs.Terms.{BarIn, f, fFrom, xiFrom, a3From}
 use Rattle.saftvrmie_dispersion_ends.specs.declared.LambdaEnclosures.{LambdaEnclosures}
 use Rattle.saftvrmie_dispersion_ends.specs.declared.SixEnclosures.{SixEnclosures}
 
@@ -33,29 +31,21 @@ lambdaOf lambda =
 
 -- the Sutherland sums, in the plain arithmetic or in dual numbers
 module _ (D : Arith) (plain : Enclosure → D .Num) where
-  open Arith D using (Num, add as _⊕_, sub as _⊖_, mul as _⊗_, div as _⊘_, neg as ⊖_, pow, lit)
+  open Arith D using (Num, add as _⊕_, mul as _⊗_)
 
   infixl 60 _⊕_
-  infixl 60 _⊖_
   infixl 70 _⊗_
-  infixl 70 _⊘_
-  infix 80 ⊖_
-  abbrev one : Num
-  one = lit (decimal false 1 0)
-
   unfoldable pub zetaEffBy : Num → LambdaEnclosures → Num
-  zetaEffBy zeta of = zeta ⊗ (zeta ⊗ (zeta ⊗ (zeta ⊗ plain (of .c3) ⊕ plain (of .c2)) ⊕ plain (of .c1)) ⊕ plain (of .c0))
+  zetaEffBy zeta of = zetaEffFrom enclosures D plain zeta (of .c0) (of .c1) (of .c2) (of .c3)
 
   unfoldable pub a1sBy : Num → LambdaEnclosures → Num
-  a1sBy zeta-x of =
-      let ze = zetaEffBy zeta-x of in
-      ⊖ (⊖ ze ⊗ lit (decimal false 5 1) ⊕ one) ⊘ (pow (⊖ ze ⊕ one) 3 ⊗ plain (of .l3))
+  a1sBy zeta-x of = a1sFrom enclosures D plain (zetaEffBy zeta-x of) (of .l3)
 
   unfoldable pub iBy : Num → Enclosure → Num
-  iBy x0-3ml l3 = ⊖ (x0-3ml ⊖ one) ⊘ plain l3
+  iBy x0-3ml l3 = iFrom enclosures D plain x0-3ml l3
 
   unfoldable pub jBy : Num → Num → Enclosure → Enclosure → Num
-  jBy x0-4ml x0-3ml l3 l4 = ⊖ (x0-4ml ⊗ plain l3 ⊖ x0-3ml ⊗ plain l4 ⊖ one) ⊘ plain (mulE l3 l4)
+  jBy x0-4ml x0-3ml l3 l4 = jFrom enclosures D plain x0-4ml x0-3ml l3 l4
 
   unfoldable pub a1sBBy : FluidIn Num → LambdaEnclosures → Enclosure → Enclosure → Enclosure → Num
   a1sBBy w of p p3 p4 =
@@ -67,10 +57,7 @@ powerAt l x0 y = answered₂ enclosures (powfAt l (y .value)) x0 y
 
 -- `f` from alpha and its powers 2 and 3
 unfoldable pub fBy : List Float → Enclosure → Enclosure → Enclosure → Enclosure
-fBy phi alpha alpha2 alpha3 =
-    divE
-    (addE (addE (addE (mulE alpha (point (at phi 1))) (mulE alpha2 (point (at phi 2)))) (mulE alpha3 (point (at phi 3)))) (point (at phi 0)))
-    (addE (addE (addE (mulE alpha (point (at phi 4))) (mulE alpha2 (point (at phi 5)))) (mulE alpha3 (point (at phi 6)))) (whole enclosures 1))
+fBy phi alpha alpha2 alpha3 = fFrom enclosures phi alpha alpha2 alpha3
 
 unfoldable pub sixOf : Enclosure → SixEnclosures
 sixOf alpha =
@@ -84,9 +71,7 @@ sixOf alpha =
     }
 
 unfoldable pub xiBy : BarIn Enclosure → SixEnclosures → Enclosure
-xiBy bar of = addE (addE (mulE (bar .zeta-x-bar) (of .f0)) (mulE (bar .zx5) (of .f1))) (mulE (bar .zx8) (of .f2))
+xiBy bar of = xiFrom enclosures bar (of .f0) (of .f1) (of .f2)
 
 unfoldable pub a3By : Enclosure → SixEnclosures → Enclosure → Ans Enclosure
-a3By zeta-x-bar of eps-k =
-    calls enclosures port .exp (mulE zeta-x-bar (addE (mulE zeta-x-bar (of .f5)) (of .f4))) >>= λ e.
-    held (mulE (mulE (mulE (negE zeta-x-bar) (of .f3)) e) (powE eps-k 3))
+a3By zeta-x-bar of eps-k = a3From enclosures (calls enclosures port) zeta-x-bar (of .f3) (of .f4) (of .f5) eps-k

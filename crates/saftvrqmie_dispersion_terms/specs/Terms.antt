@@ -31,17 +31,26 @@ module _ (A : Arith) where
       let c3 = lamSum 3 l0 l1 l2 l3 in
       zeta ⊗ (zeta ⊗ (zeta ⊗ (zeta ⊗ c3 ⊕ c2) ⊕ c1) ⊕ c0)
 
-  -- `sutherland` from ef = eta_eff and its power p of x0
-  unfoldable pub sutherlandOf : Num → Num → Num → Num → Num
-  sutherlandOf lambda epsilon-k ef p =
-      (⊖ ef ⊗ lit (decimal false 5 1) ⊕ whole A 1) ⊗ lit (decimal true 12 0) ⊗ p ⊗ epsilon-k ⊘ (lambda ⊖ whole A 3) ⊘ pow (⊖ ef ⊕ whole A 1) 3
+  -- `sutherland` from ef = eta_eff, its power p of x0 and l3 = lambda - 3
+  abbrev pub sutherlandFrom : Num → Num → Num → Num → Num
+  sutherlandFrom l3 epsilon-k ef p =
+      (⊖ ef ⊗ lit (decimal false 5 1) ⊕ whole A 1) ⊗ lit (decimal true 12 0) ⊗ p ⊗ epsilon-k ⊘ l3 ⊘ pow (⊖ ef ⊕ whole A 1) 3
 
-  -- `ilambda` from its power 3 - lambda, `jlambda` from its powers 4 - lambda and 3 - lambda
+  unfoldable pub sutherlandOf : Num → Num → Num → Num → Num
+  sutherlandOf lambda epsilon-k ef p = sutherlandFrom (lambda ⊖ whole A 3) epsilon-k ef p
+
+  -- `ilambda` from its power 3 - lambda, `jlambda` from its powers 4 - lambda and 3 - lambda; and from l3 and l4 = lambda - 4
+  abbrev pub ilambdaFrom : Num → Num → Num
+  ilambdaFrom l3 p3 = ⊖ (p3 ⊖ whole A 1) ⊘ l3
+
   unfoldable pub ilambdaOf : Num → Num → Num
-  ilambdaOf lambda p3 = ⊖ (p3 ⊖ whole A 1) ⊘ (lambda ⊖ whole A 3)
+  ilambdaOf lambda p3 = ilambdaFrom (lambda ⊖ whole A 3) p3
+
+  abbrev pub jlambdaFrom : Num → Num → Num → Num → Num
+  jlambdaFrom l3 l4 p4 p3 = ⊖ (p4 ⊗ l3 ⊖ p3 ⊗ l4 ⊖ whole A 1) ⊘ (l3 ⊗ l4)
 
   unfoldable pub jlambdaOf : Num → Num → Num → Num
-  jlambdaOf lambda p4 p3 = ⊖ (p4 ⊗ (lambda ⊖ whole A 3) ⊖ p3 ⊗ (lambda ⊖ whole A 4) ⊖ whole A 1) ⊘ ((lambda ⊖ whole A 3) ⊗ (lambda ⊖ whole A 4))
+  jlambdaOf lambda p4 p3 = jlambdaFrom (lambda ⊖ whole A 3) (lambda ⊖ whole A 4) p4 p3
 
   -- the factors of the two integrals in `b`, by the packing fraction alone
   unfoldable pub factorI : Num → Num

@@ -68,9 +68,12 @@ module _ (A : Arith) where
       let f = frac1mz3 (z .z3) in
       (z .z1 ⊗ z .z2 ⊗ f ⊗ whole A 3 ⊕ pow (z .z2) 2 ⊗ pow f 2 ⊗ z23 ⊕ (z .z2 ⊗ pow z23 2 ⊖ z .z0) ⊗ l) ⊗ whole A 6 ⊘ F .pi
 
-  -- `helmholtz_energy_density`: n, mole fractions, partial densities, diameters, m
-  unfoldable pub hardSphere : Functions Num → ℕ → (ℕ → Num) → (ℕ → Num) → (ℕ → Num) → (ℕ → Num) → Ans Num
-  hardSphere F n x rho d m =
-      let z = zeta F n rho d m in
+  -- `helmholtz_energy_density`: n, mole fractions, diameters, m, and the zetas
+  abbrev pub hardSphereFrom : Functions Num → ℕ → (ℕ → Num) → (ℕ → Num) → (ℕ → Num) → ZetaIn Num → Ans Num
+  hardSphereFrom F n x d m z =
       F .ln1p (z .z3 ⊗ lit (decimal true 1 0)) >>= λ l.
       held (hardSphereOf F z (zeta23 n x d m) l)
+
+  -- the same from partial densities
+  unfoldable pub hardSphere : Functions Num → ℕ → (ℕ → Num) → (ℕ → Num) → (ℕ → Num) → (ℕ → Num) → Ans Num
+  hardSphere F n x rho d m = hardSphereFrom F n x d m (zeta F n rho d m)

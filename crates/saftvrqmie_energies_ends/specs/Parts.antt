@@ -1,13 +1,11 @@
 -- The code's records in the two-ended run, as the formulas take them, and the hard sphere from zetas that are worked once.
 use Prim.Native.Nat.{ℕ}
-use mathlib.Core.Bool.{true}
-use Rattle.number.specs.Ans.{Ans, held, _>>=_}
-use Rattle.number.specs.Arith.{decimal}
+use Rattle.number.specs.Ans.{Ans}
 use Rattle.number.specs.Functions.{calls}
 use Rattle.elementary.specs.Port.{port}
 use Rattle.enclosure.specs.declared.Enclosure.{Enclosure}
-use Rattle.enclosure.specs.Enclosure.{enclosures, point, mulE}
-use Rattle.saftvrqmie_energies.specs.HardSphere.{ZetaIn, Zeta23In, zeta23, hardSphereOf}
+use Rattle.enclosure.specs.Enclosure.{enclosures}
+use Rattle.saftvrqmie_energies.specs.HardSphere.{ZetaIn, Zeta23In, hardSphereFrom}
 use Rattle.saftvrqmie_energies.specs.Dispersion.{MixtureIn}
 use Rattle.saftvrqmie_energies_ends.specs.declared.ZetaEnclosures.{ZetaEnclosures}
 use Rattle.saftvrqmie_energies_ends.specs.declared.Zeta23Enclosures.{Zeta23Enclosures}
@@ -24,6 +22,4 @@ mixtureIn w = record { rho-s = w .«rho_s»; zeta = w .zeta; zeta-bar = w .«zet
 
 -- `hardSphere` from its zetas: the contract of a helper. That it is the formula is `hard-sphere-at` of proofs/Zetas.
 unfoldable pub hardSphereAt : ℕ → (ℕ → Enclosure) → (ℕ → Enclosure) → (ℕ → Enclosure) → ZetaIn Enclosure → Ans Enclosure
-hardSphereAt n x d m z =
-    calls enclosures port .ln1p (mulE (z .z3) (point (decimal true 1 0))) >>= λ l.
-    held (hardSphereOf enclosures (calls enclosures port) z (zeta23 enclosures n x d m) l)
+hardSphereAt n x d m z = hardSphereFrom enclosures (calls enclosures port) n x d m z

@@ -73,11 +73,15 @@ module _ (A : Arith) where
   infixl 70 _⊗_
   infixl 70 _⊘_
   infix 80 ⊖_
+  -- half of what the rule goes over, from sigma_eff and r0
+  abbrev pub widthFrom : Num → Num → Num
+  widthFrom sigma-eff r0 = (sigma-eff ⊖ r0) ⊗ lit (decimal false 5 1)
+
   module _ (F : Functions Num) (U : Num → Ans (PotentialIn Num)) (temperature sigma-eff r0 : Num) where
     -- one node: both derivatives are worked on the way
     unfoldable pub nodeTurn : ℕ → Num → Ans Num
     nodeTurn k d-hs =
-        let width = (sigma-eff ⊖ r0) ⊗ lit (decimal false 5 1) in
+        let width = widthFrom sigma-eff r0 in
         let r = width ⊗ entry F abscissas k ⊕ width ⊕ r0 in
         U r >>= λ v.
         F .exp (⊖ v .u ⊘ temperature) >>= λ e.
