@@ -45,7 +45,7 @@ vrqParameters x l =
 unfoldable pub vrqTable : ℕ → List Float → List Float → List ℕ → Float → Lent → Ans Lent
 vrqTable n m sheets orders t l = quantumSet n m sheets orders >>= λ s. temperatureTable s t l
 
--- 'radius and last potential of sigma, zero, depth', and the three counts
+-- radius and last potential of sigma, zero, depth, and the three counts
 unfoldable pub radiiWritten : SearchesIn Float → Lent → Lent
 radiiWritten r l =
     record {
@@ -64,7 +64,7 @@ vrqRadii n m sheets orders i j t l =
     searches s i j t >>= λ r.
     held (radiiWritten r l)
 
--- 'hard sphere, dispersion, non-additive'
+-- hard sphere, dispersion, non-additive
 unfoldable pub energiesWritten : EnergiesIn Float → List Float → List Float
 energiesWritten e l = set (set (set l 0 (e .hard-sphere)) 1 (e .dispersion)) 2 (e .non-additive)
 
@@ -75,7 +75,7 @@ vrqEnergies n m sheets orders t x rho table wanted l =
     energies s t x rho table wanted >>= λ e.
     held (energiesWritten e l)
 
--- 'low and high end of each of the three'
+-- low and high end of each of the three
 unfoldable pub endsWritten : EnergiesIn Ends → List Float → List Float
 endsWritten e l =
     set (set (set (set (set (set l 0 (e .hard-sphere .lower)) 1 (e .hard-sphere .upper)) 2 (e .dispersion .lower)) 3 (e .dispersion .upper)) 4 (e .non-additive .lower)) 5 (e .non-additive .upper)
@@ -87,7 +87,7 @@ vrqEnergiesEnds n m sheets orders t x rho table wanted l =
     energiesEnds port s t x rho table wanted >>= λ e.
     held (endsWritten e l)
 
--- 'low and high end'
+-- low and high end
 unfoldable pub pairWritten : Ends → List Float → List Float
 pairWritten e l = set (set l 0 (e .lower)) 1 (e .upper)
 

@@ -17,7 +17,7 @@ pub ln-subnormal : lnOf (ofBits binary64 0x000f_ffff_ffff_ffff) ≡ refused 6
 unfolding lnOf le ofBits
 ln-subnormal = refl
 
--- '`ln_1p` of ±0 gives the argument'
+-- '`ln_1p`, .. of ±0 give the argument'
 pub ln-1p-zero : ln1pOf (ofBits binary64 0) ≡ held (ofBits binary64 0)
 unfolding ln1pOf value1p lt le toBits ofBits neg
 ln-1p-zero = refl

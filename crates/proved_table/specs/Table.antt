@@ -53,7 +53,7 @@ pub record Table : Type 0 where
   -- such lists of two and of three components pass the tests 1 and 2 whatever their orders: the rows below speak of some
   pub within-2 : (a b : ℕ) → Within (alike (a ∷ b ∷ []))
   pub within-3 : (a b c : ℕ) → Within (alike (a ∷ b ∷ c ∷ []))
-  -- '(1,2) 5; (1,2,3) 5; (1,3,2) 4; (0,3) 4'
+  -- '(1,2) 5', '(1,2,3) 5', '(1,3,2) 4', '(0,3) 4'
   pub orders-1-2 : Orders (1 ∷ 2 ∷ []) 5
   pub orders-1-2-3 : Orders (1 ∷ 2 ∷ 3 ∷ []) 5
   pub orders-1-3-2 : Orders (1 ∷ 3 ∷ 2 ∷ []) 4
@@ -65,7 +65,7 @@ pub record Table : Type 0 where
   pub count-9 : (l : Quantum.Lists) → l .count ≡ 9 → Quantum.saftVRQMiePars l ≡ refused 1
   pub mie-count-0 : (l : Mie.Lists) → l .count ≡ 0 → Mie.saftVRMiePars l ≡ refused 1
   pub mie-count-9 : (l : Mie.Lists) → l .count ≡ 9 → Mie.saftVRMiePars l ≡ refused 1
-  -- 'root of 2.25 is 1.5; root of −0 is −0'
+  -- 'root of 2.25 is 1.5', 'root of −0 is −0'
   pub root : port .sqrt (decimal false 225 2) ≡ held (decimal false 15 1)
   pub root-zero : port .sqrt (bits 0x8000_0000_0000_0000) ≡ held (bits 0x8000_0000_0000_0000)
   -- 'power base 32 accepted, next f64 up 6', whatever the exponent
