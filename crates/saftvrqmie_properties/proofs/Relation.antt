@@ -41,7 +41,7 @@ module _ (A B : Arith) (K : Rel A B) (F : Functions (A .Num)) (G : Functions (B 
       (record {
         sigma-eff = sigma;
         hs-diameter = d;
-        epsilon-k-eff = K .r-neg (last-rel (K .R) (e .search));
+        epsilon-k-eff = K .r-neg (K .r-after (radius-rel (K .R) (e .search)) (last-rel (K .R) (e .search)));
         quantum-d = quantumD-rel A B K F G H (P .mass) (P .temperature);
         sigma-count = s .count;
         zero-count = z .count;

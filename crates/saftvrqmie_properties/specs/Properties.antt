@@ -37,7 +37,7 @@ abbrev pub propertiesAnswer : PropertiesAnswer → Ans (PropertiesIn Float)
 propertiesAnswer (At p) = held (propertiesIn p)
 propertiesAnswer Outside = refused 6
 
--- a search's radius is used whether it was found or spent, and so is its last potential
+-- a search's radius is used whether it was found or spent, and so is its last potential; the radius stands `after` each potential, the last one not after the last step
 abbrev pub radiusOf : {N : Type 0} → SearchIn N → N
 radiusOf (found r u) = r
 radiusOf (spent r u) = r
@@ -47,7 +47,7 @@ lastOf (found r u) = u
 lastOf (spent r u) = u
 
 module _ (A : Arith) (F : Functions (A .Num)) (p : PairIn (A .Num)) where
-  -- by the potential U
+  -- by the potential U; epsilon_k_eff is minus the last potential, `after` the radius, whose last step and derivatives are worked too
   unfoldable pub propertiesBy : (A .Num → Ans (PotentialIn (A .Num))) → Ans (PropertiesIn (A .Num))
   propertiesBy U =
       sigmaSearch A U (A .mul (whole A 1) (p .sigma)) >>= λ s.
@@ -58,7 +58,7 @@ module _ (A : Arith) (F : Functions (A .Num)) (p : PairIn (A .Num)) where
       (record {
         sigma-eff = radiusOf (s .search);
         hs-diameter = d;
-        epsilon-k-eff = A .neg (lastOf (e .search));
+        epsilon-k-eff = A .neg (A .after (radiusOf (e .search)) (lastOf (e .search)));
         quantum-d = quantumD A F (p .mass) (p .temperature);
         sigma-count = s .count;
         zero-count = z .count;

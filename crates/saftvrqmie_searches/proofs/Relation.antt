@@ -12,7 +12,7 @@ use Rattle.number.specs.Neighbour.{absolute}
 use Rattle.number.proofs.Rel.{Rel, FunRel, Both, both-held, then-both, cond-rel, walk-rel}
 use Rattle.saftvrqmie_potential.specs.Potential.{PairIn, PotentialIn, potential}
 use Rattle.saftvrqmie_potential.proofs.Relation.{PairR, PotentialR, potential-rel}
-use Rattle.saftvrqmie_searches.specs.Searches.{SearchIn, Counted, found, spent, clamped, searchFrom, searched, zeroTested, sigmaSearch, depthSearch, zeroSearch, sigmaEff, zeroIntegrand, epsilonKEff}
+use Rattle.saftvrqmie_searches.specs.Searches.{SearchIn, Counted, found, spent, clamped, evaluated, searchFrom, searched, zeroTested, sigmaSearch, depthSearch, zeroSearch, sigmaEff, zeroIntegrand, epsilonKEff}
 use Rattle.saftvrqmie_searches.specs.Diameter.{abscissas, weights, nodeTurn, diameterBy, diameter}
 
 pub data SearchR {S T : Type 0} (R : S → T → Type 0) : SearchIn S → SearchIn T → Type 0 where
@@ -40,6 +40,9 @@ module _ (A B : Arith) (K : Rel A B) where
     module _ (tested : PotentialIn (A .Num) → Ans (A .Num)) (tested' : PotentialIn (B .Num) → Ans (B .Num)) (r-tested : (v : PotentialIn (A .Num)) (w : PotentialIn (B .Num)) → PotentialR R v w → Both R (tested v) (tested' w))
         (moved : A .Num → PotentialIn (A .Num) → A .Num → A .Num) (moved' : B .Num → PotentialIn (B .Num) → B .Num → B .Num)
         (r-moved : (r : A .Num) (r' : B .Num) (v : PotentialIn (A .Num)) (w : PotentialIn (B .Num)) (f : A .Num) (f' : B .Num) → R r r' → PotentialR R v w → R f f' → R (moved r v f) (moved' r' w f')) where
+      evaluated-rel : {v : PotentialIn (A .Num)} {v' : PotentialIn (B .Num)} {f x : A .Num} {f' x' : B .Num} → PotentialR R v v' → R f f' → R x x' → R (evaluated A v f x) (evaluated B v' f' x')
+      evaluated-rel v f x = r-after (v .u) (r-after (v .u-r) (r-after (v .u-rr) (r-after f x)))
+
       from-rel : (n : ℕ) {r u : A .Num} {r' u' : B .Num} → R r r' → R u u' → Both (CountedR R) (searchFrom A U tested moved n r u) (searchFrom B U' tested' moved' n r' u')
       unfolding searchFrom
       from-rel zero p q = both-held (countedR R (spent-both p q) refl)
@@ -47,8 +50,8 @@ module _ (A B : Arith) (K : Rel A B) where
           then-both (r-U _ _ p) (λ _ _ v.
           then-both (r-tested _ _ v) (λ _ _ f.
           cond-rel (Both (CountedR R)) _ _ (ap (λ (x : Float). lt (absolute x) (decimal false 1 12)) (r-val f))
-          (both-held (countedR R (found-both (r-after (v .u-r) (r-after (v .u-rr) p)) (v .u)) refl))
-          (from-rel n (r-after (v .u-r) (r-after (v .u-rr) (r-moved _ _ _ _ _ _ p v f))) (v .u))))
+          (both-held (countedR R (found-both (evaluated-rel v f p) (v .u)) refl))
+          (from-rel n (evaluated-rel v f (r-moved _ _ _ _ _ _ p v f)) (v .u))))
 
       searched-rel : {s : A .Num} {s' : B .Num} → R s s' → Both (CountedR R) (searched A U tested moved s) (searched B U' tested' moved' s')
       unfolding searched

@@ -50,7 +50,11 @@ module _ (A : Arith) where
   clamped dr =
       cond (lt (decimal false 5 1) (absolute (val dr))) (dr ⊗ lit (Ieee.div binary64 (decimal false 5 1) (absolute (val dr)))) dr
 
-  -- A search by the potential U: what is tested, and the next radius from the radius, its potential and the tested value. Both derivatives are worked at each evaluation, whether used or not, so that the radius stands `after` them (number/specs/Arith; in floats it is the radius itself); u is kept beside it, as the last potential.
+  -- x `after` all that one evaluation works, whether used or not: the potential, both derivatives and the tested value f (in floats it is x itself)
+  abbrev pub evaluated : PotentialIn Num → Num → Num → Num
+  evaluated v f x = after (v .u) (after (v .u-r) (after (v .u-rr) (after f x)))
+
+  -- A search by the potential U: what is tested, and the next radius from the radius, its potential and the tested value. The radius stands `after` every evaluation; u is kept beside it, as the last potential.
   module _ (U : Num → Ans (PotentialIn Num)) (tested : PotentialIn Num → Ans Num) (moved : Num → PotentialIn Num → Num → Num) where
     -- at most n evaluations more from the radius r; u is the last potential
     unfoldable pub searchFrom : ℕ → Num → Num → Ans (Counted Num)
@@ -58,8 +62,8 @@ module _ (A : Arith) where
     searchFrom (suc n) r u =
         U r >>= λ v.
         tested v >>= λ f.
-        let later = searchFrom n (after (v .u-r) (after (v .u-rr) (moved r v f))) (v .u) in
-        cond (small f) (held (record { search = found (after (v .u-r) (after (v .u-rr) r)) (v .u); count = 19 - n })) later
+        let later = searchFrom n (evaluated v f (moved r v f)) (v .u) in
+        cond (small f) (held (record { search = found (evaluated v f r) (v .u); count = 19 - n })) later
 
     -- 'A search makes at most 19 evaluations'
     unfoldable pub searched : Num → Ans (Counted Num)
