@@ -8,11 +8,20 @@ use Rattle.number.specs.Ans.{Ans, held, refused, _>>=_, demand}
 use Rattle.number.proofs.Rel.{Both, both-held, both-refused}
 use Rattle.number.proofs.Walk.{then-held, held-inj}
 use Rattle.enclosure.specs.declared.Enclosure.{Enclosure}
-use Rattle.enclosure.specs.Ends.{endsIn, endsOf, orUnsound}
+use Rattle.enclosure.specs.Exact.{Exact}
+use Rattle.enclosure.specs.Ends.{endsIn, endsOf, orUnsound, Encloses}
+use Rattle.enclosure.proofs.Relations.{Value, Contains}
+use Rattle.enclosure.proofs.TwoEnds.{operation-encloses}
+use Rattle.saftvrqmie_energies.specs.Energies.{EnergiesIn, allFinite}
+use Rattle.saftvrqmie_energies.proofs.Relation.{EnergiesR}
+use Rattle.saftvrqmie_energies_ends.specs.Operation.{allSound, eachEnds, eachEndsOf}
+use Rattle.saftvrqmie_energies_ends.specs.Encloses.{EachEncloses}
+use Rattle.saftvrqmie_energies_ends.proofs.Encloses.{each-enclose}
 use Rattle.demand_three.specs.TwoEnded.{TwoEnded}
+use Rattle.demand_three.specs.Demand.{isSound}
 
 -- two tests, the float run, and 7 at its end
-abbrev pub tested : {F : Type 0} → Bool → Bool → (F → Bool) → Ans F → Ans F
+abbrev tested : {F : Type 0} → Bool → Bool → (F → Bool) → Ans F → Ans F
 tested p q fine a = demand 1 p >>= λ _. demand 2 q >>= λ _. a >>= λ v. demand 7 (fine v) >>= λ _. held v
 
 -- what a tested run holds, the run holds
@@ -33,7 +42,7 @@ module _ {F B X E : Type 0} (sound : B → Bool) (ends-in : B → E) (Enclosed :
   abbrev float : Ans F
   float = tested p q fine a
 
-  abbrev pub answered : Ans E
+  abbrev answered : Ans E
   answered = float >>= λ _. run >>= λ b. demand 8 (sound b) >>= λ _. held (ends-in b)
 
   module _ (ends : Ans E) (is : ends ≡ answered) where
@@ -51,12 +60,12 @@ module _ {F B X E : Type 0} (sound : B → Bool) (ends-in : B → E) (Enclosed :
     after-float v b h r = is ∙ rw (h, r) (eight b (sound b) refl)
 
     -- what is said of the run holds of the operation
-    pub of-operation : ((e : E) → ends ≡ held e → Enclosed e a exact) → (e : E) → ends ≡ held e → Enclosed e float exact
+    of-operation : ((e : E) → ends ≡ held e → Enclosed e a exact) → (e : E) → ends ≡ held e → Enclosed e float exact
     of-operation inside e h =
         let x = then-held float _ e (sym is ∙ h) in
         subst (λ (z : Ans F). Enclosed e z exact) (passes p q fine a (x .0) (x .1) ∙ sym (x .1)) (inside e h)
 
-    pub two-ended : {R : B → F → Type 0} → Both R run a → ((e : E) → ends ≡ held e → Enclosed e float exact) → TwoEnded sound ends-in Enclosed float run exact ends
+    two-ended : {R : B → F → Type 0} → Both R run a → ((e : E) → ends ≡ held e → Enclosed e float exact) → TwoEnded sound ends-in Enclosed float run exact ends
     two-ended K inside =
         record {
           refuses = first;
@@ -74,6 +83,21 @@ unsound (held b) = go (b .ends .sound) refl
     go false e = rw e
 unsound (refused n) = refl
 
-pub answered-is : (p q : Bool) (a : Ans Float) (run : Ans Enclosure) → endsOf (tested p q finite a) run ≡ (tested p q finite a >>= λ _. run >>= λ b. demand 8 (b .ends .sound) >>= λ _. held (endsIn b))
+answered-is : (p q : Bool) (a : Ans Float) (run : Ans Enclosure) → endsOf (tested p q finite a) run ≡ (tested p q finite a >>= λ _. run >>= λ b. demand 8 (b .ends .sound) >>= λ _. held (endsIn b))
 unfolding endsOf
 answered-is p q a run = rw (unsound run)
+
+-- ---- whatever runs keep both relations
+-- one result
+pub one-ended : (p q : Bool) {a : Ans Float} {run : Ans Enclosure} {exact : Ans Exact} → Both Value run a → Both Contains run exact
+    → TwoEnded isSound endsIn Encloses (tested p q finite a) run exact (endsOf (tested p q finite a) run)
+one-ended p q {a = a} {run = run} {exact = exact} K C =
+    two-ended isSound endsIn Encloses p q finite a run exact (endsOf (tested p q finite a) run) (answered-is p q a run) K (operation-encloses K p q C)
+
+-- three
+pub three-ended : (p q : Bool) {a : Ans (EnergiesIn Float)} {run : Ans (EnergiesIn Enclosure)} {exact : Ans (EnergiesIn Exact)} → Both (EnergiesR Value) run a → Both (EnergiesR Contains) run exact
+    → TwoEnded allSound eachEnds EachEncloses (tested p q allFinite a) run exact (eachEndsOf (tested p q allFinite a) run)
+three-ended p q {a = a} {run = run} {exact = exact} K C =
+    let float = tested p q allFinite a in
+    two-ended allSound eachEnds EachEncloses p q allFinite a run exact (eachEndsOf float run) refl K
+    (of-operation allSound eachEnds EachEncloses p q allFinite a run exact (eachEndsOf float run) refl (each-enclose K C float))

@@ -1,2 +1,3 @@
 pub mod General
+pub mod ByHistory
 pub mod Whole

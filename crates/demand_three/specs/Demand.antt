@@ -32,10 +32,10 @@ pub record Demand3 : Type 0 where
       → TwoEnded allSound eachEnds EachEncloses (energiesBy E s t x rho table wanted) (contributionsOf enclosures (calls enclosures E) s t x rho table wanted) (contributionsOf exacts (calls exacts E) s t x rho table wanted) (energiesEnds E s t x rho table wanted)
   -- quantum: a pair's diameter from its two searched radii
   pub quantum-diameter : (E : Answers) (s : SaftVRQMiePars) (i j : ℕ) (t sigma-eff r0 : Float)
-      → TwoEnded isSound endsIn Encloses (Quantum.diameterIjBy E s i j t sigma-eff r0) (Quantum.diameterRun enclosures E s i j t sigma-eff r0) (Quantum.diameterRun exacts E s i j t sigma-eff r0) (QuantumDiameter.diameterEnds E s i j t sigma-eff r0)
+      → TwoEnded isSound endsIn Encloses (Quantum.diameterIjBy E s i j t sigma-eff r0) (Quantum.diameterRun enclosures (calls enclosures E) s i j t sigma-eff r0) (Quantum.diameterRun exacts (calls exacts E) s i j t sigma-eff r0) (QuantumDiameter.diameterEnds E s i j t sigma-eff r0)
   -- SAFT-VR Mie: dispersion, and dispersion with chain
   pub mie-dispersion : (E : Answers) (s : SaftVRMiePars) (t : Float) (x rho d : List Float) (chain : Bool)
       → TwoEnded isSound endsIn Encloses (energyBy E s t x rho d chain) (energyRun enclosures (calls enclosures E) s t x rho d chain) (energyRun exacts (calls exacts E) s t x rho d chain) (dispersionEnds E s t x rho d chain)
   -- SAFT-VR Mie: a pair's diameter from its reduced lower limit
   pub mie-diameter : (E : Answers) (s : SaftVRMiePars) (i j : ℕ) (t r0 : Float)
-      → TwoEnded isSound endsIn Encloses (Mie.diameterIjBy E s i j t r0) (Mie.diameterRun enclosures E s i j t r0) (Mie.diameterRun exacts E s i j t r0) (MieDiameter.diameterEnds E s i j t r0)
+      → TwoEnded isSound endsIn Encloses (Mie.diameterIjBy E s i j t r0) (Mie.diameterRun enclosures (calls enclosures E) s i j t r0) (Mie.diameterRun exacts (calls exacts E) s i j t r0) (MieDiameter.diameterEnds E s i j t r0)

@@ -1,2 +1,3 @@
 pub mod TwoEnded
 pub mod Demand
+pub mod ByHistory

@@ -5,10 +5,10 @@ use mathlib.Core.Path.{_≡_, ap, _∙_}
 use mathlib.Core.Bool.{true, false}
 use Rattle.number.specs.Ans.{Ans, held, refused}
 use Rattle.number.specs.Arith.{Arith, floats}
-use Rattle.number.specs.Functions.{Answers, calls}
+use Rattle.number.specs.Functions.{Functions, Answers, calls}
 use Rattle.number.specs.Lists.{at}
 use Rattle.number.specs.Side.{cell}
-use Rattle.number.proofs.Rel.{Rel, Both, calls-rel}
+use Rattle.number.proofs.Rel.{Rel, FunRel, Both, calls-rel}
 use Rattle.limits.specs.Limits.{indexWithin, temperatureWithin}
 use Rattle.enclosure.specs.declared.Enclosure.{Enclosure}
 use Rattle.enclosure.specs.declared.Ends.{Ends}
@@ -25,16 +25,14 @@ use Rattle.saftvrmie.specs.Pairs.{diameterRun, diameterIjBy}
 use Rattle.saftvrmie.proofs.Pairs.{first-sheet}
 use Rattle.saftvrmie_diameter_ends.specs.Operations.{diameterEnds}
 
-module _ (E : Answers) (s : SaftVRMiePars) (i j : ℕ) (t r0 : Float) where
-  run-rel : (A B : Arith) (K : Rel A B) → Both (K .R) (diameterRun A E s i j t r0) (diameterRun B E s i j t r0)
-  run-rel A B K =
-      let F = calls A E in
-      let G = calls B E in
-      let H = calls-rel A B K E in
-      diameterFrom-rel A B K F G H (K .r-lit _) (K .r-lit _) (cEpsT-rel A B K F G H (K .r-lit _) (K .r-lit _) (K .r-lit _)) _ _ _ _ (K .r-lit _) (K .r-lit _)
+-- runs of the diameter keep what their arithmetics and functions keep
+module _ (A B : Arith) (K : Rel A B) (F : Functions (A .Num)) (G : Functions (B .Num)) (H : FunRel (K .R) F G) where
+  pub run-rel : (s : SaftVRMiePars) (i j : ℕ) (t r0 : Float) → Both (K .R) (diameterRun A F s i j t r0) (diameterRun B G s i j t r0)
+  run-rel s i j t r0 = diameterFrom-rel A B K F G H (K .r-lit _) (K .r-lit _) (cEpsT-rel A B K F G H (K .r-lit _) (K .r-lit _) (K .r-lit _)) _ _ _ _ (K .r-lit _) (K .r-lit _)
 
-  pub run-values : Both Value (diameterRun enclosures E s i j t r0) (diameterRun floats E s i j t r0)
-  run-values = run-rel enclosures floats values
+module _ (E : Answers) (s : SaftVRMiePars) (i j : ℕ) (t r0 : Float) where
+  pub run-values : Both Value (diameterRun enclosures (calls enclosures E) s i j t r0) (diameterRun floats (calls floats E) s i j t r0)
+  run-values = run-rel enclosures floats values (calls enclosures E) (calls floats E) (calls-rel enclosures floats values E) s i j t r0
 
   pub ends-1 : indexWithin (s .count) i j ≡ false → refused 1 ≡ diameterEnds E s i j t r0
   unfolding diameterEnds diameterIjBy
@@ -53,10 +51,10 @@ module _ (E : Answers) (s : SaftVRMiePars) (i j : ℕ) (t r0 : Float) where
         → a ≡ diameterFrom enclosures (calls enclosures E) la lr c sigma r → b ≡ endsAlone a → b ≡ diameterEnds E s i j t r0
     unfolding diameterEnds diameterIjBy
     ends-on q la lr c sigma r a b f g h k l m n =
-        let w : a ≡ diameterRun enclosures E s i j t r0 = m ∙ rw (f, g, h, k, first-sheet (s .sheets) (cell i j), l) in
+        let w : a ≡ diameterRun enclosures (calls enclosures E) s i j t r0 = m ∙ rw (f, g, h, k, first-sheet (s .sheets) (cell i j), l) in
         n ∙ (ap endsAlone w ∙ operation-alone run-values _ _ p q)
 
   -- for any elementary answers: the float operation's result and the exact run's
-  pub diameter-encloses : (e : Ends) → diameterEnds E s i j t r0 ≡ held e → Encloses e (diameterIjBy E s i j t r0) (diameterRun exacts E s i j t r0)
+  pub diameter-encloses : (e : Ends) → diameterEnds E s i j t r0 ≡ held e → Encloses e (diameterIjBy E s i j t r0) (diameterRun exacts (calls exacts E) s i j t r0)
   unfolding diameterEnds diameterIjBy
-  diameter-encloses = operation-encloses run-values _ _ (run-rel enclosures exacts contains)
+  diameter-encloses = operation-encloses run-values _ _ (run-rel enclosures exacts contains (calls enclosures E) (calls exacts E) (calls-rel enclosures exacts contains E) s i j t r0)

@@ -2,7 +2,7 @@
 use Prim.Native.Nat.{ℕ}
 use lib.Ieee.{Float}
 use Rattle.number.specs.Ans.{Ans}
-use Rattle.number.specs.Functions.{Answers}
+use Rattle.number.specs.Functions.{Answers, calls}
 use Rattle.enclosure.specs.declared.Ends.{Ends}
 use Rattle.enclosure.specs.Enclosure.{enclosures}
 use Rattle.enclosure.specs.Ends.{endsOf}
@@ -11,4 +11,4 @@ use Rattle.saftvrmie.specs.Pairs.{diameterRun, diameterIjBy}
 
 -- whatever the elementary functions answer; the float operation is that of `diameter_ij`
 unfoldable pub diameterEnds : Answers → SaftVRMiePars → ℕ → ℕ → Float → Float → Ans Ends
-diameterEnds E s i j t r0 = endsOf (diameterIjBy E s i j t r0) (diameterRun enclosures E s i j t r0)
+diameterEnds E s i j t r0 = endsOf (diameterIjBy E s i j t r0) (diameterRun enclosures (calls enclosures E) s i j t r0)

@@ -81,14 +81,18 @@ energyRun A F p t x rho d chain =
     let s = stateIn (A .lit) p t x rho d in
     cond chain (dispersionChain A F (p .count) s) (dispersion A F (p .count) s)
 
--- 1; 2, diameters being read as they are; 6 anywhere on the way; then 7 if the energy is not finite, whatever the elementary functions answer
-unfoldable pub energyBy : Answers → SaftVRMiePars → Float → List Float → List Float → List Float → Bool → Ans Float
-energyBy E p t x rho d chain =
+-- 1; 2, diameters being read as they are; 6 anywhere on the way; then 7 if the energy is not finite, of any float run
+abbrev pub energyFrom : SaftVRMiePars → Float → List Float → List Float → List Float → Ans Float → Ans Float
+energyFrom p t x rho d run =
     demand 1 (rightLists (p .count) (length x) (length rho) (length d)) >>= λ _.
     demand 2 (stateWithin (p .count) t x rho) >>= λ _.
-    energyRun floats (calls floats E) p t x rho d chain >>= λ v.
+    run >>= λ v.
     demand 7 (finite v) >>= λ _.
     held v
+
+-- whatever the elementary functions answer
+unfoldable pub energyBy : Answers → SaftVRMiePars → Float → List Float → List Float → List Float → Bool → Ans Float
+energyBy E p t x rho d chain = energyFrom p t x rho d (energyRun floats (calls floats E) p t x rho d chain)
 
 abbrev pub energy : SaftVRMiePars → Float → List Float → List Float → List Float → Bool → Ans Float
 energy = energyBy port

@@ -52,17 +52,21 @@ searches s i j t =
     pairSearches floats (calls floats port) (pairIn (pairAt (s .sheets) (s .orders) t (cell i j)))
 
 -- a run of the diameter from searched radii: the set's numbers, the temperature and both radii are read as they are
-abbrev pub diameterRun : (A : Arith) → Answers → SaftVRQMiePars → ℕ → ℕ → Float → Float → Float → Ans (A .Num)
-diameterRun A E s i j t sigma-eff r0 = diameter A (calls A E) (pointsOf A (pairAt (s .sheets) (s .orders) t (cell i j))) (A .lit sigma-eff) (A .lit r0)
+abbrev pub diameterRun : (A : Arith) → Functions (A .Num) → SaftVRQMiePars → ℕ → ℕ → Float → Float → Float → Ans (A .Num)
+diameterRun A F s i j t sigma-eff r0 = diameter A F (pointsOf A (pairAt (s .sheets) (s .orders) t (cell i j))) (A .lit sigma-eff) (A .lit r0)
 
--- 1; 2 for the temperature; 6; 7 if the diameter is not finite; whatever the elementary functions answer
-unfoldable pub diameterIjBy : Answers → SaftVRQMiePars → ℕ → ℕ → Float → Float → Float → Ans Float
-diameterIjBy E s i j t sigma-eff r0 =
+-- 1; 2 for the temperature; 6; 7 if the diameter is not finite, of any float run
+abbrev pub diameterIjFrom : SaftVRQMiePars → ℕ → ℕ → Float → Ans Float → Ans Float
+diameterIjFrom s i j t run =
     demand 1 (indexWithin (s .count) i j) >>= λ _.
     demand 2 (temperatureWithin t) >>= λ _.
-    diameterRun floats E s i j t sigma-eff r0 >>= λ d.
+    run >>= λ d.
     demand 7 (finite d) >>= λ _.
     held d
+
+-- whatever the elementary functions answer
+unfoldable pub diameterIjBy : Answers → SaftVRQMiePars → ℕ → ℕ → Float → Float → Float → Ans Float
+diameterIjBy E s i j t sigma-eff r0 = diameterIjFrom s i j t (diameterRun floats (calls floats E) s i j t sigma-eff r0)
 
 abbrev pub diameterIj : SaftVRQMiePars → ℕ → ℕ → Float → Float → Float → Ans Float
 diameterIj = diameterIjBy port

@@ -5,9 +5,9 @@ use mathlib.Core.Path.{_≡_, refl, ap, _∙_}
 use mathlib.Core.Bool.{true, false}
 use Rattle.number.specs.Ans.{Ans, held, refused}
 use Rattle.number.specs.Arith.{Arith, floats}
-use Rattle.number.specs.Functions.{Answers, calls}
+use Rattle.number.specs.Functions.{Functions, Answers, calls}
 use Rattle.number.specs.Side.{cell}
-use Rattle.number.proofs.Rel.{Rel, Both, calls-rel}
+use Rattle.number.proofs.Rel.{Rel, FunRel, Both, calls-rel}
 use Rattle.limits.specs.Limits.{indexWithin, temperatureWithin}
 use Rattle.enclosure.specs.declared.Enclosure.{Enclosure}
 use Rattle.enclosure.specs.declared.Ends.{Ends}
@@ -39,13 +39,14 @@ points-rel A B K p =
       temperature = K .r-lit (p .temperature);
     }
 
-module _ (E : Answers) (s : SaftVRQMiePars) (i j : ℕ) (t sigma-eff r0 : Float) where
-  run-rel : (A B : Arith) (K : Rel A B) → Both (K .R) (diameterRun A E s i j t sigma-eff r0) (diameterRun B E s i j t sigma-eff r0)
-  run-rel A B K =
-      diameter-rel A B K (calls A E) (calls B E) (calls-rel A B K E) (points-rel A B K (pairAt (s .sheets) (s .orders) t (cell i j))) (K .r-lit sigma-eff) (K .r-lit r0)
+-- runs of the diameter keep what their arithmetics and functions keep
+module _ (A B : Arith) (K : Rel A B) (F : Functions (A .Num)) (G : Functions (B .Num)) (H : FunRel (K .R) F G) where
+  pub run-rel : (s : SaftVRQMiePars) (i j : ℕ) (t sigma-eff r0 : Float) → Both (K .R) (diameterRun A F s i j t sigma-eff r0) (diameterRun B G s i j t sigma-eff r0)
+  run-rel s i j t sigma-eff r0 = diameter-rel A B K F G H (points-rel A B K (pairAt (s .sheets) (s .orders) t (cell i j))) (K .r-lit sigma-eff) (K .r-lit r0)
 
-  pub run-values : Both Value (diameterRun enclosures E s i j t sigma-eff r0) (diameterRun floats E s i j t sigma-eff r0)
-  run-values = run-rel enclosures floats values
+module _ (E : Answers) (s : SaftVRQMiePars) (i j : ℕ) (t sigma-eff r0 : Float) where
+  pub run-values : Both Value (diameterRun enclosures (calls enclosures E) s i j t sigma-eff r0) (diameterRun floats (calls floats E) s i j t sigma-eff r0)
+  run-values = run-rel enclosures floats values (calls enclosures E) (calls floats E) (calls-rel enclosures floats values E) s i j t sigma-eff r0
 
   pub ends-1 : indexWithin (s .count) i j ≡ false → refused 1 ≡ diameterEnds E s i j t sigma-eff r0
   unfolding diameterEnds diameterIjBy
@@ -61,10 +62,10 @@ module _ (E : Answers) (s : SaftVRQMiePars) (i j : ℕ) (t sigma-eff r0 : Float)
         → x ≡ pointsOf enclosures (pairAt (s .sheets) (s .orders) t (cell i j)) → y ≡ point sigma-eff → z ≡ point r0 → a ≡ diameter enclosures (calls enclosures E) x y z → b ≡ endsAlone a → b ≡ diameterEnds E s i j t sigma-eff r0
     unfolding diameterEnds diameterIjBy
     ends-on q x y z a b f g h k l =
-        let m : a ≡ diameterRun enclosures E s i j t sigma-eff r0 = k ∙ rw (f, g, h) in
+        let m : a ≡ diameterRun enclosures (calls enclosures E) s i j t sigma-eff r0 = k ∙ rw (f, g, h) in
         l ∙ (ap endsAlone m ∙ operation-alone run-values _ _ p q)
 
   -- for any elementary answers: the float operation's result and the exact run's
-  pub diameter-encloses : (e : Ends) → diameterEnds E s i j t sigma-eff r0 ≡ held e → Encloses e (diameterIjBy E s i j t sigma-eff r0) (diameterRun exacts E s i j t sigma-eff r0)
+  pub diameter-encloses : (e : Ends) → diameterEnds E s i j t sigma-eff r0 ≡ held e → Encloses e (diameterIjBy E s i j t sigma-eff r0) (diameterRun exacts (calls exacts E) s i j t sigma-eff r0)
   unfolding diameterEnds diameterIjBy
-  diameter-encloses = operation-encloses run-values _ _ (run-rel enclosures exacts contains)
+  diameter-encloses = operation-encloses run-values _ _ (run-rel enclosures exacts contains (calls enclosures E) (calls exacts E) (calls-rel enclosures exacts contains E) s i j t sigma-eff r0)

@@ -2,7 +2,7 @@
 use Prim.Native.Nat.{ℕ}
 use lib.Ieee.{Float}
 use Rattle.number.specs.Ans.{Ans}
-use Rattle.number.specs.Functions.{Answers}
+use Rattle.number.specs.Functions.{Answers, calls}
 use Rattle.enclosure.specs.declared.Ends.{Ends}
 use Rattle.enclosure.specs.declared.Enclosure.{Enclosure}
 use Rattle.enclosure.specs.Enclosure.{enclosures}
@@ -17,4 +17,4 @@ widthOf sigma-eff r0 = widthFrom enclosures sigma-eff r0
 
 -- whatever the elementary functions answer; the float operation is that of `hs_diameter_ij`
 unfoldable pub diameterEnds : Answers → SaftVRQMiePars → ℕ → ℕ → Float → Float → Float → Ans Ends
-diameterEnds E s i j t sigma-eff r0 = endsOf (diameterIjBy E s i j t sigma-eff r0) (diameterRun enclosures E s i j t sigma-eff r0)
+diameterEnds E s i j t sigma-eff r0 = endsOf (diameterIjBy E s i j t sigma-eff r0) (diameterRun enclosures (calls enclosures E) s i j t sigma-eff r0)

@@ -55,14 +55,18 @@ allFinite e = finite (e .hard-sphere) && finite (e .dispersion) && finite (e .no
 unfoldable pub rightLengths : ℕ → List Float → List Float → List Float → Bool
 rightLengths n x rho table = countWithin n && eqb (length x) n && eqb (length rho) n && eqb (length table) (4 * sheet)
 
--- '1; 2 for temperature, fractions or densities; 6; 7 if a contribution is not finite', whatever the elementary functions answer
-unfoldable pub energiesBy : Answers → SaftVRQMiePars → Float → List Float → List Float → List Float → Bool → Ans (EnergiesIn Float)
-energiesBy E s t x rho table wanted =
+-- '1; 2 for temperature, fractions or densities; 6; 7 if a contribution is not finite', of any float run
+abbrev pub energiesFrom : SaftVRQMiePars → Float → List Float → List Float → List Float → Ans (EnergiesIn Float) → Ans (EnergiesIn Float)
+energiesFrom s t x rho table run =
     demand 1 (rightLengths (s .count) x rho table) >>= λ _.
     demand 2 (stateWithin (s .count) t x rho) >>= λ _.
-    contributionsOf floats (calls floats E) s t x rho table wanted >>= λ e.
+    run >>= λ e.
     demand 7 (allFinite e) >>= λ _.
     held e
+
+-- whatever the elementary functions answer
+unfoldable pub energiesBy : Answers → SaftVRQMiePars → Float → List Float → List Float → List Float → Bool → Ans (EnergiesIn Float)
+energiesBy E s t x rho table wanted = energiesFrom s t x rho table (contributionsOf floats (calls floats E) s t x rho table wanted)
 
 abbrev pub energies : SaftVRQMiePars → Float → List Float → List Float → List Float → Bool → Ans (EnergiesIn Float)
 energies = energiesBy port

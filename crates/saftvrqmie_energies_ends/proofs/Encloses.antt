@@ -19,7 +19,7 @@ use Rattle.enclosure.proofs.TwoEnds.{held-encloses}
 use Rattle.saftvrqmie_parameters.specs.declared.SaftVRQMiePars.{SaftVRQMiePars}
 use Rattle.saftvrqmie_energies.specs.Energies.{EnergiesIn, contributionsOf, energiesBy}
 use Rattle.saftvrqmie_energies.proofs.Relation.{EnergiesR, contributionsOf-rel}
-use Rattle.saftvrqmie_energies_ends.specs.Operation.{eachEnds, allSound, energiesEnds}
+use Rattle.saftvrqmie_energies_ends.specs.Operation.{eachEnds, allSound, eachEndsOf, energiesEnds}
 use Rattle.saftvrqmie_energies_ends.specs.Encloses.{partOf, EachEncloses}
 use Rattle.saftvrqmie_energies_ends.proofs.Ways.{worked-values}
 
@@ -32,10 +32,10 @@ unfolding demand
 told-true true x h = tt
 told-true false x h = let z : _≡_ {A = Bool} true false = cc in subst T z tt
 
-module _ {enclosure : Ans (EnergiesIn Enclosure)} {float : Ans (EnergiesIn Float)} {exact : Ans (EnergiesIn Exact)} (K : Both (EnergiesR Value) enclosure float) (C : Both (EnergiesR Contains) enclosure exact) (b : EnergiesIn Enclosure) (h : enclosure ≡ held b) where
-  sound-each : T (allSound b) → EachEncloses (eachEnds b) float exact
+module _ {enclosure : Ans (EnergiesIn Enclosure)} {float : Ans (EnergiesIn Float)} {exact : Ans (EnergiesIn Exact)} (K : Both (EnergiesR Value) enclosure float) (C : Both (EnergiesR Contains) enclosure exact) where
+  sound-each : (b : EnergiesIn Enclosure) → enclosure ≡ held b → T (allSound b) → EachEncloses (eachEnds b) float exact
   unfolding allSound
-  sound-each t =
+  sound-each b h t =
       let x = b .hard-sphere .ends .sound in
       let y = b .dispersion .ends .sound in
       let z = b .non-additive .ends .sound in
@@ -46,15 +46,19 @@ module _ {enclosure : Ans (EnergiesIn Enclosure)} {float : Ans (EnergiesIn Float
         non-additive = held-encloses (then-both K (λ _ _ r. both-held (r .non-additive))) (then-both C (λ _ _ r. both-held (r .non-additive))) (b .non-additive) (is-part (λ v. v .non-additive) enclosure b h) (and-r (x && y) z t);
       }
 
+  -- behind any demands: whatever runs keep both relations
+  pub each-enclose : (operation : Ans (EnergiesIn Float)) (e : EnergiesIn Ends) → eachEndsOf operation enclosure ≡ held e → EachEncloses e float exact
+  each-enclose operation e h =
+      let a = then-held operation _ e h in
+      let b = then-held enclosure _ e (a .2) in
+      let d = then-held (demand 8 (allSound (b .0))) _ e (b .2) in
+      subst (λ (z : EnergiesIn Ends). EachEncloses z float exact) (held-inj _ _ (d .2)) (sound-each (b .0) (b .1) (told-true (allSound (b .0)) (d .0) (d .1)))
+
 module _ (E : Answers) (s : SaftVRQMiePars) (t : Float) (x rho table : List Float) (wanted : Bool) where
   pub energies-enclose : (e : EnergiesIn Ends) → energiesEnds E s t x rho table wanted ≡ held e
       → EachEncloses e (contributionsOf floats (calls floats E) s t x rho table wanted) (contributionsOf exacts (calls exacts E) s t x rho table wanted)
   unfolding energiesEnds
-  energies-enclose e h =
-      let a = then-held (energiesBy E s t x rho table wanted) _ e h in
-      let b = then-held (contributionsOf enclosures (calls enclosures E) s t x rho table wanted) _ e (a .2) in
-      let d = then-held (demand 8 (allSound (b .0))) _ e (b .2) in
-      subst (λ (z : EnergiesIn Ends). EachEncloses z (contributionsOf floats (calls floats E) s t x rho table wanted) (contributionsOf exacts (calls exacts E) s t x rho table wanted)) (held-inj _ _ (d .2))
-      (sound-each (worked-values E s t x rho table wanted)
+  energies-enclose =
+      each-enclose (worked-values E s t x rho table wanted)
       (contributionsOf-rel enclosures exacts contains (calls enclosures E) (calls exacts E) (calls-rel enclosures exacts contains E) s t x rho table wanted)
-      (b .0) (b .1) (told-true (allSound (b .0)) (d .0) (d .1)))
+      (energiesBy E s t x rho table wanted)

@@ -37,9 +37,13 @@ unfoldable pub allSound : EnergiesIn Enclosure → Bool
 allSound e = e .hard-sphere .ends .sound && e .dispersion .ends .sound && e .non-additive .ends .sound
 
 -- 1, 2, 6, 7 of the float operation; 8 if a contribution's enclosure is not sound. A part that is not wanted has the ends +0, +0
-unfoldable pub energiesEnds : Answers → SaftVRQMiePars → Float → List Float → List Float → List Float → Bool → Ans (EnergiesIn Ends)
-energiesEnds E s t x rho table wanted =
-    energiesBy E s t x rho table wanted >>= λ _.
-    contributionsOf enclosures (calls enclosures E) s t x rho table wanted >>= λ b.
+abbrev pub eachEndsOf : Ans (EnergiesIn Float) → Ans (EnergiesIn Enclosure) → Ans (EnergiesIn Ends)
+eachEndsOf float run =
+    float >>= λ _.
+    run >>= λ b.
     demand 8 (allSound b) >>= λ _.
     held (eachEnds b)
+
+-- whatever the elementary functions answer
+unfoldable pub energiesEnds : Answers → SaftVRQMiePars → Float → List Float → List Float → List Float → Bool → Ans (EnergiesIn Ends)
+energiesEnds E s t x rho table wanted = eachEndsOf (energiesBy E s t x rho table wanted) (contributionsOf enclosures (calls enclosures E) s t x rho table wanted)
