@@ -1,4 +1,4 @@
-//! Links libdomthelv.a: from DOMTHELV_LIB_DIR, or from target/staticlib of the repository (`rt staticlib domthelv`).
+//! Links libdomthelv.a: from DOMTHELV_LIB_DIR, or from target/staticlib of the repository (tools/library).
 use std::{env, path::PathBuf};
 
 fn main() {
@@ -10,7 +10,7 @@ fn main() {
     println!("cargo::rerun-if-env-changed=DOMTHELV_LIB_DIR");
     println!("cargo::rerun-if-changed={}", library.display());
     if !library.exists() {
-        println!("cargo::error=no {}: run `rt staticlib domthelv`, or set DOMTHELV_LIB_DIR", library.display());
+        println!("cargo::error=no {}: run tools/library, or set DOMTHELV_LIB_DIR", library.display());
     }
     println!("cargo::rustc-link-search=native={}", folder.display());
     println!("cargo::rustc-link-lib=static=domthelv");

@@ -1,15 +1,108 @@
-/* The C boundary of domthelv: link target/staticlib/libdomthelv.a (rt staticlib domthelv).
- * A function that can refuse gives 0 where the call is accepted and the refusal's number where it is not;
- * a refused call leaves what it was lent with its bits. A list is a pointer and a length; a wrong length is 1.
- * A quantum set is its count, m (8), sheets (384: sigma_ij, epsilon_k_ij, c_ij, lambda_r_ij, lambda_a_ij, mass_ij,
- * entry (i, j) of each at 8 i + j) and orders (64 bytes, 0 to 2). A set of SAFT-VR Mie is its count, lists (40: m, sigma,
- * epsilon_k, lr, la, 8 each) and sheets (384: sigma_ij, epsilon_k_ij, lr_ij, la_ij, c_ij, alpha_ij). */
+/* Helmholtz energies of tank fluids after SAFT-VRQ Mie (the quantum model) and SAFT-VR Mie: the C boundary of domthelv.
+ * Link target/staticlib/libdomthelv.a, which tools/library proves and builds (x86-64, System V calls; no other library).
+ * docs/DATASHEET.md has accuracy, times, stack and what is proved.
+ *
+ * ANSWERS. A function that can refuse gives 0 where the call is accepted, and the refusal's number (enum domthelv_refusal)
+ * where it is not. The first that applies, in the order beside the function, is given; a refused call leaves everything it
+ * was lent with its bits. Every argument may hold any bits, NaN too: the call ends, with a result or a number.
+ *
+ * UNITS. Temperatures and energy parameters (epsilon_k: over Boltzmann's constant) and potentials: kelvin. Lengths
+ * (sigma, radii, diameters): angstrom. Masses: kilograms a molecule. Densities: molecules of a component per cubic
+ * angstrom. Exponents lr, la, segment numbers m, fractions and k_ij, l_ij, gamma_ij: plain numbers. Energies: the density of
+ * the reduced Helmholtz energy, A / (V k T), per cubic angstrom. quantum_d: square angstrom. r0 of SAFT-VR Mie: over sigma_ij.
+ *
+ * NOT IN THE ENERGIES. No ideal gas. The quantum model's residual energy is the sum of its contributions. SAFT-VR Mie has
+ * dispersion and chain alone, without the hard-sphere part (and association): no total energy follows from it.
+ *
+ * LIMITS, ends included unless '<' is written; outside is 2, a count or an index outside is 1.
+ *   count (components)      1 to DOMTHELV_SIDE; an index i, j is below the count
+ *   sigma                   0.5 to 16                       epsilon_k    0.1 to 5000
+ *   la, lr                  3 < la < lr <= 64               mass         1e-27 to 1e-23
+ *   m                       SAFT-VR Mie 0.5 to 64; quantum model exactly 1 (else 3)
+ *   order (Feynman-Hibbs)   0, 1, 2 (else 4); the orders 1 and 2 may not meet in one mixture (5)
+ *   k_ij, l_ij, gamma_ij    -0.9 to 0.9, the same bits at (i, j) and (j, i), +0 at (i, i)
+ *   temperature             1 to 2000
+ *   fractions, densities    0 to 1 (-0 counts as 0); fractions need not sum to 1
+ * Sets, tables, diameters and radii are read as they are: where they were filled by hand, only the count and the order
+ * bytes are tested. Elementary functions have their domain beside them (else 6).
+ *
+ * LISTS. A list is a pointer and a length, and the length is exact, not a least one: another is 1. Component lists and
+ * diameters have the count as length, pair lists k_ij, l_ij, gamma_ij its square (entry (i, j) at count i + j). Sheets always
+ * have the side DOMTHELV_SIDE: entry (i, j) at DOMTHELV_AT(sheet, i, j), unused entries +0. The other lengths are below.
+ *
+ * MEMORY. The caller sees to this, and nothing tests it:
+ * - each pointer is aligned for its type and valid for as many elements as its length says, whatever the length; one
+ *   without a length (double *out) is valid for one element, and never NULL;
+ * - a list of length 0 is never accepted, and nothing is read or written through its pointer, which may then be NULL;
+ * - a list that is written, or *out, overlaps no other list. Lists that are only read may overlap;
+ * - the elements of a list that is read were written before; a bool is 0 or 1 (C's and C++'s bool are).
+ * Nothing is kept after a call, and nothing is allocated. There is no state outside the arguments: calls may run at the same
+ * time in any threads, and in a handler, if no list that one of them writes is in use by another.
+ * A call takes at most DOMTHELV_STACK bytes of stack. It ends after a bounded number of steps; docs/DATASHEET.md has times.
+ *
+ * FLOATING POINT. Rounding to nearest, subnormal numbers kept, traps masked, as a thread has them at its start. Results
+ * are not what is proved where the program sets flush-to-zero or denormals-are-zero, as linking with -ffast-math does.
+ *
+ * A quantum set is its count, m (DOMTHELV_M), sheets (DOMTHELV_SHEETS) and orders (DOMTHELV_ORDERS); a set of SAFT-VR Mie
+ * its count, lists (DOMTHELV_LISTS: m, sigma, epsilon_k, lr, la, DOMTHELV_SIDE each) and sheets (DOMTHELV_SHEETS). */
 #ifndef DOMTHELV_H
 #define DOMTHELV_H
 
 #include <stdbool.h>
 #include <stddef.h>
 #include <stdint.h>
+
+/* The version of this boundary. */
+#define DOMTHELV_VERSION "0.1.0"
+#define DOMTHELV_VERSION_MAJOR 0
+#define DOMTHELV_VERSION_MINOR 1
+#define DOMTHELV_VERSION_PATCH 0
+
+/* The most components, and the lengths that hang on it. */
+#define DOMTHELV_SIDE 8
+#define DOMTHELV_SHEET (DOMTHELV_SIDE * DOMTHELV_SIDE)
+#define DOMTHELV_M DOMTHELV_SIDE                /* m of a quantum set */
+#define DOMTHELV_ORDERS DOMTHELV_SHEET          /* orders of a quantum set, bytes */
+#define DOMTHELV_LISTS (5 * DOMTHELV_SIDE)      /* lists of a SAFT-VR Mie set */
+#define DOMTHELV_SHEETS (6 * DOMTHELV_SHEET)    /* sheets of a set */
+#define DOMTHELV_TABLE (4 * DOMTHELV_SHEET)     /* temperature table */
+#define DOMTHELV_COUNTS (3 * DOMTHELV_SHEET)    /* counts beside it, bytes: searches for sigma, zero, depth */
+
+/* Lengths of `out`, and what stands at each place. */
+#define DOMTHELV_ENERGIES 3      /* 0 hard sphere, 1 dispersion, 2 non-additive (+0 where not wanted) */
+#define DOMTHELV_ENERGIES_ENDS 6 /* low and high end: 0, 1 hard sphere; 2, 3 dispersion; 4, 5 non-additive */
+#define DOMTHELV_ENDS 2          /* 0 low end, 1 high end */
+#define DOMTHELV_RADII 6         /* radius and last potential of the search for: 0, 1 sigma; 2, 3 zero; 4, 5 depth */
+#define DOMTHELV_RADII_COUNTS 3  /* bytes: evaluations of the search for 0 sigma, 1 zero, 2 depth; 1 to 19, or 20 if spent */
+
+/* Entry (i, j) of a sheet, in the sheets of a set, in a table and in counts. */
+#define DOMTHELV_AT(sheet, i, j) ((sheet) * DOMTHELV_SHEET + DOMTHELV_SIDE * (i) + (j))
+enum domthelv_vrq_sheet { /* the sheets of a quantum set */
+    DOMTHELV_VRQ_SIGMA_IJ, DOMTHELV_VRQ_EPSILON_K_IJ, DOMTHELV_VRQ_C_IJ, DOMTHELV_VRQ_LAMBDA_R_IJ, DOMTHELV_VRQ_LAMBDA_A_IJ,
+    DOMTHELV_VRQ_MASS_IJ
+};
+enum domthelv_vr_sheet { /* the sheets of a SAFT-VR Mie set */
+    DOMTHELV_VR_SIGMA_IJ, DOMTHELV_VR_EPSILON_K_IJ, DOMTHELV_VR_LR_IJ, DOMTHELV_VR_LA_IJ, DOMTHELV_VR_C_IJ, DOMTHELV_VR_ALPHA_IJ
+};
+enum domthelv_table_sheet { /* the sheets of a temperature table */
+    DOMTHELV_TABLE_SIGMA_EFF, DOMTHELV_TABLE_HS_DIAMETER, DOMTHELV_TABLE_EPSILON_K_EFF, DOMTHELV_TABLE_QUANTUM_D
+};
+
+/* The most stack that a call takes, in bytes; a test adds up the frames of the built library. */
+#define DOMTHELV_STACK 65536
+
+/* What a call gives: 0, or why it was refused. */
+enum domthelv_refusal {
+    DOMTHELV_ACCEPTED = 0,
+    DOMTHELV_LENGTH = 1,         /* a count, an index or a list's length is outside */
+    DOMTHELV_LIMIT = 2,          /* a number is outside its limit */
+    DOMTHELV_SEGMENT_NUMBER = 3, /* an m of the quantum model is not 1 */
+    DOMTHELV_ORDER = 4,          /* an order is above 2 */
+    DOMTHELV_MIXED_ORDERS = 5,   /* the orders 1 and 2 meet in a pair */
+    DOMTHELV_DOMAIN = 6,         /* an elementary function's argument is outside its domain */
+    DOMTHELV_NOT_FINITE = 7,     /* a result is not finite */
+    DOMTHELV_NO_ENDS = 8         /* two ends: a divisor's ends enclose or touch zero, or an end is not finite */
+};
 
 #ifdef __cplusplus
 extern "C" {

@@ -20,7 +20,7 @@ fn main() {
         let text = fs::read_to_string(&sources).unwrap();
         Box::new(move |name| text.contains(&format!(" fn {name}(")))
     } else {
-        let archive = fs::read(&library).expect("no target/staticlib/libdomthelv.a: run `rt staticlib domthelv` first");
+        let archive = fs::read(&library).expect("no target/staticlib/libdomthelv.a: run tools/library first");
         Box::new(move |name| symbols(&archive).contains(&name.as_bytes()))
     };
     let text = fs::read_to_string(&declared).unwrap();
