@@ -1,10 +1,10 @@
 /* Helmholtz energies of tank fluids after SAFT-VRQ Mie (the quantum model) and SAFT-VR Mie: the C boundary of domthelv.
- * Link target/staticlib/libdomthelv.a, which tools/library proves and builds (x86-64, System V calls; no other library).
+ * Link target/staticlib/libdomthelv.a, which tools/library proves and builds: x86-64, System V calls; it calls memcpy and memset.
  * docs/DATASHEET.md has accuracy, times, stack and what is proved.
  *
  * ANSWERS. A function that can refuse gives 0 where the call is accepted, and the refusal's number (enum domthelv_refusal)
  * where it is not. The first that applies, in the order beside the function, is given; a refused call leaves everything it
- * was lent with its bits. Every argument may hold any bits, NaN too: the call ends, with a result or a number.
+ * was lent with its bits. Every number, in a list too, may hold any bits, NaN included: the call ends, accepted or refused.
  *
  * UNITS. Temperatures and energy parameters (epsilon_k: over Boltzmann's constant) and potentials: kelvin. Lengths
  * (sigma, radii, diameters): angstrom. Masses: kilograms a molecule. Densities: molecules of a component per cubic
@@ -41,7 +41,7 @@
  * A call takes at most DOMTHELV_STACK bytes of stack. It ends after a bounded number of steps; docs/DATASHEET.md has times.
  *
  * FLOATING POINT. Rounding to nearest, subnormal numbers kept, traps masked, as a thread has them at its start. Results
- * are not what is proved where the program sets flush-to-zero or denormals-are-zero, as linking with -ffast-math does.
+ * are not what is proved where flush-to-zero or denormals-are-zero is set, as gcc does where it links with -ffast-math.
  *
  * A quantum set is its count, m (DOMTHELV_M), sheets (DOMTHELV_SHEETS) and orders (DOMTHELV_ORDERS); a set of SAFT-VR Mie
  * its count, lists (DOMTHELV_LISTS: m, sigma, epsilon_k, lr, la, DOMTHELV_SIDE each) and sheets (DOMTHELV_SHEETS). */
