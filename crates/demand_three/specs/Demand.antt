@@ -1,4 +1,5 @@
 -- Demand 3, whole: 'A float run and an exact run on fractions, given the same elementary answers call by call: wherever the port reports two ends, the exact run divides by no zero and both results lie between the ends or on them. Whatever is handed in, whatever the answers are. The ends equal, bit for bit, what the outward rules give, and are reported wherever no numbered refusal applies.'
+-- Answers are functions of the arguments here; ByHistory has those that may differ from call to call.
 -- The contracts of the two-ended operations say that they answer `energiesEnds`, `dispersionEnds` and the two `diameterEnds` at the port's own answers.
 use Prim.Native.Nat.{ℕ}
 use lib.Ieee.{Float}
