@@ -3,16 +3,14 @@ use Prim.Native.Nat.{ℕ}
 use mathlib.Core.List.{List}
 use mathlib.Core.Bool.{Bool}
 use lib.Ieee.{Float}
-use Rattle.number.specs.Ans.{Ans}
 use Rattle.number.specs.Arith.{Arith, floats}
 use Rattle.number.proofs.Rel.{Rel, Both, both-held, then-both}
-use Rattle.histories.specs.History.{HistoryAnswers, Traced, histories, asks}
-use Rattle.histories.proofs.Same.{Same, numbers, histories-rel, asks-rel}
+use Rattle.histories.specs.History.{HistoryAnswers, histories, asks}
+use Rattle.histories.proofs.Same.{numbers, histories-rel, asks-rel}
 use Rattle.enclosure.specs.Enclosure.{enclosures}
 use Rattle.enclosure.specs.Exact.{exacts}
 use Rattle.enclosure.proofs.Relations.{values, contains}
 use Rattle.saftvrqmie_parameters.specs.declared.SaftVRQMiePars.{SaftVRQMiePars}
-use Rattle.saftvrqmie_energies.specs.Energies.{EnergiesIn}
 use Rattle.saftvrqmie_energies.proofs.Relation.{EnergiesR, contributionsOf-rel}
 use Rattle.saftvrqmie_diameter_ends.proofs.Encloses as QuantumEncloses
 use Rattle.saftvrmie_parameters.specs.declared.SaftVRMiePars.{SaftVRMiePars}

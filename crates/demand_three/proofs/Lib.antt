@@ -1,3 +1,4 @@
 pub mod General
 pub mod ByHistory
 pub mod Whole
+pub mod Ended

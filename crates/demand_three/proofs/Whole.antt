@@ -4,7 +4,7 @@ use mathlib.Core.Path.{_≡_, refl, ap}
 use mathlib.Core.List.{List}
 use mathlib.Core.Bool.{Bool}
 use lib.Ieee.{Float}
-use Rattle.number.specs.Ans.{Ans, held, refused, _>>=_}
+use Rattle.number.specs.Ans.{Ans, held, _>>=_}
 use Rattle.number.specs.Arith.{Arith, floats}
 use Rattle.number.specs.Functions.{Answers, calls}
 use Rattle.number.proofs.Rel.{Both, both-held, both-refused}

@@ -1,5 +1,4 @@
 -- A relation between two arithmetics goes over to numbers with histories: the same history, and related numbers. Then calls of answers that look at histories keep it. Assumes nothing.
-use Prim.Native.Nat.{ℕ}
 use lib.Ieee.{Float}
 use mathlib.Core.Path.{_≡_, refl, ap, ap₂}
 use Rattle.number.specs.Ans.{Ans, held, refused, _>>=_}
