@@ -4,10 +4,12 @@ ghost use Rattle.number.specs.Arith as Arith;
 ghost use Rattle.number.specs.Arith.{floats};
 ghost use Rattle.number.specs.Answer.{answer};
 ghost use Rattle.elementary.specs.Port.{port};
+ghost use Rattle.elementary.specs.Promised.{SqrtAt, LnAt, Ln1pAt, ExpAt, ExpM1At, TanhAt, PowfAt};
 ghost use Prim.Native.Nat.{_+_, _*_, _≤_};
 ghost use lib.ListN.{length};
 ghost use Rattle.number.specs.Side.{side, sheet};
 ghost use Rattle.mie_parameters.specs.Answer.{status, stored};
+ghost use Rattle.domthelv.specs.Elementary.{Delivers};
 ghost use Rattle.domthelv.specs.Sets.{copied, taken, placed, ordersWithin, ordersRead, ordersWritten, quantumLengths, quantumSet, mieLengths, mieSet, listsWritten};
 ghost use Rattle.domthelv.specs.Operations.{vrqParameters, vrqTable, radiiWritten, radiiLengths, vrqRadii, energiesWritten, vrqEnergies, endsWritten, vrqEnergiesEnds, pairWritten, vrqDiameterEnds, vrqStage, vrParameters, vrDiameters, vrRadius, vrDispersion, vrDispersionEnds, vrDiameterEnds};
 ghost use Rattle.stages.specs.Stages.{mieStage};
@@ -47,52 +49,52 @@ fn deliver(a: FloatAnswer, out: &mut f64) -> u8
     0
 }
 
-// The elementary functions: 6 if the argument is outside.
+// The elementary functions: 6 if the argument is outside, else the value of its definition, which keeps what document 01 promises.
 #[no_mangle]
 pub extern "C" fn domthelv_sqrt(x: f64, out: &mut f64) -> u8
-    ensures { λ r. ⌜ (r ≡ status (port .sqrt x)) × (now (out .exit) ≡ stored (now (out .entry)) (port .sqrt x)) ⌝ }
+    ensures { λ r. ⌜ Delivers (SqrtAt x) (port .sqrt x) r (now (out .entry)) (now (out .exit)) ⌝ }
 {
     deliver(elementary::sqrt(x), out)
 }
 
 #[no_mangle]
 pub extern "C" fn domthelv_ln(x: f64, out: &mut f64) -> u8
-    ensures { λ r. ⌜ (r ≡ status (port .ln x)) × (now (out .exit) ≡ stored (now (out .entry)) (port .ln x)) ⌝ }
+    ensures { λ r. ⌜ Delivers (LnAt x) (port .ln x) r (now (out .entry)) (now (out .exit)) ⌝ }
 {
     deliver(elementary::ln(x), out)
 }
 
 #[no_mangle]
 pub extern "C" fn domthelv_ln_1p(x: f64, out: &mut f64) -> u8
-    ensures { λ r. ⌜ (r ≡ status (port .ln1p x)) × (now (out .exit) ≡ stored (now (out .entry)) (port .ln1p x)) ⌝ }
+    ensures { λ r. ⌜ Delivers (Ln1pAt x) (port .ln1p x) r (now (out .entry)) (now (out .exit)) ⌝ }
 {
     deliver(elementary::ln_1p(x), out)
 }
 
 #[no_mangle]
 pub extern "C" fn domthelv_exp(x: f64, out: &mut f64) -> u8
-    ensures { λ r. ⌜ (r ≡ status (port .exp x)) × (now (out .exit) ≡ stored (now (out .entry)) (port .exp x)) ⌝ }
+    ensures { λ r. ⌜ Delivers (ExpAt x) (port .exp x) r (now (out .entry)) (now (out .exit)) ⌝ }
 {
     deliver(elementary::exp(x), out)
 }
 
 #[no_mangle]
 pub extern "C" fn domthelv_exp_m1(x: f64, out: &mut f64) -> u8
-    ensures { λ r. ⌜ (r ≡ status (port .expm1 x)) × (now (out .exit) ≡ stored (now (out .entry)) (port .expm1 x)) ⌝ }
+    ensures { λ r. ⌜ Delivers (ExpM1At x) (port .expm1 x) r (now (out .entry)) (now (out .exit)) ⌝ }
 {
     deliver(elementary::exp_m1(x), out)
 }
 
 #[no_mangle]
 pub extern "C" fn domthelv_tanh(x: f64, out: &mut f64) -> u8
-    ensures { λ r. ⌜ (r ≡ status (port .tanh x)) × (now (out .exit) ≡ stored (now (out .entry)) (port .tanh x)) ⌝ }
+    ensures { λ r. ⌜ Delivers (TanhAt x) (port .tanh x) r (now (out .entry)) (now (out .exit)) ⌝ }
 {
     deliver(elementary::tanh(x), out)
 }
 
 #[no_mangle]
 pub extern "C" fn domthelv_powf(base: f64, exponent: f64, out: &mut f64) -> u8
-    ensures { λ r. ⌜ (r ≡ status (port .powf base exponent)) × (now (out .exit) ≡ stored (now (out .entry)) (port .powf base exponent)) ⌝ }
+    ensures { λ r. ⌜ Delivers (PowfAt base exponent) (port .powf base exponent) r (now (out .entry)) (now (out .exit)) ⌝ }
 {
     deliver(elementary::powf(base, exponent), out)
 }

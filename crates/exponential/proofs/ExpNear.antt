@@ -13,6 +13,7 @@ use Rattle.number.specs.Frac.{Frac, frac, Pos, leF, negF, subF, mulF, sgn, valF
 use Rattle.number.proofs.Frac.{ring, valF-pos}
 use Rattle.series.specs.Exact.{ExpValue}
 use Rattle.series.specs.Distance.{within}
+use Rattle.series.proofs.Close.{Close}
 use Rattle.series.proofs.Constants.{mn, md}
 use Rattle.exponential.specs.Raise.{raiseOf}
 use Rattle.exponential.specs.Exp.{expInside, sizeOf, binaryOf, exponentAt, exponentOf, expOf}
@@ -21,7 +22,7 @@ use Rattle.exponential.proofs.Argument.{exp-inside-is, units-le, down-r
 use Rattle.exponential.proofs.Bounds.{Bound}
 use Rattle.exponential.proofs.Position.{M}
 use Rattle.exponential.proofs.Value.{Within}
-use Rattle.exponential.proofs.RaiseNear.{raise-near}
+use Rattle.exponential.proofs.RaiseNear.{raise-finite, raise-near}
 
 -- ---- the size over ln 2: S / 2 ^ 54 is the size A / D rounded down, I 2 ^ 63 / ln 2, V S I / 2 ^ 64; ln 2 is m / q
 module _ (A D S V₁ I m q : ℕ) (below : S * D ≤ A * 2 ^ 54) (above : A * 2 ^ 54 ≤ (S + 1) * D) (fits : S ≤ 2 ^ 64) (v₀ : V₁ * 2 ^ 64 ≤ S * I) (v₁ : S * I ≤ (V₁ + 1) * 2 ^ 64) (i₀ : I * m ≤ 2 ^ 63 * q) (i₁ : 2 ^ 63 * q ≤ (I + 1) * m) where
@@ -198,25 +199,25 @@ loosen (frac p n d) (frac q k c) R E h = go ((p * c + k * d - (n * c + q * d)) +
         let u = simp (ring, one-mul, mul-zero, zero-mul, add-zero, zero-add) at h in
         simp (ring, one-mul, mul-zero, zero-mul, add-zero, zero-add) (omega arith)
 
-pub exp-near : (x : Float) (e : Frac) → T (fits binary64 x) → T (expInside x) → ExpValue (valF x) e → within (2 ^ 48) (valF (raiseOf (exponentOf x))) e
+pub exp-near : (x : Float) (e : Frac) → T (fits binary64 x) → T (expInside x) → ExpValue (valF x) e → Close (within (2 ^ 48)) (raiseOf (exponentOf x)) e
 exp-near x e f h v = go (exp-inside-is x h)
   where
-    go : (s : Bool) × (m : ℕ) × (t : ℤ) × (x ≡ fin s m t) × (m * up t ≤ 700 * down t) → within (2 ^ 48) (valF (raiseOf (exponentOf x))) e
-    go (s, m, t, p, q) = subst (λ (y : Float). within (2 ^ 48) (valF (raiseOf (exponentOf y))) e) (sym p) (at s m t (subst (λ (y : Float). T (fits binary64 y)) p f) q (subst (λ (y : Float). ExpValue (valF y) e) p v))
+    go : (s : Bool) × (m : ℕ) × (t : ℤ) × (x ≡ fin s m t) × (m * up t ≤ 700 * down t) → Close (within (2 ^ 48)) (raiseOf (exponentOf x)) e
+    go (s, m, t, p, q) = subst (λ (y : Float). Close (within (2 ^ 48)) (raiseOf (exponentOf y)) e) (sym p) (at s m t (subst (λ (y : Float). T (fits binary64 y)) p f) q (subst (λ (y : Float). ExpValue (valF y) e) p v))
       where
-        at : (s : Bool) (m : ℕ) (t : ℤ) → T (fits binary64 (fin s m t)) → m * up t ≤ 700 * down t → ExpValue (valF (fin s m t)) e → within (2 ^ 48) (valF (raiseOf (exponentOf (fin s m t)))) e
+        at : (s : Bool) (m : ℕ) (t : ℤ) → T (fits binary64 (fin s m t)) → m * up t ≤ 700 * down t → ExpValue (valF (fin s m t)) e → Close (within (2 ^ 48)) (raiseOf (exponentOf (fin s m t))) e
         at s m t f q v =
             let z = argument-near s m t f q in
             let w = exponentOf (fin s m t) in
-            loosen (valF (raiseOf w)) e (valF-pos (raiseOf w)) (v .proper .0) (raise-near w 242 (valF (fin s m t)) e (z .1) (z .2) (lit≤ tt) (valF-pos (fin s m t)) (z .0) v)
+            (raise-finite w (z .2), loosen (valF (raiseOf w)) e (valF-pos (raiseOf w)) (v .proper .0) (raise-near w 242 (valF (fin s m t)) e (z .1) (z .2) (lit≤ tt) (valF-pos (fin s m t)) (z .0) v))
 
--- 'The distance holds from every value in the bracket': whatever value exp holds, at each f64 x
-pub exp-distance : (x v : Float) (e : Frac) → T (fits binary64 x) → expOf x ≡ held v → ExpValue (valF x) e → within (2 ^ 48) (valF v) e
+-- 'The distance holds from every value in the bracket': whatever value exp holds, at each f64 x; and it is finite
+pub exp-distance : (x v : Float) (e : Frac) → T (fits binary64 x) → expOf x ≡ held v → ExpValue (valF x) e → Close (within (2 ^ 48)) v e
 unfolding expOf
 exp-distance x v e f h w = go (expInside x) refl h
   where
-    go : (t : Bool) → t ≡ expInside x → cond t (held (raiseOf (exponentOf x))) (refused 6) ≡ held v → within (2 ^ 48) (valF v) e
-    go true p h = subst (λ (y : Float). within (2 ^ 48) (valF y) e) (same h) (exp-near x e f (subst T p tt) w)
+    go : (t : Bool) → t ≡ expInside x → cond t (held (raiseOf (exponentOf x))) (refused 6) ≡ held v → Close (within (2 ^ 48)) v e
+    go true p h = subst (λ (y : Float). Close (within (2 ^ 48)) y e) (same h) (exp-near x e f (subst T p tt) w)
       where
         same : held (raiseOf (exponentOf x)) ≡ held v → raiseOf (exponentOf x) ≡ v
         same h = cc

@@ -15,6 +15,7 @@ use Rattle.number.specs.Frac.{Frac, sgn, valF}
 use Rattle.number.proofs.Frac.{valF-pos}
 use Rattle.series.specs.Exact.{ExpValue, ExpM1Value}
 use Rattle.series.specs.Distance.{within}
+use Rattle.series.proofs.Close.{Close}
 use Rattle.exponential.specs.Exp.{expInside, binaryOf, exponentAt, exponentOf}
 use Rattle.exponential.specs.ExpM1.{fieldOf, smallOf, belowOf, aboveOf, awayOf, expM1Of}
 use Rattle.exponential.proofs.Decode.{unitsOf, decoded}
@@ -70,8 +71,8 @@ module _ (s : Bool) (m : ℕ) (e : ℤ) (fit : T (fits binary64 (fin s m e))) (b
       go t q r = lt-of-not-le (λ (h : 2 ^ 63 ≤ b). subst T r (le→leb (2 ^ 63) b h))
 
   -- ---- below 2 ^ -54
-  near-tiny : fieldOf b < 969 → within (2 ^ 48) (valF (fin s m e)) x
-  near-tiny h = tiny-near s (m * up e) (down e) (value .e) x (down-pos e) size (value .proper) (value .isExp) (value .same)
+  near-tiny : fieldOf b < 969 → Close (within (2 ^ 48)) (fin s m e) x
+  near-tiny h = (tt, tiny-near s (m * up e) (down e) (value .e) x (down-pos e) size (value .proper) (value .isExp) (value .same))
     where
       units : (f t : ℕ) → f < 969 → t < 4503599627370496 → unitsOf f t ≤ 2 ^ 1020
       units zero t h k = le-trans (le-of-eq (mul-one t)) (le-trans (le-of-lt k) (lit≤ tt))
@@ -90,11 +91,11 @@ module _ (s : Bool) (m : ℕ) (e : ℤ) (fit : T (fits binary64 (fin s m e))) (b
           turn n = ap (λ (z : ℕ). z * 2 ^ 1020) (mul-comm (2 ^ 54) n) ∙ mul-assoc n (2 ^ 54) (2 ^ 1020)
 
   -- ---- below 1/4
-  near-small : 969 ≤ fieldOf b → fieldOf b < 1021 → within (2 ^ 48) (valF (smallOf (fin s m e) b)) x
+  near-small : 969 ≤ fieldOf b → fieldOf b < 1021 → Close (within (2 ^ 48)) (smallOf (fin s m e) b) x
   unfolding smallOf
   near-small l h = go s refl
     where
-      go : (t : Bool) → s ≡ t → within (2 ^ 48) (valF (smallOf (fin s m e) b)) x
+      go : (t : Bool) → s ≡ t → Close (within (2 ^ 48)) (smallOf (fin s m e) b) x
       go false p =
           rw (sym sign-is ∙ p)
           (plus-near (m * up e) (down e) (fieldOf b) (b % 4503599627370496) (down-pos e) l h digits-lt size-is (fin s m e) (value .e) x (p, refl) (value .proper) (subst (λ (t : Bool). ExpValue (sgn t (m * up e) (down e)) (value .e)) p (value .isExp)) (value .same))
@@ -108,7 +109,7 @@ module _ (s : Bool) (m : ℕ) (e : ℤ) (fit : T (fits binary64 (fin s m e))) (b
       let z = argument-near s m e fit bound in
       raise-bracket (exponentOf (fin s m e)) 242 (valF (fin s m e)) (value .e) (z .1) (z .2) (lit≤ tt) (valF-pos (fin s m e)) (z .0) (value .isExp)
 
-  near-below : 1021 ≤ fieldOf b → s ≡ true → within (2 ^ 48) (valF (belowOf (exponentOf (fin s m e)))) x
+  near-below : 1021 ≤ fieldOf b → s ≡ true → Close (within (2 ^ 48)) (belowOf (exponentOf (fin s m e))) x
   near-below l p = below-near (exponentOf (fin s m e)) (argument-near s m e fit bound .1) (subst (λ (w : ℕ). w < 1022 * 2 ^ 53 + 101 * 2 ^ 46) exponent (less (binaryOf b) (binary-least b l))) (value .e) x (value .isExp .proper .0) (value .proper) bracket (value .same)
     where
       less : (v : ℕ) → 42 * 2 ^ 46 ≤ v → 1023 * 2 ^ 53 - v < 1022 * 2 ^ 53 + 101 * 2 ^ 46
@@ -117,7 +118,7 @@ module _ (s : Bool) (m : ℕ) (e : ℤ) (fit : T (fits binary64 (fin s m e))) (b
       exponent : 1023 * 2 ^ 53 - binaryOf b ≡ exponentOf (fin s m e)
       exponent = negative-at b (binaryOf b) refl (negative p) ∙ of s m e
 
-  near-above : 1021 ≤ fieldOf b → s ≡ false → within (2 ^ 48) (valF (aboveOf (exponentOf (fin s m e)))) x
+  near-above : 1021 ≤ fieldOf b → s ≡ false → Close (within (2 ^ 48)) (aboveOf (exponentOf (fin s m e))) x
   near-above l p = above-near (exponentOf (fin s m e)) (subst (λ (w : ℕ). 1023 * 2 ^ 53 + 42 * 2 ^ 46 ≤ w) exponent (more (binaryOf b) (binary-least b l))) (argument-near s m e fit bound .2) (value .e) x (value .isExp .proper .0) (value .proper) bracket (value .same)
     where
       more : (v : ℕ) → 42 * 2 ^ 46 ≤ v → 1023 * 2 ^ 53 + 42 * 2 ^ 46 ≤ 1023 * 2 ^ 53 + v
@@ -126,35 +127,35 @@ module _ (s : Bool) (m : ℕ) (e : ℤ) (fit : T (fits binary64 (fin s m e))) (b
       exponent : 1023 * 2 ^ 53 + binaryOf b ≡ exponentOf (fin s m e)
       exponent = positive-at b (binaryOf b) refl (positive p) ∙ of s m e
 
-  pub near-away : 969 ≤ fieldOf b → within (2 ^ 48) (valF (awayOf (fin s m e))) x
+  pub near-away : 969 ≤ fieldOf b → Close (within (2 ^ 48)) (awayOf (fin s m e)) x
   unfolding awayOf
   near-away l = by-field (decLe 1021 (fieldOf b))
     where
-      by-sign : 1021 ≤ fieldOf b → (t : Bool) → s ≡ t → within (2 ^ 48) (valF (cond (leb (2 ^ 63) b) (belowOf (exponentOf (fin s m e))) (aboveOf (exponentOf (fin s m e))))) x
+      by-sign : 1021 ≤ fieldOf b → (t : Bool) → s ≡ t → Close (within (2 ^ 48)) (cond (leb (2 ^ 63) b) (belowOf (exponentOf (fin s m e))) (aboveOf (exponentOf (fin s m e)))) x
       by-sign h false p = rw (sym sign-is ∙ p) (near-above h p)
       by-sign h true p = rw (sym sign-is ∙ p) (near-below h p)
 
-      by-field : Dec (1021 ≤ fieldOf b) → within (2 ^ 48) (valF (awayOf (fin s m e))) x
+      by-field : Dec (1021 ≤ fieldOf b) → Close (within (2 ^ 48)) (awayOf (fin s m e)) x
       by-field (yes h) = rw (fails (fieldOf b) 1021 h) (by-sign h s refl)
       by-field (no h) = rw (holds (fieldOf b) 1021 (lt-of-not-le h)) (near-small l (lt-of-not-le h))
 
-  pub near-any : within (2 ^ 48) (valF (cond (ltb (fieldOf b) 969) (fin s m e) (awayOf (fin s m e)))) x
+  pub near-any : Close (within (2 ^ 48)) (cond (ltb (fieldOf b) 969) (fin s m e) (awayOf (fin s m e))) x
   near-any = go (decLe 969 (fieldOf b))
     where
-      go : Dec (969 ≤ fieldOf b) → within (2 ^ 48) (valF (cond (ltb (fieldOf b) 969) (fin s m e) (awayOf (fin s m e)))) x
+      go : Dec (969 ≤ fieldOf b) → Close (within (2 ^ 48)) (cond (ltb (fieldOf b) 969) (fin s m e) (awayOf (fin s m e))) x
       go (yes h) = rw (fails (fieldOf b) 969 h) (near-away h)
       go (no h) = rw (holds (fieldOf b) 969 (lt-of-not-le h)) (near-tiny (lt-of-not-le h))
 
--- 'The distance holds from every value in the bracket': whatever value exp_m1 holds, at each f64 x
-pub exp-m1-distance : (x v : Float) (t : Frac) → T (fits binary64 x) → expM1Of x ≡ held v → ExpM1Value (valF x) t → within (2 ^ 48) (valF v) t
+-- 'The distance holds from every value in the bracket': whatever value exp_m1 holds, at each f64 x; and it is finite
+pub exp-m1-distance : (x v : Float) (t : Frac) → T (fits binary64 x) → expM1Of x ≡ held v → ExpM1Value (valF x) t → Close (within (2 ^ 48)) v t
 unfolding expM1Of
 exp-m1-distance x v t f h w = go (expInside x) refl h
   where
-    at : (s : Bool) × (m : ℕ) × (e : ℤ) × (x ≡ fin s m e) × (m * up e ≤ 700 * down e) → T (expInside x) → within (2 ^ 48) (valF (cond (ltb (fieldOf (toBits binary64 x)) 969) x (awayOf x))) t
-    at (s, m, e, p, q) i = subst (λ (y : Float). within (2 ^ 48) (valF (cond (ltb (fieldOf (toBits binary64 y)) 969) y (awayOf y))) t) (sym p) (near-any s m e (subst (λ (y : Float). T (fits binary64 y)) p f) q t (subst (λ (y : Float). ExpM1Value (valF y) t) p w))
+    at : (s : Bool) × (m : ℕ) × (e : ℤ) × (x ≡ fin s m e) × (m * up e ≤ 700 * down e) → T (expInside x) → Close (within (2 ^ 48)) (cond (ltb (fieldOf (toBits binary64 x)) 969) x (awayOf x)) t
+    at (s, m, e, p, q) i = subst (λ (y : Float). Close (within (2 ^ 48)) (cond (ltb (fieldOf (toBits binary64 y)) 969) y (awayOf y)) t) (sym p) (near-any s m e (subst (λ (y : Float). T (fits binary64 y)) p f) q t (subst (λ (y : Float). ExpM1Value (valF y) t) p w))
 
-    go : (b : Bool) → b ≡ expInside x → cond b (held (cond (ltb (fieldOf (toBits binary64 x)) 969) x (awayOf x))) (refused 6) ≡ held v → within (2 ^ 48) (valF v) t
-    go true p h = subst (λ (y : Float). within (2 ^ 48) (valF y) t) (same h) (at (exp-inside-is x (subst T p tt)) (subst T p tt))
+    go : (b : Bool) → b ≡ expInside x → cond b (held (cond (ltb (fieldOf (toBits binary64 x)) 969) x (awayOf x))) (refused 6) ≡ held v → Close (within (2 ^ 48)) v t
+    go true p h = subst (λ (y : Float). Close (within (2 ^ 48)) y t) (same h) (at (exp-inside-is x (subst T p tt)) (subst T p tt))
       where
         same : held (cond (ltb (fieldOf (toBits binary64 x)) 969) x (awayOf x)) ≡ held v → cond (ltb (fieldOf (toBits binary64 x)) 969) x (awayOf x) ≡ v
         same h = cc

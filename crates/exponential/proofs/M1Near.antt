@@ -13,6 +13,7 @@ use Rattle.number.specs.Frac.{Frac, frac, Pos, leF, negF, subF, valF}
 use Rattle.number.proofs.Frac.{ring, le-transF, neg-antiF, addF-pos, negF-pos}
 use Rattle.series.specs.Sums.{natF, eqF}
 use Rattle.series.specs.Distance.{within}
+use Rattle.series.proofs.Close.{Close}
 use Rattle.fixed_point.specs.Horner.{horner}
 use Rattle.fixed_point.proofs.Table.{every, at}
 use Rattle.exponential.specs.Powers.{powers, terms}
@@ -205,7 +206,7 @@ module _ (w : ℕ) (least : 1023 * 2 ^ 53 + 42 * 2 ^ 46 ≤ w) (most : w < 2046 
       go (yes k) = less (div-le-of-le-mul (2 ^ (w / 2 ^ 53 - 1023)) (le-trans (lit≤ tt) (mul-le-mul-right (2 ^ 62) (pow-mono k)))) (significand-lo w)
       go (no k) = let e = none (w / 2 ^ 53 - 1023) k in subst (λ (n : ℕ). 2 ^ 63 / 2 ^ n + 2 ^ 61 ≤ significandOf w) (sym e) (significand-ge w (fraction w least e))
 
-  pub above-near : (e x : Frac) → Pos e → Pos x → Bracket w 242 e → eqF x (subF e (natF 1)) → within (2 ^ 48) (valF (aboveOf w)) x
+  pub above-near : (e x : Frac) → Pos e → Pos x → Bracket w 242 e → eqF x (subF e (natF 1)) → Close (within (2 ^ 48)) (aboveOf w) x
   unfolding aboveOf
   above-near e x P X₁ b s =
       packed-plus (significandOf w - one) 6508 (w / 2 ^ 53 - 1) x (positive one (significandOf w) gap) (small one (significandOf w) gap (significand-hi w)) (low w least) (high w most) X₁ (le-trans (lit≤ tt) (mul-le-mul-left 31 (large one (significandOf w) gap)))
@@ -286,7 +287,7 @@ module _ (w : ℕ) (least : 2 ^ 53 ≤ w) (most : w < 1022 * 2 ^ 53 + 101 * 2 ^ 
       go (yes k) = less (div-le-of-le-mul (2 ^ (1023 - w / 2 ^ 53)) (le-trans (le-of-lt (significand-hi w)) (le-trans (lit≤ tt) (mul-le-mul-right (2 ^ 62) (pow-mono k)))))
       go (no k) = subst (λ (n : ℕ). significandOf w / 2 ^ n + 2 ^ 60 ≤ 2 ^ 63) (sym (single w most k)) (near (div-le-of-le-mul 2 (significand-le w (fraction w most k))))
 
-  pub below-near : (e x : Frac) → Pos e → Pos x → Bracket w 242 e → eqF x (subF e (natF 1)) → within (2 ^ 48) (valF (belowOf w)) x
+  pub below-near : (e x : Frac) → Pos e → Pos x → Bracket w 242 e → eqF x (subF e (natF 1)) → Close (within (2 ^ 48)) (belowOf w) x
   unfolding belowOf
   below-near e x P X₁ b s =
       packed-minus (2 ^ 63 - part) 3255 1022 x (positive part room-below) (small part) (lit≤ tt) (lit≤ tt) X₁ (le-trans (lit≤ tt) (mul-le-mul-left 31 (large part room-below)))

@@ -13,6 +13,7 @@ use Rattle.number.proofs.Frac.{ring, neg-antiF, negF-pos}
 use Rattle.series.specs.Sums.{natF, eqF}
 use Rattle.series.specs.Exact.{ExpValue}
 use Rattle.series.specs.Distance.{within}
+use Rattle.series.proofs.Close.{Close}
 use Rattle.fixed_point.specs.Horner.{horner}
 use Rattle.exponential.specs.ExpM1.{overTerms, underOf}
 use Rattle.exponential.proofs.Decode.{unitsOf}
@@ -318,7 +319,7 @@ module _ (n d f t : ℕ) (D : 0 < d) (least : 969 ≤ f) (most : f < 1021) (digi
         high y w = simp ring (omega arith)
 
   -- ---- the laws
-  pub plus-near : (x₁ : Float) (e x : Frac) → HasValue x₁ false n d → Pos x → ExpValue (frac n 0 d) e → eqF x (subF e (natF 1)) → within (2 ^ 48) (valF (div binary64 (mul binary64 x₁ (whole (A / 2048))) (whole (under false / 2048)))) x
+  pub plus-near : (x₁ : Float) (e x : Frac) → HasValue x₁ false n d → Pos x → ExpValue (frac n 0 d) e → eqF x (subF e (natF 1)) → Close (within (2 ^ 48)) (div binary64 (mul binary64 x₁ (whole (A / 2048))) (whole (under false / 2048))) x
   plus-near x₁ e x h X₁ v q =
       let D₁ = under false in
       let S = odds n d + n * d * evens n d in
@@ -330,7 +331,7 @@ module _ (n d f t : ℕ) (D : 0 < d) (least : 969 ≤ f) (most : f < 1021) (digi
       rounded-plus (y false x₁ h D₁ (under-lo false) (under-hi false)) 10001 (z false x₁ h D₁ (under-lo false) (under-hi false)) f (r false x₁ h D₁ (under-lo false) (under-hi false)) x X₁ (y-large false x₁ h D₁ (under-lo false) (under-hi false)) (z-lo false x₁ h D₁ (under-lo false) (under-hi false)) (z-hi false x₁ h D₁ (under-lo false) (under-hi false)) (r-value false x₁ h D₁ (under-lo false) (under-hi false))
       (sized-eq (y false x₁ h D₁ (under-lo false) (under-hi false)) 10001 f x (subF e (natF 1)) (minus-one-pos e (v .proper .0)) q (sized false x₁ h D₁ (under-lo false) (under-hi false) (subF e (natF 1)) (plus-sized e l u w (2 ^ 1085) (z₁ .0) (z₁ .1))))
 
-  pub minus-near : (x₁ : Float) (e x : Frac) → HasValue x₁ true n d → Pos x → ExpValue (frac 0 n d) e → eqF x (subF e (natF 1)) → within (2 ^ 48) (valF (div binary64 (mul binary64 x₁ (whole (A / 2048))) (whole (under true / 2048)))) x
+  pub minus-near : (x₁ : Float) (e x : Frac) → HasValue x₁ true n d → Pos x → ExpValue (frac 0 n d) e → eqF x (subF e (natF 1)) → Close (within (2 ^ 48)) (div binary64 (mul binary64 x₁ (whole (A / 2048))) (whole (under true / 2048))) x
   minus-near x₁ e x h X₁ v q =
       let D₁ = under true in
       let S = odds n d - n * d * evens n d in

@@ -12,6 +12,7 @@ use Rattle.number.specs.Frac.{Frac, frac, Pos, leF, negF, subF, mulF, valF}
 use Rattle.number.proofs.Frac.{ring, le-reflF, add-monoF, neg-antiF, addF-pos, negF-pos, valF-pos}
 use Rattle.series.specs.Sums.{eqF}
 use Rattle.series.specs.Distance.{within}
+use Rattle.series.proofs.Close.{Close, value-finite}
 use Rattle.fixed_point.specs.Pack.{packed}
 use Rattle.fixed_point.proofs.Packed.{size, packed-value, packed-up, packed-down}
 use Rattle.exponential.proofs.Bounds.{Bound, bound-eq}
@@ -171,18 +172,23 @@ turn-value x z h = (neg-antiF (frac 0 z (2 ^ 1074)) x (h .1), neg-antiF x (frac 
 
 -- the law: the packed number is within 2 ^ -48 of a true value, or of its negative
 module _ (y a e : ℕ) (t : Frac) (P : 0 < y) (F : y < 2 ^ 64) (E : 64 ≤ e) (E' : e ≤ 2044) (T₁ : Pos t) (budget : 32 * (2 ^ 48 + 1) * a ≤ 31 * y) where
-  pub packed-plus : Sized y a e t → within (2 ^ 48) (valF (packed 0 y e)) t
-  packed-plus s = pos-near (valF (packed 0 y e)) t y a (size y e) e (valF-pos (packed 0 y e)) T₁ budget s (value-of (packed 0 y e) false (size y e) (2 ^ 1074) (pow-pos 1074) (packed-value false y e P F E')) (packed-up y e P F E) (packed-down y e P F E)
+  pub packed-plus : Sized y a e t → Close (within (2 ^ 48)) (packed 0 y e) t
+  packed-plus s =
+      let v = packed-value false y e P F E' in
+      (value-finite (packed 0 y e) false (size y e) (2 ^ 1074) v, pos-near (valF (packed 0 y e)) t y a (size y e) e (valF-pos (packed 0 y e)) T₁ budget s (value-of (packed 0 y e) false (size y e) (2 ^ 1074) (pow-pos 1074) v) (packed-up y e P F E) (packed-down y e P F E))
 
-  pub packed-minus : Sized y a e (negF t) → within (2 ^ 48) (valF (packed 1 y e)) t
+  pub packed-minus : Sized y a e (negF t) → Close (within (2 ^ 48)) (packed 1 y e) t
   packed-minus s =
-      turned (valF (packed 1 y e)) t
-      (pos-near (negF (valF (packed 1 y e))) (negF t) y a (size y e) e (negF-pos (valF (packed 1 y e)) (valF-pos (packed 1 y e))) (negF-pos t T₁) budget s (turn-value (valF (packed 1 y e)) (size y e) (value-of (packed 1 y e) true (size y e) (2 ^ 1074) (pow-pos 1074) (packed-value true y e P F E'))) (packed-up y e P F E) (packed-down y e P F E))
+      let v = packed-value true y e P F E' in (
+        value-finite (packed 1 y e) true (size y e) (2 ^ 1074) v,
+        turned (valF (packed 1 y e)) t
+            (pos-near (negF (valF (packed 1 y e))) (negF t) y a (size y e) e (negF-pos (valF (packed 1 y e)) (valF-pos (packed 1 y e))) (negF-pos t T₁) budget s (turn-value (valF (packed 1 y e)) (size y e) (value-of (packed 1 y e) true (size y e) (2 ^ 1074) (pow-pos 1074) v)) (packed-up y e P F E) (packed-down y e P F E)),
+      )
 
 -- the law for a number r of the grid, with its sign
 module _ (y a z e : ℕ) (r : Float) (t : Frac) (T₁ : Pos t) (budget : 2 ^ 48 * (a + 2048) + a ≤ y) (lo : y * 2 ^ e ≤ z * 2048) (hi : z * 2048 ≤ (y + 2048) * 2 ^ e) where
-  pub rounded-plus : HasValue r false z (2 ^ 1074) → Sized y a e t → within (2 ^ 48) (valF r) t
-  rounded-plus v s = grid-near (valF r) t y a z e (valF-pos r) T₁ budget s (value-of r false z (2 ^ 1074) (pow-pos 1074) v) lo hi
+  pub rounded-plus : HasValue r false z (2 ^ 1074) → Sized y a e t → Close (within (2 ^ 48)) r t
+  rounded-plus v s = (value-finite r false z (2 ^ 1074) v, grid-near (valF r) t y a z e (valF-pos r) T₁ budget s (value-of r false z (2 ^ 1074) (pow-pos 1074) v) lo hi)
 
-  pub rounded-minus : HasValue r true z (2 ^ 1074) → Sized y a e (negF t) → within (2 ^ 48) (valF r) t
-  rounded-minus v s = turned (valF r) t (grid-near (negF (valF r)) (negF t) y a z e (negF-pos (valF r) (valF-pos r)) (negF-pos t T₁) budget s (turn-value (valF r) z (value-of r true z (2 ^ 1074) (pow-pos 1074) v)) lo hi)
+  pub rounded-minus : HasValue r true z (2 ^ 1074) → Sized y a e (negF t) → Close (within (2 ^ 48)) r t
+  rounded-minus v s = (value-finite r true z (2 ^ 1074) v, turned (valF r) t (grid-near (negF (valF r)) (negF t) y a z e (negF-pos (valF r) (valF-pos r)) (negF-pos t T₁) budget s (turn-value (valF r) z (value-of r true z (2 ^ 1074) (pow-pos 1074) v)) lo hi))

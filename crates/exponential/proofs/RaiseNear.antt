@@ -5,15 +5,17 @@ use mathlib.Core.Bool.{Bool, true, false}
 use Prim.Native.Nat.{ℕ, _+_, _-_, _*_, _/_, _%_, _^_, _≤_, _<_}
 use native.Mathlib.Nat.{mul-assoc, mul-comm, mul-left-comm, mul-zero, zero-mul, one-mul, add-zero, zero-add, add-le-add, le-refl, le-trans, le-of-eq, mul-pos, mul-le-mul, mul-le-mul-left, mul-le-mul-right}
 use native.Mathlib.Omega.{arith}
-use lib.Dec.{lit<, lit≤}
+use lib.Dec.{T, lit<, lit≤}
 use lib.Pow.{pow-add, pow-pos}
 use lib.Ieee.{Float, nan, inf, fin, up, down}
 use lib.Ieee.Exact.{HasValue}
+use lib.Ieee.Scale.{finite}
 use Rattle.number.specs.Frac.{Frac, frac, Pos, leF, negF, addF, subF, mulF, sgn, valF}
 use Rattle.number.proofs.Frac.{ring, le-transF, le-reflF, lt-leF, add-monoF, addF-pos, mulF-pos, negF-pos}
 use Rattle.series.specs.Sums.{natF, overF, absF, eqF, powF, factorial, scaleF}
 use Rattle.series.specs.Exact.{ExpValue, expSum, expTail, middle, rest, ln2Low, ln2High}
 use Rattle.series.proofs.Constants.{mn, md}
+use Rattle.series.proofs.Close.{value-finite}
 use Rattle.fixed_point.proofs.Patterns64.{pack-value, near-lo, near-hi, near-up, near-down}
 use Rattle.exponential.specs.Raise.{significandOf, raiseOf}
 use Rattle.exponential.proofs.Digits.{significand-lo, significand-hi}
@@ -233,6 +235,9 @@ raise-value w h = rw zero-add at (pack-value false (w / 2 ^ 53 - 1) ((significan
   where
     field-le : (w : ℕ) → w < 2046 * 2 ^ 53 → w / 2 ^ 53 - 1 ≤ 2044
     field-le w h = omega arith
+
+pub raise-finite : (w : ℕ) → w < 2046 * 2 ^ 53 → T (finite (raiseOf w))
+raise-finite w h = value-finite (raiseOf w) false ((significandOf w / 1024 + 1) / 2 * 2 ^ (w / 2 ^ 53 - 1)) (2 ^ 1074) (raise-value w h)
 
 -- in the units of the sums
 raise-units : (w : ℕ) → 2 ^ 53 ≤ w → w < 2046 * 2 ^ 53 → eqF (valF (raiseOf w)) (frac ((significandOf w / 1024 + 1) / 2 * 2048 * 2 ^ (w / 2 ^ 53)) 0 (2 ^ 1086))

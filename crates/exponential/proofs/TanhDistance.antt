@@ -17,6 +17,7 @@ use Rattle.number.proofs.Frac.{le-reflF, add-monoF, mulF-pos, sgn-pos, valF-pos
 use Rattle.series.specs.Sums.{natF, eqF}
 use Rattle.series.specs.Exact.{TanhValue}
 use Rattle.series.specs.Distance.{near}
+use Rattle.series.proofs.Close.{Close}
 use Rattle.exponential.specs.Exp.{exponentAt}
 use Rattle.exponential.specs.ExpM1.{fieldOf}
 use Rattle.exponential.specs.Tanh.{tanhInside, tanhRatioOf, tanhOf}
@@ -74,8 +75,8 @@ module _ (s : Bool) (m : ℕ) (e : ℤ) (fit : T (fits binary64 (fin s m e))) (b
   units = units-le 350 m e (unitsOf (fieldOf b) (b % 4503599627370496)) size-is bound
 
   -- ---- below 2 ^ -17
-  near-tiny : fieldOf b < 1006 → near (2 ^ 48) (valF (fin s m e)) x
-  near-tiny h = tiny-near s (m * up e) (down e) x (down-pos e) size value
+  near-tiny : fieldOf b < 1006 → Close (near (2 ^ 48)) (fin s m e) x
+  near-tiny h = (tt, tiny-near s (m * up e) (down e) x (down-pos e) size value)
     where
       small : (f t : ℕ) → f < 1006 → t < 4503599627370496 → unitsOf f t ≤ 2 ^ 1057
       small zero t h k = le-trans (le-of-eq (mul-one t)) (le-trans (le-of-lt k) (lit≤ tt))
@@ -138,26 +139,26 @@ module _ (s : Bool) (m : ℕ) (e : ℤ) (fit : T (fits binary64 (fin s m e))) (b
             let u = mulF (frac w (1023 * 2 ^ 53) (2 ^ 53)) M in
             bound-eq (subF t u) (subF v u) (frac 242 0 (2 ^ 60)) (sub-pos t u (sgn-pos s (2 * (m * up e)) (down e) (down-pos e)) (lit< tt)) (add-monoF v t (negF u) (negF u) (q .0) (le-reflF (negF u)), add-monoF t v (negF u) (negF u) (q .1) (le-reflF (negF u))) (argument .0)
 
-    near-away : near (2 ^ 48) (valF (tanhRatioOf w)) x
+    near-away : Close (near (2 ^ 48)) (tanhRatioOf w) x
     near-away = tanh-near w (value .e) x (value .isExp .proper .0) bracket (value .same)
 
-  pub near-any : near (2 ^ 48) (valF (cond (ltb (fieldOf b) 1006) (fin s m e) (tanhRatioOf (exponentAt (b + 2 ^ 52))))) x
+  pub near-any : Close (near (2 ^ 48)) (cond (ltb (fieldOf b) 1006) (fin s m e) (tanhRatioOf (exponentAt (b + 2 ^ 52)))) x
   near-any = go (decLe 1006 (fieldOf b))
     where
-      go : Dec (1006 ≤ fieldOf b) → near (2 ^ 48) (valF (cond (ltb (fieldOf b) 1006) (fin s m e) (tanhRatioOf (exponentAt (b + 2 ^ 52))))) x
+      go : Dec (1006 ≤ fieldOf b) → Close (near (2 ^ 48)) (cond (ltb (fieldOf b) 1006) (fin s m e) (tanhRatioOf (exponentAt (b + 2 ^ 52)))) x
       go (yes h) = rw (fails (fieldOf b) 1006 h) (near-away h)
       go (no h) = rw (holds (fieldOf b) 1006 (lt-of-not-le h)) (near-tiny (lt-of-not-le h))
 
--- 'The distance holds from every value in the bracket': whatever value tanh holds, at each f64 x
-pub tanh-distance : (x v : Float) (t : Frac) → T (fits binary64 x) → tanhOf x ≡ held v → TanhValue (valF x) t → near (2 ^ 48) (valF v) t
+-- 'The distance holds from every value in the bracket': whatever value tanh holds, at each f64 x; and it is finite
+pub tanh-distance : (x v : Float) (t : Frac) → T (fits binary64 x) → tanhOf x ≡ held v → TanhValue (valF x) t → Close (near (2 ^ 48)) v t
 unfolding tanhOf
 tanh-distance x v t f h w = go (tanhInside x) refl h
   where
-    at : (s : Bool) × (m : ℕ) × (e : ℤ) × (x ≡ fin s m e) × (m * up e ≤ 350 * down e) → near (2 ^ 48) (valF (cond (ltb (fieldOf (toBits binary64 x)) 1006) x (tanhRatioOf (exponentAt (toBits binary64 x + 2 ^ 52))))) t
-    at (s, m, e, p, q) = subst (λ (y : Float). near (2 ^ 48) (valF (cond (ltb (fieldOf (toBits binary64 y)) 1006) y (tanhRatioOf (exponentAt (toBits binary64 y + 2 ^ 52))))) t) (sym p) (near-any s m e (subst (λ (y : Float). T (fits binary64 y)) p f) q t (subst (λ (y : Float). TanhValue (valF y) t) p w))
+    at : (s : Bool) × (m : ℕ) × (e : ℤ) × (x ≡ fin s m e) × (m * up e ≤ 350 * down e) → Close (near (2 ^ 48)) (cond (ltb (fieldOf (toBits binary64 x)) 1006) x (tanhRatioOf (exponentAt (toBits binary64 x + 2 ^ 52)))) t
+    at (s, m, e, p, q) = subst (λ (y : Float). Close (near (2 ^ 48)) (cond (ltb (fieldOf (toBits binary64 y)) 1006) y (tanhRatioOf (exponentAt (toBits binary64 y + 2 ^ 52)))) t) (sym p) (near-any s m e (subst (λ (y : Float). T (fits binary64 y)) p f) q t (subst (λ (y : Float). TanhValue (valF y) t) p w))
 
-    go : (b : Bool) → b ≡ tanhInside x → cond b (held (cond (ltb (fieldOf (toBits binary64 x)) 1006) x (tanhRatioOf (exponentAt (toBits binary64 x + 2 ^ 52))))) (refused 6) ≡ held v → near (2 ^ 48) (valF v) t
-    go true p h = subst (λ (y : Float). near (2 ^ 48) (valF y) t) (same h) (at (tanh-inside-is x (subst T p tt)))
+    go : (b : Bool) → b ≡ tanhInside x → cond b (held (cond (ltb (fieldOf (toBits binary64 x)) 1006) x (tanhRatioOf (exponentAt (toBits binary64 x + 2 ^ 52))))) (refused 6) ≡ held v → Close (near (2 ^ 48)) v t
+    go true p h = subst (λ (y : Float). Close (near (2 ^ 48)) y t) (same h) (at (tanh-inside-is x (subst T p tt)))
       where
         same : held (cond (ltb (fieldOf (toBits binary64 x)) 1006) x (tanhRatioOf (exponentAt (toBits binary64 x + 2 ^ 52)))) ≡ held v → cond (ltb (fieldOf (toBits binary64 x)) 1006) x (tanhRatioOf (exponentAt (toBits binary64 x + 2 ^ 52))) ≡ v
         same h = cc

@@ -17,6 +17,7 @@ use Rattle.number.proofs.Frac.{ring, le-transF, add-monoF, neg-antiF, negF-pos}
 use Rattle.number.proofs.Hull.{inv-above}
 use Rattle.series.specs.Sums.{natF, absF, eqF}
 use Rattle.series.specs.Distance.{near}
+use Rattle.series.proofs.Close.{Close, value-finite}
 use Rattle.exponential.specs.Raise.{significandOf}
 use Rattle.exponential.specs.Tanh.{expPart, onePart, tanhRatioOf}
 use Rattle.exponential.proofs.Digits.{significand-lo, significand-hi}
@@ -302,11 +303,11 @@ module _ (α β ω t b : ℕ) (x : Frac) (some : 0 < α + β) (least : 2 ^ 51 �
   bounded : Bound (subF (frac Z 0 (2 ^ 1074)) (frac α β (α + β))) (frac 1 0 (2 ^ 48))
   bounded = ratio-bound α β ω t b (k t b positive-b ratio) least r (k-lo t b positive-b ratio) (k-hi t b positive-b ratio) (k-le t b positive-b ratio) Z (2 ^ 1074) (r-lo t b positive-b ratio) (r-hi t b positive-b ratio)
 
-  near-plus : eqF x (frac α β (α + β)) → near (2 ^ 48) (valF (round binary64 false t b)) x
-  near-plus e = near-of (valF (round binary64 false t b)) x (frac Z 0 (2 ^ 1074)) (frac α β (α + β)) (pow-pos 1074) some (value-of (round binary64 false t b) false Z (2 ^ 1074) (pow-pos 1074) (signed-value t b positive-b ratio false)) e bounded
+  near-plus : eqF x (frac α β (α + β)) → Close (near (2 ^ 48)) (round binary64 false t b) x
+  near-plus e = (value-finite (round binary64 false t b) false Z (2 ^ 1074) (signed-value t b positive-b ratio false), near-of (valF (round binary64 false t b)) x (frac Z 0 (2 ^ 1074)) (frac α β (α + β)) (pow-pos 1074) some (value-of (round binary64 false t b) false Z (2 ^ 1074) (pow-pos 1074) (signed-value t b positive-b ratio false)) e bounded)
 
-  near-minus : eqF (negF x) (frac α β (α + β)) → near (2 ^ 48) (valF (round binary64 true t b)) x
-  near-minus e = near-turned (valF (round binary64 true t b)) x (frac Z 0 (2 ^ 1074)) (frac α β (α + β)) (pow-pos 1074) some (flip (valF (round binary64 true t b)) Z (value-of (round binary64 true t b) true Z (2 ^ 1074) (pow-pos 1074) (signed-value t b positive-b ratio true))) e bounded
+  near-minus : eqF (negF x) (frac α β (α + β)) → Close (near (2 ^ 48)) (round binary64 true t b) x
+  near-minus e = (value-finite (round binary64 true t b) true Z (2 ^ 1074) (signed-value t b positive-b ratio true), near-turned (valF (round binary64 true t b)) x (frac Z 0 (2 ^ 1074)) (frac α β (α + β)) (pow-pos 1074) some (flip (valF (round binary64 true t b)) Z (value-of (round binary64 true t b) true Z (2 ^ 1074) (pow-pos 1074) (signed-value t b positive-b ratio true))) e bounded)
     where
       flip : (x : Frac) (z : ℕ) → eqF x (frac 0 z (2 ^ 1074)) → eqF (negF x) (frac z 0 (2 ^ 1074))
       flip x z h = (neg-antiF (frac 0 z (2 ^ 1074)) x (h .1), neg-antiF x (frac 0 z (2 ^ 1074)) (h .0))
@@ -327,7 +328,7 @@ ratio-signed s e o t h k l P d =
     double x y h k = omega arith
 
 module _ (α β ω e o : ℕ) (x : Frac) (some : 0 < α + β) (value : eqF x (frac α β (α + β))) (e-le : e ≤ 2 ^ 52) (o-le : o ≤ 2 ^ 52) (least : 2 ^ 51 ≤ e + o) (p : Parts α β ω e o) where
-  ratio-near : near (2 ^ 48) (valF (ratioOf e o)) x
+  ratio-near : Close (near (2 ^ 48)) (ratioOf e o) x
   ratio-near = go (decLe o e)
     where
       back : (e o : ℕ) → o ≤ e → o + (e - o) ≡ e
@@ -342,17 +343,17 @@ module _ (α β ω e o : ℕ) (x : Frac) (some : 0 < α + β) (value : eqF x (fr
       positive-sum : 0 < e + o
       positive-sum = le-trans (lit≤ tt) least
 
-      go : Dec (o ≤ e) → near (2 ^ 48) (valF (ratioOf e o)) x
+      go : Dec (o ≤ e) → Close (near (2 ^ 48)) (ratioOf e o) x
       go (yes h) =
           let X = whole-is e (le-trans e-le (lit≤ tt)) in
           let Y = whole-is o (le-trans o-le (lit≤ tt)) in
-          subst (λ (y : Float). near (2 ^ 48) (valF y) x) (sym (ratio-signed false e o (e - o) e-le o-le (wide e o e-le) positive-sum (plus-is (whole e) (whole o) (e - o) o (subst (λ (n : ℕ). HasValue (whole e) false n 1) (sym (back e o h)) X) Y)))
+          subst (λ (y : Float). Close (near (2 ^ 48)) y x) (sym (ratio-signed false e o (e - o) e-le o-le (wide e o e-le) positive-sum (plus-is (whole e) (whole o) (e - o) o (subst (λ (n : ℕ). HasValue (whole e) false n 1) (sym (back e o h)) X) Y)))
           (near-plus α β ω (e - o) (e + o) x some least (less e o) (subst (λ (n : ℕ). Ratio α β ω (e - o) (n + o)) (back e o h) (plus-ratio α β ω (e - o) o (subst (λ (n : ℕ). Parts α β ω n o) (sym (back e o h)) p))) value)
       go (no h) =
           let l = lt-of-not-le h in
           let X = whole-is e (le-trans e-le (lit≤ tt)) in
           let Y = whole-is o (le-trans o-le (lit≤ tt)) in
-          subst (λ (y : Float). near (2 ^ 48) (valF y) x) (sym (ratio-signed true e o (o - e) e-le o-le (wide o e o-le) positive-sum (minus-is (whole e) (whole o) (o - e) e (apart e o l) X (subst (λ (n : ℕ). HasValue (whole o) false n 1) (sym (back o e (le-of-lt l))) Y))))
+          subst (λ (y : Float). Close (near (2 ^ 48)) y x) (sym (ratio-signed true e o (o - e) e-le o-le (wide o e o-le) positive-sum (minus-is (whole e) (whole o) (o - e) e (apart e o l) X (subst (λ (n : ℕ). HasValue (whole o) false n 1) (sym (back o e (le-of-lt l))) Y))))
           (near-minus β α ω (o - e) (e + o) x (subst (λ (n : ℕ). 0 < n) (add-comm α β) some) least (under e o) (subst (λ (n : ℕ). Ratio β α ω (o - e) (e + n)) (back o e (le-of-lt l)) (minus-ratio α β ω (o - e) e (subst (λ (n : ℕ). Parts α β ω e n) (sym (back o e (le-of-lt l))) p)))
           (subst (λ (n : ℕ). eqF (negF x) (frac β α n)) (add-comm α β) (neg-antiF (frac α β (α + β)) x (value .1), neg-antiF x (frac α β (α + β)) (value .0))))
         where
@@ -464,16 +465,16 @@ module _ (w : ℕ) where
       o-high : (O β ω : ℕ) → β ≤ (O + 1) * ω → β ≤ 4096 * (O / 4096) * ω + 4096 * ω
       o-high O β ω h = le-trans h (cut-hi O ω)
 
-  pub tanh-near : (e x : Frac) → Pos e → Bracket w 242 e → eqF x (divF (subF e (natF 1)) (addF e (natF 1))) → near (2 ^ 48) (valF (tanhRatioOf w)) x
+  pub tanh-near : (e x : Frac) → Pos e → Bracket w 242 e → eqF x (divF (subF e (natF 1)) (addF e (natF 1))) → Close (near (2 ^ 48)) (tanhRatioOf w) x
   unfolding tanhRatioOf
   tanh-near (frac p n d) x E b s = go (le-dest (positive (X * 2 ^ q) (5856 * 2 ^ q) (2 ^ 1086) p n d (mul-le-mul-right (2 ^ q) (le-trans (lit≤ tt) (significand-lo w))) (pow-pos 1086) (b .0)))
     where
-      at : (P : ℕ) → Bracket w 242 (frac (n + P) n d) → eqF x (divF (subF (frac (n + P) n d) (natF 1)) (addF (frac (n + P) n d) (natF 1))) → near (2 ^ 48) (valF (ratioOf (expPart w) (onePart w))) x
+      at : (P : ℕ) → Bracket w 242 (frac (n + P) n d) → eqF x (divF (subF (frac (n + P) n d) (natF 1)) (addF (frac (n + P) n d) (natF 1))) → Close (near (2 ^ 48)) (ratioOf (expPart w) (onePart w)) x
       at P b s =
           let Y = 2 ^ q in
           let C = 2 ^ 1086 in
           ratio-near (P * C) (d * C) (G * d) (expPart w) (onePart w) x (some-of (P * C) (d * C) (mul-pos E (pow-pos 1086))) (value-scaled n P d C x E s) (small-part X (1023 - q) (significand-hi w)) (small-part (2 ^ 63) (q - 1023) (lit< tt)) sum-least
           (parts P d (part-low X Y C n P d (b .0) (b .1)) (part-high X Y C n P d (b .0) (b .1)))
 
-      go : (P : ℕ) × (n + P ≡ p) → near (2 ^ 48) (valF (ratioOf (expPart w) (onePart w))) x
+      go : (P : ℕ) × (n + P ≡ p) → Close (near (2 ^ 48)) (ratioOf (expPart w) (onePart w)) x
       go (P, i) = at P (subst (λ (p : ℕ). Bracket w 242 (frac p n d)) (sym i) b) (subst (λ (p : ℕ). eqF x (divF (subF (frac p n d) (natF 1)) (addF (frac p n d) (natF 1)))) (sym i) s)

@@ -20,6 +20,7 @@ use Rattle.fixed_point.proofs.Packed.{flag, size, packed-value, packed-up, pack
 use Rattle.series.specs.Sums.{eqF, powF, sumF}
 use Rattle.series.specs.Exact.{twiceOdds, oddTail, ln2Low, ln2High, timesLow, timesHigh, zOf, LnValue}
 use Rattle.series.specs.Distance.{within}
+use Rattle.series.proofs.Close.{Close, value-finite}
 use Rattle.logarithm.specs.Logarithm.{multiple, far, join}
 use Rattle.logarithm.proofs.Fractions.{eq-reflF, value-is}
 use Rattle.logarithm.proofs.Near.{Low, High, rounded-near, zero-near}
@@ -30,12 +31,15 @@ use Rattle.logarithm.proofs.Bracket.{lowOf, highOf, sum-below, sum-abov
 
 -- ---- a number y in units 1 / E = 1 / (2 ^ 11 m), packed
 pub packed-near : (s : Bool) (v : Frac) (y e E m d : ℕ) → 0 < y → y < 2 ^ 64 → 64 ≤ e → e ≤ 2044 → 0 < E → 2 ^ e * m ≡ 2 ^ 1074 → 2048 * m ≡ E → 2 ^ 49 * d ≤ y → Low s (y - d) E v → High s (y + d) E v
-    → within (2 ^ 48) (valF (packed (flag s) y e)) v
+    → Close (within (2 ^ 48)) (packed (flag s) y e) v
 packed-near s v y e E m d yp yf el eh ep em me far l u =
-    rounded-near s (valF (packed (flag s) y e)) v y d (size y e) (2 ^ 1074) E (pow-pos 1074) ep (value-is (packed (flag s) y e) s (size y e) (2 ^ 1074) (packed-value s y e yp yf eh))
-    (le-trans (le-of-eq (a (size y e) (2 ^ 53) m E me)) (le-trans (mul-le-mul-right m (packed-up y e yp yf el)) (le-of-eq (b y (2 ^ e) (2 ^ 53 + 1) m (2 ^ 1074) em))))
-    (le-trans (le-of-eq (sym (b y (2 ^ e) (2 ^ 53 - 1) m (2 ^ 1074) em))) (le-trans (mul-le-mul-right m (packed-down y e yp yf el)) (le-of-eq (sym (a (size y e) (2 ^ 53) m E me)))))
-    far l u
+    let value = packed-value s y e yp yf eh in (
+      value-finite (packed (flag s) y e) s (size y e) (2 ^ 1074) value,
+      rounded-near s (valF (packed (flag s) y e)) v y d (size y e) (2 ^ 1074) E (pow-pos 1074) ep (value-is (packed (flag s) y e) s (size y e) (2 ^ 1074) value)
+          (le-trans (le-of-eq (a (size y e) (2 ^ 53) m E me)) (le-trans (mul-le-mul-right m (packed-up y e yp yf el)) (le-of-eq (b y (2 ^ e) (2 ^ 53 + 1) m (2 ^ 1074) em))))
+          (le-trans (le-of-eq (sym (b y (2 ^ e) (2 ^ 53 - 1) m (2 ^ 1074) em))) (le-trans (mul-le-mul-right m (packed-down y e yp yf el)) (le-of-eq (sym (a (size y e) (2 ^ 53) m E me)))))
+          far l u,
+    )
   where
     a : (x t m E : ℕ) → 2048 * m ≡ E → x * E * t ≡ x * 2048 * t * m
     a x t m E h = ap (λ (z : ℕ). x * z * t) (sym h) ∙ go x t m 2048
@@ -153,13 +157,13 @@ module _ (v : Frac) (a c : ℕ) (more : 2 ^ 53 + 2 ^ 51 ≤ a) (less : c ≤ 2 ^
   high-end true false l h = le-transF (frac 0 (a - c + 4) B) (addF (frac c 1 B) (frac 0 (a + 2) B)) v B2 (sum-below 0 (a - c + 4) c 1 0 (a + 2) B (omega arith)) l
   high-end true true l h = le-transF (frac 0 (a + c + 4) B) (addF (frac 0 (c + 2) B) (frac 0 (a + 2) B)) v B2 (sum-below 0 (a + c + 4) 0 (c + 2) 0 (a + 2) B (omega arith)) l
 
-  total-near : (g s : Bool) → leF (addF (low54 s c B) (lowK g a B)) v → leF v (addF (high54 s c B) (highK g a B)) → within (2 ^ 48) (valF (packed (flag g) (total g s) 1031)) v
+  total-near : (g s : Bool) → leF (addF (low54 s c B) (lowK g a B)) v → leF v (addF (high54 s c B) (highK g a B)) → Close (within (2 ^ 48)) (packed (flag g) (total g s) 1031) v
   total-near g s l h = packed-near g v (total g s) 1031 B (2 ^ 43) 4 (total-pos g s) (total-hi g s) (lit≤ tt) (lit≤ tt) (lit< tt) (sym (pow-add 2 1031 43)) refl (total-lo g s) (low-end g s l h) (high-end g s l h)
 
 -- `far` packs that sum
 pub far-near : (g s : Bool) (k r sh : ℕ) (v : Frac) → 0 < k → k ≤ 1025 → r / 2 ^ (sh + 8) ≤ 2 ^ 53
     → leF (addF (low54 s (r / 2 ^ (sh + 8)) (2 ^ 54)) (lowK g (multiple k) (2 ^ 54))) v → leF v (addF (high54 s (r / 2 ^ (sh + 8)) (2 ^ 54)) (highK g (multiple k) (2 ^ 54)))
-    → within (2 ^ 48) (valF (far (flag g) k (flag s) r sh)) v
+    → Close (within (2 ^ 48)) (far (flag g) k (flag s) r sh) v
 unfolding far
 far-near false false k r sh v p q m l h = total-near v (multiple k) (r / 2 ^ (sh + 8)) (multiple-lo k p) m (multiple-hi k q) false false l h
 far-near false true k r sh v p q m l h = total-near v (multiple k) (r / 2 ^ (sh + 8)) (multiple-lo k p) m (multiple-hi k q) false true l h
@@ -404,7 +408,7 @@ module _ (s : Bool) (n o u S r : ℕ) (h : Parts s n o u S r) (y v : Frac) (yp :
         highOf-pos false = mul-pos {m = 2 ^ 62} (lit< tt) (h .scale)
         highOf-pos true = mul-pos {m = 2 ^ 62} (lit< tt) (h .scale)
 
-    above-near : 1023 < e → within (2 ^ 48) (valF (far 0 (e - 1023) (flag s) r sh)) v
+    above-near : 1023 < e → Close (within (2 ^ 48)) (far 0 (e - 1023) (flag s) r sh) v
     above-near p =
         let t = above-one (value .neg) (value .k) e (way .0) p eh in
         far-near false s (e - 1023) r sh v (pos e p) (few e eh) (j .small) (from-low (low54 s c (2 ^ 54)) (lowK false (multiple (e - 1023)) (2 ^ 54)) low-54 (t .0)) (from-high (high54 s c (2 ^ 54)) (highK false (multiple (e - 1023)) (2 ^ 54)) high-54 (t .1))
@@ -415,7 +419,7 @@ module _ (s : Bool) (n o u S r : ℕ) (h : Parts s n o u S r) (y v : Frac) (yp :
         few : (e : ℕ) → e ≤ 2048 → e - 1023 ≤ 1025
         few e h = omega arith
 
-    below-near : e < 1023 → within (2 ^ 48) (valF (far 1 (1023 - e) (flag s) r sh)) v
+    below-near : e < 1023 → Close (within (2 ^ 48)) (far 1 (1023 - e) (flag s) r sh) v
     below-near p =
         let t = below-one (value .neg) (value .k) e (way .0) p in
         far-near true s (1023 - e) r sh v (pos e p) (few e) (j .small) (from-low (low54 s c (2 ^ 54)) (lowK true (multiple (1023 - e)) (2 ^ 54)) low-54 (t .0)) (from-high (high54 s c (2 ^ 54)) (highK true (multiple (1023 - e)) (2 ^ 54)) high-54 (t .1))
@@ -426,7 +430,7 @@ module _ (s : Bool) (n o u S r : ℕ) (h : Parts s n o u S r) (y v : Frac) (yp :
         few : (e : ℕ) → 1023 - e ≤ 1025
         few e = omega arith
 
-    one-near : e ≡ 1023 → 2 ^ 59 ≤ r → within (2 ^ 48) (valF (packed (flag s) r (1023 - sh))) v
+    one-near : e ≡ 1023 → 2 ^ 59 ≤ r → Close (within (2 ^ 48)) (packed (flag s) r (1023 - sh)) v
     one-near p large =
         packed-near s v r (1023 - sh) E (2 ^ 51 * S) 111 (lt-of-lt-of-le (lit< tt) large) (j .fits) (wide sh (j .shift)) (short sh) (mul-pos {m = 2 ^ 62} (lit< tt) (h .scale)) powers (sym (mul-assoc 2048 (2 ^ 51) S)) (le-trans (lit≤ tt) large) (one-low p large) (one-high p large)
       where
@@ -445,7 +449,7 @@ module _ (s : Bool) (n o u S r : ℕ) (h : Parts s n o u S r) (y v : Frac) (yp :
             back : (sh : ℕ) → sh < 64 → 1023 - sh + sh ≡ 1023
             back sh h = omega arith
 
-    pub join-near : within (2 ^ 48) (valF (join e (flag s) r sh)) v
+    pub join-near : Close (within (2 ^ 48)) (join e (flag s) r sh) v
     unfolding join ofBits
     join-near = go (decLe e 1023) (decLe 1023 e) (eq-zero-or-pos n)
       where
@@ -458,8 +462,8 @@ module _ (s : Bool) (n o u S r : ℕ) (h : Parts s n o u S r) (y v : Frac) (yp :
         positive : (r : ℕ) → 2 ^ 59 ≤ r → r ≡ 0 → ⊥
         positive r h q = omega arith
 
-        go : Dec (e ≤ 1023) → Dec (1023 ≤ e) → (n ≡ 0) ⊎ (0 < n) → within (2 ^ 48) (valF (join e (flag s) r sh)) v
+        go : Dec (e ≤ 1023) → Dec (1023 ≤ e) → (n ≡ 0) ⊎ (0 < n) → Close (within (2 ^ 48)) (join e (flag s) r sh) v
         go (no a) b m = rw (ne-eqb e 1023 (not-one e a), le-ltb e 1023 (le-of-lt (lt-of-not-le a))) (above-near (lt-of-not-le a))
         go (yes a) (no b) m = rw (ne-eqb e 1023 (not-one' e b), lt-ltb e 1023 (lt-of-not-le b)) (below-near (lt-of-not-le b))
-        go (yes a) (yes b) (inl m) = rw (eq-eqb e 1023 (le-antisymm a b), eq-eqb r 0 (j .none m)) (none-near (le-antisymm a b) m (valF (ofBits binary64 0)) (eq-reflF (frac 0 0 1)))
+        go (yes a) (yes b) (inl m) = rw (eq-eqb e 1023 (le-antisymm a b), eq-eqb r 0 (j .none m)) (tt, none-near (le-antisymm a b) m (valF (ofBits binary64 0)) (eq-reflF (frac 0 0 1)))
         go (yes a) (yes b) (inr m) = rw (eq-eqb e 1023 (le-antisymm a b), ne-eqb r 0 (positive r (j .big m))) (one-near (le-antisymm a b) (j .big m))

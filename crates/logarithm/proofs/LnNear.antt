@@ -26,6 +26,7 @@ use Rattle.fixed_point.proofs.Decode.{positive-bits, bits-from, normal-value}
 use Rattle.series.specs.Sums.{eqF}
 use Rattle.series.specs.Exact.{LnValue}
 use Rattle.series.specs.Distance.{within}
+use Rattle.series.proofs.Close.{Close}
 use Rattle.logarithm.specs.Logarithm.{coefficients, core, signed, reduced, lnBits, lnTakes, lnOf}
 use Rattle.logarithm.proofs.CoreBounds.{core-lo, core-hi, q-small, series-small}
 use Rattle.logarithm.proofs.Ranges.{z-small, part-small, moved-lt, moved-ge, moved-few, moved-five}
@@ -172,7 +173,7 @@ module _ (s : Bool) (n u : ℕ) (part : Part s u n (2 ^ 62)) (low : 2 * 2 ^ 62 �
       less : (l : ℕ) → l ≤ 64 → l - 3 < 64
       less l h = omega arith
 
-  pub signed-near : (y v : Frac) → Pos y → (e : ℕ) → e ≤ 2048 → eqF y (frac (u * 2 ^ e) 0 (2 ^ 62 * 2 ^ 1023)) → LnValue y v → within (2 ^ 48) (valF (signed e (flag s) n d)) v
+  pub signed-near : (y v : Frac) → Pos y → (e : ℕ) → e ≤ 2048 → eqF y (frac (u * 2 ^ e) 0 (2 ^ 62 * 2 ^ 1023)) → LnValue y v → Close (within (2 ^ 48)) (signed e (flag s) n d) v
   unfolding signed
   signed-near y v yp e eh given value = join-near s n (2 ^ 62) u (2 ^ sh) (core (n * 2 ^ sh) d sh) signed-parts y v yp e eh given value sh refl signed-joins
 
@@ -186,7 +187,7 @@ cancel a c k = (le-of-eq (go a c k), le-of-eq (sym (go a c k)))
     go : (a c k : ℕ) → a * k * c + 0 * (c * k) ≡ a * (c * k) + 0 * c
     go a c k = ap₂ _+_ (turn a c k) (zero-mul (c * k) ∙ sym (zero-mul c))
 
-pub reduced-near : (m : ℕ) → 2 ^ 63 ≤ m → m < 2 ^ 64 → m % 4 ≡ 0 → (y v : Frac) → Pos y → (e : ℕ) → e ≤ 2047 → eqF y (frac (m * 2 ^ e) 0 (2 ^ 63 * 2 ^ 1023)) → LnValue y v → within (2 ^ 48) (valF (reduced e m)) v
+pub reduced-near : (m : ℕ) → 2 ^ 63 ≤ m → m < 2 ^ 64 → m % 4 ≡ 0 → (y v : Frac) → Pos y → (e : ℕ) → e ≤ 2047 → eqF y (frac (m * 2 ^ e) 0 (2 ^ 63 * 2 ^ 1023)) → LnValue y v → Close (within (2 ^ 48)) (reduced e m) v
 unfolding reduced
 reduced-near m lo hi four y v yp e eh given value = go (decLe 12297829382473034411 m)
   where
@@ -235,12 +236,12 @@ reduced-near m lo hi four y v yp e eh given value = go (decLe 122978293824730344
     down : (m : ℕ) → m < 2 ^ 64 → m / 4 + (4611686018427387904 - m / 4) ≡ 2 ^ 62
     down m h = omega arith
 
-    go : Dec (12297829382473034411 ≤ m) → within (2 ^ 48) (valF (reduced e m)) v
+    go : Dec (12297829382473034411 ≤ m) → Close (within (2 ^ 48)) (reduced e m) v
     go (no l) = rw (lt-ltb m 12297829382473034411 (lt-of-not-le l)) (signed-near false (m / 2 - 4611686018427387904) (m / 2) (up m lo) (half-low m lo) (half-high m (lt-of-not-le l)) y v yp e (less e eh) (twice (m / 2 * 2 ^ e) first) value)
     go (yes l) = rw (le-ltb m 12297829382473034411 l) (signed-near true (4611686018427387904 - m / 4) (m / 4) (down m hi) (quarter-low m l four) (quarter-high m hi) y v yp (e + 1) (next e eh) (twice (m / 4 * 2 ^ (e + 1)) second) value)
 
 -- ---- an f64
-pub bits-near : (b : ℕ) → 4503599627370496 ≤ b → b < 9218868437227405312 → (y v : Frac) → Pos y → eqF y (frac (val b) 0 (2 ^ 1074)) → LnValue y v → within (2 ^ 48) (valF (lnBits b)) v
+pub bits-near : (b : ℕ) → 4503599627370496 ≤ b → b < 9218868437227405312 → (y v : Frac) → Pos y → eqF y (frac (val b) 0 (2 ^ 1074)) → LnValue y v → Close (within (2 ^ 48)) (lnBits b) v
 unfolding lnBits
 bits-near b lo hi y v yp given value =
     reduced-near ((b % 2 ^ 52 + 2 ^ 52) * 2048) (large b) (fit b) (four b) y v yp (b / 2 ^ 52 % 2048) (field-le b) (eq-transF y (frac (val b) 0 (2 ^ 1074)) (frac ((b % 2 ^ 52 + 2 ^ 52) * 2048 * 2 ^ (b / 2 ^ 52 % 2048)) 0 (2 ^ 63 * 2 ^ 1023)) (lit< tt) given same) value
@@ -288,8 +289,8 @@ taken-bits x f t =
     let p = between (ofBits binary64 0x0010_0000_0000_0000) x (ofBits binary64 0x7fef_ffff_ffff_ffff) least-positive largest-positive l (and-r (le (ofBits binary64 0x0010_0000_0000_0000) x) (le x (ofBits binary64 0x7fef_ffff_ffff_ffff)) t) in
     (bits-from x f p 4503599627370496 (lit≤ tt) (lit< tt) l, positive-bits x f p)
 
--- THE THEOREM: for every f64 that `ln` takes, what it holds is within 2 ^ -48 of every value in document 01's bracket of its logarithm
-pub ln-near : (x : Float) → T (fits binary64 x) → (r : Float) → lnOf x ≡ held r → (v : Frac) → LnValue (valF x) v → within (2 ^ 48) (valF r) v
+-- THE THEOREM: for every f64 that `ln` takes, what it holds is finite and within 2 ^ -48 of every value in document 01's bracket of its logarithm
+pub ln-near : (x : Float) → T (fits binary64 x) → (r : Float) → lnOf x ≡ held r → (v : Frac) → LnValue (valF x) v → Close (within (2 ^ 48)) r v
 unfolding lnOf
 ln-near x f r e v value = go (lnTakes x) refl e
   where
@@ -299,9 +300,9 @@ ln-near x f r e v value = go (lnTakes x) refl e
     same : held (lnBits (toBits binary64 x)) ≡ held r → lnBits (toBits binary64 x) ≡ r
     same e = cc
 
-    go : (t : Bool) → lnTakes x ≡ t → cond t (held (lnBits (toBits binary64 x))) (refused 6) ≡ held r → within (2 ^ 48) (valF r) v
+    go : (t : Bool) → lnTakes x ≡ t → cond t (held (lnBits (toBits binary64 x))) (refused 6) ≡ held r → Close (within (2 ^ 48)) r v
     go false q e = absurd (never e)
     go true q e =
         let b = taken-bits x f (subst T (sym q) tt) in
-        subst (λ (z : Float). within (2 ^ 48) (valF z) v) (same e)
+        subst (λ (z : Float). Close (within (2 ^ 48)) z v) (same e)
         (bits-near (toBits binary64 x) (b .0) (b .1) (valF x) v (valF-pos x) (value-is x false (val (toBits binary64 x)) (2 ^ 1074) (normal-value x f (b .0) (b .1))) value)

@@ -26,6 +26,7 @@ use Rattle.fixed_point.proofs.Packed.{flag, top-lo, top-hi}
 use Rattle.series.specs.Sums.{natF, eqF}
 use Rattle.series.specs.Exact.{LnValue, Ln1pValue}
 use Rattle.series.specs.Distance.{within}
+use Rattle.series.proofs.Close.{Close, value-finite}
 use Rattle.logarithm.specs.Logarithm.{core, join, small1p, moved1p, large1p, bits1p, value1p, ln1pTakes, ln1pOf}
 use Rattle.logarithm.proofs.CoreBounds.{core-lo, core-hi}
 use Rattle.logarithm.proofs.Ranges.{zeros-from, fours, asked-1p, part-of-two, two-le, part-small, plus-lt, minus-lt, minus-pos}
@@ -47,7 +48,7 @@ plus-is s x u a c p e part = eq-transF (addF (natF 1) x) (addF (natF 1) (sgn s a
 
 -- ---- |v| from 1/4 on
 module _ (y v : Frac) (yp : Pos y) (value : LnValue y v) where
-  moved-near : (f k : ℕ) → 1021 ≤ f → f ≤ 1043 → 0 < k → k < 2 ^ 55 → eqF y (frac (k * 2 ^ (f - 1)) 0 (2 ^ 1074)) → within (2 ^ 48) (valF (moved1p f k)) v
+  moved-near : (f k : ℕ) → 1021 ≤ f → f ≤ 1043 → 0 < k → k < 2 ^ 55 → eqF y (frac (k * 2 ^ (f - 1)) 0 (2 ^ 1074)) → Close (within (2 ^ 48)) (moved1p f k) v
   unfolding moved1p
   moved-near f k lo hi p h given =
       reduced-near (k * 2 ^ l) (top-lo k p fit) (top-hi k p fit) (fours k l (two l (zeros-from k 55 (lit< tt) h))) y v yp (f + 11 - l) (wide f l hi)
@@ -73,7 +74,7 @@ module _ (y v : Frac) (yp : Pos y) (value : LnValue y v) where
       numbers : k * 2 ^ (f - 1) * 4096 ≡ k * 2 ^ leadingZeros 64 k * 2 ^ (f + 11 - leadingZeros 64 k)
       numbers = mul-assoc k (2 ^ (f - 1)) 4096 ∙ ap (λ (x : ℕ). k * x) (sym (pow-add 2 (f - 1) 12) ∙ ap (λ (x : ℕ). 2 ^ x) (places f (leadingZeros 64 k) lo (leading-le 64 k)) ∙ pow-add 2 (leadingZeros 64 k) (f + 11 - leadingZeros 64 k)) ∙ sym (mul-assoc k (2 ^ leadingZeros 64 k) (2 ^ (f + 11 - leadingZeros 64 k)))
 
-  pub large-near : (s : Bool) (f m : ℕ) → 1021 ≤ f → f + 21 * flag s ≤ 1043 → m < 2 ^ 53 → 2 ^ 52 ≤ m → ((u : ℕ) → Part s u (m * 2 ^ (f - 1)) (2 ^ 1074) → eqF y (frac u 0 (2 ^ 1074))) → within (2 ^ 48) (valF (large1p (flag s) f m)) v
+  pub large-near : (s : Bool) (f m : ℕ) → 1021 ≤ f → f + 21 * flag s ≤ 1043 → m < 2 ^ 53 → 2 ^ 52 ≤ m → ((u : ℕ) → Part s u (m * 2 ^ (f - 1)) (2 ^ 1074) → eqF y (frac u 0 (2 ^ 1074))) → Close (within (2 ^ 48)) (large1p (flag s) f m) v
   unfolding large1p
   large-near s f m lo hi fit least given = go s hi given
     where
@@ -104,7 +105,7 @@ module _ (y v : Frac) (yp : Pos y) (value : LnValue y v) where
       back : (x m : ℕ) → m ≤ x → x - m + m ≡ x
       back x m h = omega arith
 
-      go : (s : Bool) → f + 21 * flag s ≤ 1043 → ((u : ℕ) → Part s u (m * 2 ^ (f - 1)) (2 ^ 1074) → eqF y (frac u 0 (2 ^ 1074))) → within (2 ^ 48) (valF (large1p (flag s) f m)) v
+      go : (s : Bool) → f + 21 * flag s ≤ 1043 → ((u : ℕ) → Part s u (m * 2 ^ (f - 1)) (2 ^ 1074) → eqF y (frac u 0 (2 ^ 1074))) → Close (within (2 ^ 48)) (large1p (flag s) f m) v
       go false k given =
           moved-near f (2 ^ (1075 - f) + m) lo (plain f k) (more (2 ^ (1075 - f)) m least) (plus-lt (2 ^ (1075 - f)) m one-le fit)
           (given ((2 ^ (1075 - f) + m) * 2 ^ (f - 1)) (add-mul (2 ^ (1075 - f)) m (2 ^ (f - 1)) ∙ ap (λ (x : ℕ). x + m * 2 ^ (f - 1)) (whole-is (plain f k))))
@@ -229,7 +230,7 @@ module _ (s : Bool) (n sh d u : ℕ) (one-up : 1 ≤ sh) (room : sh < 64) (least
     none = λ (e : n ≡ 0). core-none n d sh (asked .0) (asked .1) (asked .2) (asked .3) e;
   }
 
-  near-one : (y v : Frac) → Pos y → eqF y (frac u 0 o) → LnValue y v → within (2 ^ 48) (valF (join 1023 (flag s) (core n d sh) sh)) v
+  near-one : (y v : Frac) → Pos y → eqF y (frac u 0 o) → LnValue y v → Close (within (2 ^ 48)) (join 1023 (flag s) (core n d sh) sh) v
   near-one y v yp given value =
       join-near s n o u (2 ^ sh) (core n d sh) small-parts y v yp 1023 (lit≤ tt) (eq-transF y (frac u 0 o) (frac (u * 2 ^ 1023) 0 (o * 2 ^ 1023)) o-pos given (eq-symF (frac (u * 2 ^ 1023) 0 (o * 2 ^ 1023)) (frac u 0 o) (cancel u o (2 ^ 1023)))) value sh refl small-joins
 
@@ -286,7 +287,7 @@ module _ (y v : Frac) (yp : Pos y) (value : LnValue y v) (f m : ℕ) (lo : 969 �
       four : (n : ℕ) → n < 2 ^ 61 → 4 * n ≤ 2 ^ 62 * 2
       four n h = omega arith
 
-  pub small-near : (s : Bool) → ((u : ℕ) → Part s u (m * 2 ^ (f - 1)) (2 ^ 1074) → eqF y (frac u 0 (2 ^ 1074))) → within (2 ^ 48) (valF (small1p (flag s) f m)) v
+  pub small-near : (s : Bool) → ((u : ℕ) → Part s u (m * 2 ^ (f - 1)) (2 ^ 1074) → eqF y (frac u 0 (2 ^ 1074))) → Close (within (2 ^ 48)) (small1p (flag s) f m) v
   unfolding small1p
   small-near false given =
       near-one false (m * 256) sh (9223372036854775808 + q) (one + m * 256) one-up room n-ge n-lt (low q) (high q q-lt) refl (up one (m * 256) (q * 2 ^ sh) (2 ^ sh) ((9223372036854775808 + q) * 2 ^ sh) q-hi d-is) (down one (m * 256) (q * 2 ^ sh) (2 ^ sh) ((9223372036854775808 + q) * 2 ^ sh) q-lo d-is) y v yp
@@ -358,8 +359,8 @@ module _ (x : Float) (s : Bool) (m : ℕ) (fit : m < 9223372036854775808) (is : 
   plus-value a h u p = plus-is s (valF x) u a (2 ^ 1074) (pow-pos 1074) (value-is x s a (2 ^ 1074) h) p
 
   -- v itself
-  own-near : (a : ℕ) → HasValue x s a (2 ^ 1074) → 2 ^ 54 * a ≤ 2 ^ 1074 → within (2 ^ 48) (valF x) v
-  own-near a h tiny = go s (value-is x s a (2 ^ 1074) h) (plus-value a h)
+  own-near : (a : ℕ) → HasValue x s a (2 ^ 1074) → 2 ^ 54 * a ≤ 2 ^ 1074 → Close (within (2 ^ 48)) x v
+  own-near a h tiny = (value-finite x s a (2 ^ 1074) h, go s (value-is x s a (2 ^ 1074) h) (plus-value a h))
     where
       less : (a c : ℕ) → 2 ^ 54 * a ≤ c → c - a + a ≡ c
       less a c h = omega arith
@@ -371,7 +372,7 @@ module _ (x : Float) (s : Bool) (m : ℕ) (fit : m < 9223372036854775808) (is : 
   value-at : (a : ℕ) → HasValue (ofBits binary64 (signBit s + m)) s a (2 ^ 1074) → HasValue x s a (2 ^ 1074)
   value-at a h = subst (λ (z : Float). HasValue z s a (2 ^ 1074)) is h
 
-  below-near : m / 4503599627370496 < 969 → within (2 ^ 48) (valF x) v
+  below-near : m / 4503599627370496 < 969 → Close (within (2 ^ 48)) x v
   below-near h = go (decLe 4503599627370496 m)
     where
       few : (m : ℕ) → m < 4503599627370496 → 2 ^ 54 * m ≤ 2 ^ 54 * 2 ^ 52
@@ -383,12 +384,12 @@ module _ (x : Float) (s : Bool) (m : ℕ) (fit : m < 9223372036854775808) (is : 
       wide : (m : ℕ) → m / 4503599627370496 < 969 → m < 9218868437227405312
       wide m h = omega arith
 
-      go : Dec (4503599627370496 ≤ m) → within (2 ^ 48) (valF x) v
+      go : Dec (4503599627370496 ≤ m) → Close (within (2 ^ 48)) x v
       go (no l) = own-near m (value-at m (small-is s m (lt-of-not-le l))) (le-trans (few m (lt-of-not-le l)) (lit≤ tt))
       go (yes l) = own-near (val m) (value-at (val m) (bits-is s m l (wide m h))) (le-trans (mul-le-mul-left (2 ^ 54) (val-mono m 4363988038922010624 l (under m h))) (lit≤ tt))
 
   -- the series
-  above-near : 969 ≤ m / 4503599627370496 → within (2 ^ 48) (valF (bits1p (signBit s + m))) v
+  above-near : 969 ≤ m / 4503599627370496 → Close (within (2 ^ 48)) (bits1p (signBit s + m)) v
   unfolding bits1p
   above-near h =
       rw (field-is s m fit, sign-is s m fit, digits-are s m)
@@ -409,7 +410,7 @@ module _ (x : Float) (s : Bool) (m : ℕ) (fit : m < 9223372036854775808) (is : 
       given : (u : ℕ) → Part s u ((m % 4503599627370496 + 4503599627370496) * 2 ^ (m / 4503599627370496 - 1)) (2 ^ 1074) → eqF (addF (natF 1) (valF x)) (frac u 0 (2 ^ 1074))
       given u p = plus-value ((m % 4503599627370496 + 4503599627370496) * 2 ^ (m / 4503599627370496 - 1)) (subst (λ (z : ℕ). HasValue x s (z * 2 ^ (m / 4503599627370496 - 1)) (2 ^ 1074)) (add-comm 4503599627370496 (m % 4503599627370496)) (value-at (val m) (bits-is s m (lo m h) (hi m (flag s) range)))) u p
 
-      go : Dec (1021 ≤ m / 4503599627370496) → within (2 ^ 48) (valF (cond (ltb (m / 4503599627370496) 1021) (small1p (flag s) (m / 4503599627370496) (m % 4503599627370496 + 2 ^ 52)) (large1p (flag s) (m / 4503599627370496) (m % 4503599627370496 + 2 ^ 52)))) v
+      go : Dec (1021 ≤ m / 4503599627370496) → Close (within (2 ^ 48)) (cond (ltb (m / 4503599627370496) 1021) (small1p (flag s) (m / 4503599627370496) (m % 4503599627370496 + 2 ^ 52)) (large1p (flag s) (m / 4503599627370496) (m % 4503599627370496 + 2 ^ 52))) v
       go (no l) = rw (lt-ltb (m / 4503599627370496) 1021 (lt-of-not-le l)) (small-near (addF (natF 1) (valF x)) v y-pos value (m / 4503599627370496) (m % 4503599627370496 + 4503599627370496) h (lt-of-not-le l) (M-lo m) (M-hi m) s given)
       go (yes l) = rw (le-ltb (m / 4503599627370496) 1021 l) (large-near (addF (natF 1) (valF x)) v y-pos value s (m / 4503599627370496) (m % 4503599627370496 + 4503599627370496) l range (M-hi m) (M-lo m) given)
 
@@ -421,8 +422,8 @@ taken-range x f t =
     range-1p x f (is-true (lt (neg (ofBits binary64 0x3ff0_0000_0000_0000)) x) (and-l (lt (neg (ofBits binary64 0x3ff0_0000_0000_0000)) x) (le x (ofBits binary64 0x4130_0000_0000_0000)) t))
     (is-true (le x (ofBits binary64 0x4130_0000_0000_0000)) (and-r (lt (neg (ofBits binary64 0x3ff0_0000_0000_0000)) x) (le x (ofBits binary64 0x4130_0000_0000_0000)) t))
 
--- THE THEOREM: for every f64 that `ln_1p` takes, what it holds is within 2 ^ -48 of every value in document 01's bracket of ln (1 + v), 1 + v being exact
-pub ln-1p-near : (x : Float) → T (fits binary64 x) → (r : Float) → ln1pOf x ≡ held r → (v : Frac) → Ln1pValue (valF x) v → within (2 ^ 48) (valF r) v
+-- THE THEOREM: for every f64 that `ln_1p` takes, what it holds is finite and within 2 ^ -48 of every value in document 01's bracket of ln (1 + v), 1 + v being exact
+pub ln-1p-near : (x : Float) → T (fits binary64 x) → (r : Float) → ln1pOf x ≡ held r → (v : Frac) → Ln1pValue (valF x) v → Close (within (2 ^ 48)) r v
 unfolding ln1pOf value1p
 ln-1p-near x f r e v value = go (ln1pTakes x) refl e
   where
@@ -432,8 +433,8 @@ ln-1p-near x f r e v value = go (ln1pTakes x) refl e
     same : (w : Float) → held w ≡ held r → w ≡ r
     same w e = cc
 
-    at : (b : ℕ) → ofBits binary64 b ≡ x → b / 2 ^ 52 % 2048 + 21 * (b / 2 ^ 63) ≤ 1043 → (s : Bool) × (m : ℕ) × (b ≡ signBit s + m) × (m < 9223372036854775808) → within (2 ^ 48) (valF (cond (ltb (b / 2 ^ 52 % 2048) 969) x (bits1p b))) v
-    at b is range (s, m, q, h) = subst (λ (z : ℕ). within (2 ^ 48) (valF (cond (ltb (z / 2 ^ 52 % 2048) 969) x (bits1p z))) v) (sym q) (kinds (decLe 969 (m / 4503599627370496)))
+    at : (b : ℕ) → ofBits binary64 b ≡ x → b / 2 ^ 52 % 2048 + 21 * (b / 2 ^ 63) ≤ 1043 → (s : Bool) × (m : ℕ) × (b ≡ signBit s + m) × (m < 9223372036854775808) → Close (within (2 ^ 48)) (cond (ltb (b / 2 ^ 52 % 2048) 969) x (bits1p b)) v
+    at b is range (s, m, q, h) = subst (λ (z : ℕ). Close (within (2 ^ 48)) (cond (ltb (z / 2 ^ 52 % 2048) 969) x (bits1p z)) v) (sym q) (kinds (decLe 969 (m / 4503599627370496)))
       where
         is' : ofBits binary64 (signBit s + m) ≡ x
         is' = ap (ofBits binary64) (sym q) ∙ is
@@ -441,12 +442,12 @@ ln-1p-near x f r e v value = go (ln1pTakes x) refl e
         range' : m / 4503599627370496 + 21 * flag s ≤ 1043
         range' = range-is s m h (subst (λ (z : ℕ). z / 2 ^ 52 % 2048 + 21 * (z / 2 ^ 63) ≤ 1043) q range)
 
-        kinds : Dec (969 ≤ m / 4503599627370496) → within (2 ^ 48) (valF (cond (ltb ((signBit s + m) / 2 ^ 52 % 2048) 969) x (bits1p (signBit s + m)))) v
+        kinds : Dec (969 ≤ m / 4503599627370496) → Close (within (2 ^ 48)) (cond (ltb ((signBit s + m) / 2 ^ 52 % 2048) 969) x (bits1p (signBit s + m))) v
         kinds (yes l) = rw (field-is s m h, le-ltb (m / 4503599627370496) 969 l) (above-near x s m h is' range' v value l)
         kinds (no l) = rw (field-is s m h, lt-ltb (m / 4503599627370496) 969 (lt-of-not-le l)) (below-near x s m h is' range' v value (lt-of-not-le l))
 
-    go : (t : Bool) → ln1pTakes x ≡ t → cond t (held (cond (ltb (toBits binary64 x / 2 ^ 52 % 2048) 969) x (bits1p (toBits binary64 x)))) (refused 6) ≡ held r → within (2 ^ 48) (valF r) v
+    go : (t : Bool) → ln1pTakes x ≡ t → cond t (held (cond (ltb (toBits binary64 x / 2 ^ 52 % 2048) 969) x (bits1p (toBits binary64 x)))) (refused 6) ≡ held r → Close (within (2 ^ 48)) r v
     go false q e = absurd (never e)
     go true q e =
-        subst (λ (z : Float). within (2 ^ 48) (valF z) v) (same (cond (ltb (toBits binary64 x / 2 ^ 52 % 2048) 969) x (bits1p (toBits binary64 x))) e)
+        subst (λ (z : Float). Close (within (2 ^ 48)) z v) (same (cond (ltb (toBits binary64 x / 2 ^ 52 % 2048) 969) x (bits1p (toBits binary64 x))) e)
         (at (toBits binary64 x) (ofBits-toBits binary64 x f) (taken-range x f (subst T (sym q) tt)) (sign-of (toBits binary64 x) (toBits-lt binary64 x f)))

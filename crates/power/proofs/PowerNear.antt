@@ -16,13 +16,14 @@ use Rattle.series.specs.Sums.{eqF}
 use Rattle.series.specs.Exact.{PowerValue}
 use Rattle.series.specs.Distance.{within}
 use Rattle.series.proofs.Constants.{leb→leF}
+use Rattle.series.proofs.Close.{Close}
 use Rattle.fixed_point.proofs.Horner.{ring as sums}
 use Rattle.logarithm.proofs.Fractions.{mul-plain, mul-neg-left, mul-neg-neg}
 use Rattle.exponential.specs.Raise.{raiseOf}
 use Rattle.exponential.proofs.Bounds.{Bound, bound-eq, bound-up, bound-add, bound-mul}
 use Rattle.exponential.proofs.Position.{M}
 use Rattle.exponential.proofs.Value.{Within}
-use Rattle.exponential.proofs.RaiseNear.{raise-near}
+use Rattle.exponential.proofs.RaiseNear.{raise-finite, raise-near}
 use Rattle.binary_log.specs.BinaryLog.{baseInside, logOf}
 use Rattle.power.specs.Power.{exponentInside, sizeOf, exponentOf, productOf, wordOf, powerOf, powfOf}
 use Rattle.power.specs.declared.FixedExponent.{FixedExponent}
@@ -192,14 +193,16 @@ module _ (x : Float) (fx : T (fits binary64 x)) (hx : T (baseInside x)) (s : Boo
           two : (a d : ℕ) → 0 * 1 + 0 * d ≤ 192 * d + a * 1
           two a d = omega arith
 
-  raised-near : (r : Frac) → PowerValue (valF x) (valF y) r → within (2 ^ 50) (valF (raiseOf (wordOf (logOf x) (exponentOf y)))) r
+  raised-near : (r : Frac) → PowerValue (valF x) (valF y) r → Close (within (2 ^ 50)) (raiseOf (wordOf (logOf x) (exponentOf y))) r
   raised-near r p =
-      subst (λ (w : ℕ). within (2 ^ 50) (valF (raiseOf w)) r) (sym word-is)
-      (loosen (valF (raiseOf w)) r
-      (raise-near w 217 (mulF (valF y) (p .l)) r (word-range t .0) (word-range t .1) (lit≤ tt) (mulF-pos (valF y) (p .l) (valF-pos y) (p .isLn .proper .0))
-      (product-near (valF y) (p .l) (signedLog (logOf x)) (frac w (1023 * 2 ^ 53) (2 ^ 53)) (valF-pos y) (p .isLn .proper .0) (sgn-pos (logOf x .negative) L (2 ^ 61) (lit< tt)) (lit< tt) y-bound (log-near x fx hx (p .l) (p .isLn))
-      (word-near s (logOf x .negative) (m * up e) (down e) L v v-le (product-lo (m * up e) (down e) Y L v below above (log-le x fx hx) (div-mul-le-self (Y * L) (2 ^ 64)) (next (Y * L))) (product-hi (m * up e) (down e) Y L v below above (log-le x fx hx) (div-mul-le-self (Y * L) (2 ^ 64)) (next (Y * L)))))
-      (p .isExp)))
+      subst (λ (w : ℕ). Close (within (2 ^ 50)) (raiseOf w) r) (sym word-is) (
+        raise-finite w (word-range t .1),
+        loosen (valF (raiseOf w)) r
+            (raise-near w 217 (mulF (valF y) (p .l)) r (word-range t .0) (word-range t .1) (lit≤ tt) (mulF-pos (valF y) (p .l) (valF-pos y) (p .isLn .proper .0))
+            (product-near (valF y) (p .l) (signedLog (logOf x)) (frac w (1023 * 2 ^ 53) (2 ^ 53)) (valF-pos y) (p .isLn .proper .0) (sgn-pos (logOf x .negative) L (2 ^ 61) (lit< tt)) (lit< tt) y-bound (log-near x fx hx (p .l) (p .isLn))
+            (word-near s (logOf x .negative) (m * up e) (down e) L v v-le (product-lo (m * up e) (down e) Y L v below above (log-le x fx hx) (div-mul-le-self (Y * L) (2 ^ 64)) (next (Y * L))) (product-hi (m * up e) (down e) Y L v below above (log-le x fx hx) (div-mul-le-self (Y * L) (2 ^ 64)) (next (Y * L)))))
+            (p .isExp)),
+      )
     where
       t : Bool
       t = Bool·beq (logOf x .negative) s
@@ -213,8 +216,8 @@ module _ (x : Float) (fx : T (fits binary64 x)) (hx : T (baseInside x)) (s : Boo
       above : m * up e * 2 ^ 56 ≤ (Y + 1) * down e
       above = size-above s m e fy bound
 
--- 'The distance holds from every value in the bracket': whatever value `powf` holds, at all f64 x and y but the exponent 1, where it is x itself
-pub power-near : (x y r : Float) (e : Frac) → T (fits binary64 x) → T (fits binary64 y) → exponentOf y .one ≡ false → powfOf x y ≡ held r → PowerValue (valF x) (valF y) e → within (2 ^ 50) (valF r) e
+-- 'The distance holds from every value in the bracket': whatever value `powf` holds, at all f64 x and y but the exponent 1, where it is x itself; and it is finite
+pub power-near : (x y r : Float) (e : Frac) → T (fits binary64 x) → T (fits binary64 y) → exponentOf y .one ≡ false → powfOf x y ≡ held r → PowerValue (valF x) (valF y) e → Close (within (2 ^ 50)) r e
 unfolding powfOf _>>=_ demand powerOf
 power-near x y r e fx fy other h p = go (baseInside x) (exponentInside y) refl refl h
   where
@@ -224,16 +227,16 @@ power-near x y r e fx fy other h p = go (baseInside x) (exponentInside y) refl r
     same : (a : Float) → held a ≡ held r → a ≡ r
     same a e = cc
 
-    at : T (baseInside x) → T (exponentInside y) → within (2 ^ 50) (valF (raiseOf (wordOf (logOf x) (exponentOf y)))) e
+    at : T (baseInside x) → T (exponentInside y) → Close (within (2 ^ 50)) (raiseOf (wordOf (logOf x) (exponentOf y))) e
     at hx hy = by (finite-is y hy)
       where
-        by : (s : Bool) × (m : ℕ) × (t : ℤ) × (y ≡ fin s m t) × (m * up t ≤ 192 * down t) → within (2 ^ 50) (valF (raiseOf (wordOf (logOf x) (exponentOf y)))) e
-        by (s, m, t, q, b) = subst (λ (z : Float). within (2 ^ 50) (valF (raiseOf (wordOf (logOf x) (exponentOf z)))) e) (sym q) (raised-near x fx hx s m t (subst (λ (z : Float). T (fits binary64 z)) q fy) (subst (λ (z : Float). T (exponentInside z)) q hy) b e (subst (λ (z : Float). PowerValue (valF x) (valF z) e) q p))
+        by : (s : Bool) × (m : ℕ) × (t : ℤ) × (y ≡ fin s m t) × (m * up t ≤ 192 * down t) → Close (within (2 ^ 50)) (raiseOf (wordOf (logOf x) (exponentOf y))) e
+        by (s, m, t, q, b) = subst (λ (z : Float). Close (within (2 ^ 50)) (raiseOf (wordOf (logOf x) (exponentOf z))) e) (sym q) (raised-near x fx hx s m t (subst (λ (z : Float). T (fits binary64 z)) q fy) (subst (λ (z : Float). T (exponentInside z)) q hy) b e (subst (λ (z : Float). PowerValue (valF x) (valF z) e) q p))
 
-    go : (s t : Bool) → baseInside x ≡ s → exponentInside y ≡ t → (demand 6 s >>= λ _. demand 6 t >>= λ _. held (powerOf (logOf x) (exponentOf y))) ≡ held r → within (2 ^ 50) (valF r) e
+    go : (s t : Bool) → baseInside x ≡ s → exponentInside y ≡ t → (demand 6 s >>= λ _. demand 6 t >>= λ _. held (powerOf (logOf x) (exponentOf y))) ≡ held r → Close (within (2 ^ 50)) r e
     go false t q k h = absurd (never h)
     go true false q k h = absurd (never h)
     go true true q k h =
-        subst (λ (z : Float). within (2 ^ 50) (valF z) e)
+        subst (λ (z : Float). Close (within (2 ^ 50)) z e)
         (sym (ap (λ (t : Bool). cond t (logOf x .base) (raiseOf (wordOf (logOf x) (exponentOf y)))) other) ∙ same (powerOf (logOf x) (exponentOf y)) h)
         (at (subst T (sym q) tt) (subst T (sym k) tt))

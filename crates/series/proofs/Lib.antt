@@ -1,1 +1,3 @@
 pub mod Constants
+pub mod Close
+pub mod BracketEnds

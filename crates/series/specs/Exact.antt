@@ -36,6 +36,13 @@ timesHigh neg k = mulF (sgn neg k 1) (cond neg ln2Low ln2High)
 abbrev pub zOf : Frac → Frac
 zOf w = divF (subF w (natF 1)) (addF w (natF 1))
 
+-- the ends of the bracket, k negative if `neg`
+abbrev pub lnLow : Bool → ℕ → Frac → Frac
+lnLow neg k w = addF (subF (twiceOdds 24 (zOf w)) (oddTail 24 (zOf w))) (timesLow neg k)
+
+abbrev pub lnHigh : Bool → ℕ → Frac → Frac
+lnHigh neg k w = addF (addF (twiceOdds 24 (zOf w)) (oddTail 24 (zOf w))) (timesHigh neg k)
+
 -- 'ln y: y = 2^k·w with 2/3 ≤ w < 4/3, z = (w−1)/(w+1)': v is in the bracket of ln y
 pub record LnValue (y v : Frac) : Type 0 where
   pub neg : Bool
@@ -44,8 +51,8 @@ pub record LnValue (y v : Frac) : Type 0 where
   pub proper : Pos v × Pos w
   pub splits : eqF y (scaleF neg k w)
   pub range : leF (frac 2 0 3) w × ltF w (frac 4 0 3)
-  pub low : leF (addF (subF (twiceOdds 24 (zOf w)) (oddTail 24 (zOf w))) (timesLow neg k)) v
-  pub high : leF v (addF (addF (twiceOdds 24 (zOf w)) (oddTail 24 (zOf w))) (timesHigh neg k))
+  pub low : leF (lnLow neg k w) v
+  pub high : leF v (lnHigh neg k w)
 
 -- ---- exp: 'the sum of t^i/i! for i below 30, tail 2|t|^30/30!'
 abbrev pub expTerm : Frac → ℕ → Frac
@@ -61,6 +68,13 @@ expTail t = overF (mulF (natF 2) (powF (absF t) 30)) (factorial 30)
 abbrev pub rest : Frac → Bool → ℕ → Frac → Frac
 rest v neg k l = subF v (mulF (sgn neg k 1) l)
 
+-- 2^k times the sum at t, less and more its tail
+abbrev pub expLow : Bool → ℕ → Frac → Frac
+expLow neg k t = scaleF neg k (subF (expSum t) (expTail t))
+
+abbrev pub expHigh : Bool → ℕ → Frac → Frac
+expHigh neg k t = scaleF neg k (addF (expSum t) (expTail t))
+
 -- 'exp v: v = kM + t with .. −M/2 ≤ t < M/2; over the t that the bracket allows' (v - k l for every value l of ln 2 in its bracket) '.., times 2^k': e is in the bracket of exp v
 pub record ExpValue (v e : Frac) : Type 0 where
   pub neg : Bool
@@ -69,8 +83,8 @@ pub record ExpValue (v e : Frac) : Type 0 where
   pub proper : Pos e × Pos l
   pub range : leF (negF (overF middle 2)) (rest v neg k middle) × ltF (rest v neg k middle) (overF middle 2)
   pub ln2 : leF ln2Low l × leF l ln2High
-  pub low : leF (scaleF neg k (subF (expSum (rest v neg k l)) (expTail (rest v neg k l)))) e
-  pub high : leF e (scaleF neg k (addF (expSum (rest v neg k l)) (expTail (rest v neg k l))))
+  pub low : leF (expLow neg k (rest v neg k l)) e
+  pub high : leF e (expHigh neg k (rest v neg k l))
 
 -- ---- what stands on these two
 -- '`ln_1p` v is ln(1 + v)'

@@ -1,4 +1,10 @@
 -- `domthelv::domthelv_tanh` meets its contract. Assumes nothing.
+use mathlib.Core.Path.{sym, subst}
+use lib.Dec.{T}
+use Rattle.elementary.specs.Port.{port}
+use Rattle.elementary.specs.Promised.{TanhAt}
+use Rattle.elementary.proofs.Promised.{promised}
+use Rattle.domthelv.proofs.Elementary.{delivers}
 use borrow.Author.Needs.{needs}
 use Rattle.domthelv.proofs.domthelv_tanh.Statement.{statement}
 use Rattle.domthelv.proofs.domthelv_tanh.Tie as tie
@@ -10,7 +16,9 @@ deliver-requires : tie.Need-deliver-requires
 deliver-requires c κs = search needs
 
 returns : tie.Need-returns
-returns c = rw ((c .before .before .tanh) .ensures) at ((c .deliver) .ensures)
+returns c =
+    let a = c .before .before .before in
+    delivers (TanhAt (a .args .x)) (c .before .before .tanh .result) (port .tanh (a .args .x)) _ _ _ (c .before .before .tanh .ensures) (c .deliver .ensures) (promised .tanh (a .args .x) (subst T (sym (a .good .0 .1)) tt))
 
 pub domthelv-tanh-spec : {M : Type 1} → statement M
 domthelv-tanh-spec = tie.close (tie.spec tanh-requires deliver-requires returns)
