@@ -3,10 +3,13 @@ import math
 import os
 import re
 import struct
+from decimal import Decimal, localcontext
 from fractions import Fraction
 
 from . import chains, promises, specs
 from .library import same
+from .scopes import Definition
+from .terms import spell
 
 F64 = ("binary64",)
 PORT = ["sqrt", "ln", "ln1p", "exp", "expm1", "tanh", "powf"]
@@ -66,6 +69,28 @@ class Cases:
     def records(self):
         with open(self.path("crates/elementary_main/data/vectors.bin"), "rb") as f:
             return list(struct.iter_unpack("<4Q", f.read()))
+
+    # the numbers of their tables, which the vectors' last bits do not all show: as the comments beside them say, by `decimal`
+    def tables(self):
+        with localcontext() as c:
+            c.prec = 60
+            two = Decimal(2)
+            ln2 = two.ln()
+            wanted = {
+                ("exponential", "Powers", "powers"): [two ** (63 + Decimal(j) / 128) for j in range(128)],
+                ("exponential", "Powers", "terms"): [two ** (64 - 7 * (i - 1)) * ln2**i / math.factorial(i) for i in range(1, 6)],
+                ("exponential", "ExpM1", "overTerms"): [(two**49 + Decimal(1) / 16) * k for k in (15120, 420, 1)],
+                ("exponential", "ExpM1", "underTerms"): [(two**49 + Decimal(1) / 16) * k for k in (15120, 1680, 15)],
+                ("binary_log", "Tables", "factors"): [two**18 / (129 + j) for j in range(128)],
+                ("binary_log", "Tables", "logs"): [-(two**61) * (Decimal(2**18 // (129 + j)) / 2048).ln() / ln2 for j in range(128)],
+                ("binary_log", "Tables", "oddTerms"): [two ** (63 - 6 * (i - 1)) / (i * ln2) for i in (1, 3, 5, 7)],
+                ("binary_log", "Tables", "evenTerms"): [two ** (63 - 6 * (i - 1)) / (i * ln2) for i in (2, 4, 6, 8)],
+                ("logarithm", "Logarithm", "coefficients"): [two**63 / (2 * i + 1) for i in range(11)],
+            }
+            for place, numbers in wanted.items():
+                for k, (got, number) in enumerate(zip(self.c.get(*place)(), numbers, strict=True)):
+                    # a whole number may come out a last digit short
+                    yield compared(f"{'.'.join(place)}, entry {k}", got, int(number + Decimal(10) ** -20))
 
     # their exact values and distances, as they are promised
     def promises(self):
@@ -175,6 +200,39 @@ class Cases:
         yield compared("base 32", power(32.0, 2.0), ("held", 1024.0))
         yield compared("the base above 32", power(math.nextafter(32.0, 64.0), 2.0), ("refused", 6))
 
+    # ---- slopes: the rules on fractions, at floats that are short, beside the derivative of a power, a product and a quotient
+    def slopes(self):
+        c = self.c
+        a = c.get("enclosure", "Exact", "exacts")()
+        exactly, g = c.get("enclosure", "Exact", "exactly"), Random(0x56)
+        rule = {name: c.get("dual", "Dual", name) for name in ("addD", "subD", "negD", "mulD", "divD", "powD", "downD", "afterD", "plainD")}
+
+        def dual(*x):
+            return c.record(re=exactly(x[0]), eps=exactly(x[1]))
+        for k in range(50):
+            x, dx, y, dy = (1 + g.next() % 1000 / 64 for _ in range(4))
+            n = g.next() % 5
+            fx, fdx, fy, fdy = map(Fraction, (x, dx, y, dy))
+            wanted = {
+                "addD": (fx + fy, fdx + fdy), "subD": (fx - fy, fdx - fdy), "mulD": (fx * fy, fdx * fy + fx * fdy),
+                "divD": (fx / fy, (fdx * fy - fx * fdy) / fy**2), "afterD": (fy, fdy),
+            }
+            got = {name: rule[name](a, dual(x, dx), dual(y, dy)) for name in wanted}
+            wanted |= {"negD": (-fx, -fdx), "powD": (fx**n, n * fx**n / fx * fdx), "downD": (1 / fx**n, -n / fx**n / fx * fdx), "plainD": (fx, Fraction(0))}
+            got |= {"negD": rule["negD"](a, dual(x, dx)), "powD": rule["powD"](a, dual(x, dx), n), "downD": rule["downD"](a, dual(x, dx), n), "plainD": rule["plainD"](a, exactly(x))}
+            for name, d in got.items():
+                said = tuple(Fraction(q.exact[1][1] - q.exact[1][2], q.exact[1][3]) for q in (d.re, d.eps))
+                yield "slopes", None if said == wanted[name] else f"{name} of {x}, {dx} and {y}, {dy}: {said}, and not {wanted[name]}"
+
+    # ---- that nothing was left out: what the boundary, demand 3, the table and the promises use was evaluated, but for statements about all values
+    def believed(self):
+        c = self.c
+        files = [c.file(*f) for f in (("domthelv", "Operations"), ("domthelv", "Sets"), ("demand_three", "Demand"), ("proved_table", "Table"), ("elementary", "Promised"), ("elementary", "Port"))]
+        for d in sorted((d for d in c.used_by(files) if isinstance(d, Definition)), key=lambda d: d.python):
+            name = f"{d.file.name}.{d.name}"
+            if not (d.is_type and d.clauses[0][2][0] == "→"):
+                yield "believed", None if name in c.reached else f"{name} is not evaluated"
+
     # ---- the quadrature rules: a rule of 10 nodes sums x^k as far as k = 19, the one of 21 as far as 31
     def quadrature(self):
         c, decimal = self.c, self.c.get("number", "Arith", "decimal")
@@ -213,46 +271,48 @@ def worked(name, a, b):
 
 
 class Exact:
-    """The three runs of one two-ended call: floats, enclosures' ends, fractions."""
+    """The runs of one two-ended call: the float operation, the enclosures, the fractions, and the ends."""
 
     def __init__(self, c, m, call):
-        self.c, self.m, self.call = c, m, call
-        self.port = c.get("elementary", "Port", "port")()
-        self.exacts = c.get("enclosure", "Exact", "exacts")()
-        self.calls = c.get("number", "Functions", "calls")(self.exacts, self.port)
-
-    # (ends, float run, exact run), one triple for each number of the answer
-    def runs(self):
-        c, call, t = self.c, self.call, chains.number(self.call.value)
-        kind = "mieSet" if call.what in (9, 13) else "quantumSet"
-        s = c.get("domthelv", "Sets", kind)(*self.m.set)[1]
+        self.c, self.call = c, call
+        port = c.get("elementary", "Port", "port")()
+        runs = [c.get("enclosure", "Enclosure", "enclosures")(), c.get("enclosure", "Exact", "exacts")()]
+        s = c.get("domthelv", "Sets", "mieSet" if call.what in (9, 13) else "quantumSet")(*m.set)[1]
         if call.what in (8, 13):
             crate = "saftvrmie" if call.what == 13 else "saftvrqmie"
-            handed = (s, *call.lengths[:2], t, *chains.floats(call.listed))
-            float_run, exact = c.get(crate, "Pairs", "diameterIjBy")(self.port, *handed), c.get(crate, "Pairs", "diameterRun")(self.exacts, self.port, *handed)
-            return [(c.get(crate + "_diameter_ends", "Operations", "diameterEnds")(self.port, *handed)[1], float_run, exact)]
-        x, rho = map(chains.floats, call.cut(2))
-        if call.what == 9:
-            handed = (s, t, x, rho, self.m.diameters[:call.lengths[2]], call.flag == 1)
-            exact = c.get("saftvrmie_energies", "Energies", "energyRun")(self.exacts, self.calls, *handed)
-            return [(c.get("saftvrmie_energies_ends", "Operation", "dispersionEnds")(self.port, *handed)[1], c.get("saftvrmie_energies", "Energies", "energyBy")(self.port, *handed), exact)]
-        handed = (s, t, x, rho, self.m.table[:call.lengths[2]], call.flag == 1)
-        e = c.get("saftvrqmie_energies_ends", "Operation", "energiesEnds")(self.port, *handed)[1]
-        float_run = c.get("saftvrqmie_energies", "Energies", "energiesBy")(self.port, *handed)[1]
-        exact = c.get("saftvrqmie_energies", "Energies", "contributionsOf")(self.exacts, self.calls, *handed)[1]
-        return [(getattr(e, f), ("held", getattr(float_run, f)), ("held", getattr(exact, f))) for f in e.__slots__]
+            handed = (s, *call.lengths[:2], chains.number(call.value), *chains.floats(call.listed))
+            self.ends, self.float = c.get(crate + "_diameter_ends", "Operations", "diameterEnds")(port, *handed), c.get(crate, "Pairs", "diameterIj")()
+            self.run, self.exact = (c.get(crate, "Pairs", "diameterRun")(a, port, *handed) for a in runs)
+        else:
+            lent = m.diameters if call.what == 9 else m.table
+            handed = (s, chains.number(call.value), *map(chains.floats, call.cut(2)), lent[:call.lengths[2]], call.flag == 1)
+            crate, ends, run = ("saftvrmie_energies", "dispersionEnds", "energyRun") if call.what == 9 else ("saftvrqmie_energies", "energiesEnds", "contributionsOf")
+            self.ends = c.get(crate + "_ends", "Operation", ends)(port, *handed)
+            self.float = c.get(crate, "Energies", "energy" if call.what == 9 else "energies")()
+            calls = c.get("number", "Functions", "calls")
+            self.run, self.exact = (c.get(crate, "Energies", run)(a, calls(a, port), *handed) for a in runs)
+        for x in handed:
+            self.float = self.float(x)
 
+    # what is false: a run without a result, ends that are not those of the enclosures, and fields of `Encloses`
     def fails(self):
-        bad = []
-        for e, float_run, exact in self.runs():
-            if float_run[0] != "held" or exact[0] != "held" or exact[1].exact[0] != "some":
-                bad.append(f"a run has no result: {float_run}")
-            else:
-                bad += self.c.fails("enclosure", "Ends", "Encloses", (e, float_run, exact), {"value": float_run[1], "fraction": exact[1].exact[1]})
-        return bad
+        c, three = self.c, self.call.what == 7
+        if {self.float[0], self.run[0], self.exact[0], self.ends[0]} != {"held"}:
+            return ["a run without a result"]
+        crate, module, sound, ends = ("saftvrqmie_energies_ends", "Operation", "allSound", "eachEnds") if three else ("demand_three", "Demand", "isSound", None)
+        expected = c.get(crate, module, ends)(self.run[1]) if three else c.get("enclosure", "Ends", "endsIn")(self.run[1])
+        if not c.get(crate, module, sound)(self.run[1]) or not same(self.ends[1], expected):
+            return ["ends that are not the enclosures'"]
+        if not three:
+            return c.fails("enclosure", "Ends", "Encloses", (self.ends[1], self.float, self.exact), self.given(self.float[1], self.exact[1]))
+        given = {f: self.given(getattr(self.float[1], spell(f)), getattr(self.exact[1], spell(f))) for f in ("hard-sphere", "dispersion", "non-additive")}
+        return c.fails("saftvrqmie_energies_ends", "Encloses", "EachEncloses", (self.ends[1], self.float, self.exact), given)
+
+    def given(self, value, exact):
+        return {"value": value, "fraction": exact.exact[1] if exact.exact[0] == "some" else None}
 
 
-SECTIONS = ["decimals", "elementary", "promises", "intervals", "table", "quadrature", "mie_ends", "quantum_ends", "mie", "quantum", "refusals", "stages", "exact"]
+SECTIONS = ["decimals", "tables", "elementary", "promises", "intervals", "table", "quadrature", "slopes", "mie_ends", "quantum_ends", "mie", "quantum", "refusals", "stages", "exact", "believed"]
 
 
 def load(folder, texts, whole=False):

@@ -74,7 +74,7 @@ class Promises:
         if which in ("ln", "ln1p"):
             of = q if which == "ln" else 1 + q
             v, parts = self.of_ln(of)
-            return "LnValue", (frac(of),), v, lambda v: parts, ln(of, digits)
+            return ("LnValue", "Ln1pValue")[which == "ln1p"], (frac(q),), v, lambda v: parts, ln(of, digits)
         if which == "powf":
             (l, of_ln), power = self.of_ln(q), Fraction(y)
             e, of_exp = self.of_exp(power * l)
@@ -87,15 +87,22 @@ class Promises:
             return "ExpM1Value", (frac(q),), e - 1, lambda v: {"e": frac(v + 1), "isExp": parts}, by - 1
         return "TanhValue", (frac(q),), (e - 1) / (e + 1), lambda v: {"e": frac((1 + v) / (1 - v)), "isExp": parts}, (by - 1) / (by + 1)
 
+    # what of a record's statements fails; `Ln1pValue` is a name for one at other arguments
+    def fails(self, record, arguments, v, parts):
+        if record == "Ln1pValue":
+            said = self.c.get("series", "Exact", record)(*arguments, frac(v))
+            return self.c.failing(said.record, said.arguments, parts(v))
+        return self.c.fails("series", "Exact", record, (*arguments, frac(v)), parts(v))
+
     def tried(self, which, x, y, answer):
         record, arguments, v, parts, by = self.exact(which, x, y)
         said = []
         if abs(v - by) > CLOSE * abs(by):
             said.append(f"the bracket's middle is {float(v)}, and the value {float(by)}")
-        bad = self.c.fails("series", "Exact", record, (*arguments, frac(v)), parts(v))
+        bad = self.fails(record, arguments, v, parts)
         if bad:
             said.append(f"{record} does not hold its middle: {bad}")
-        if not self.c.fails("series", "Exact", record, (*arguments, frac(v + BESIDE * abs(v))), parts(v + BESIDE * abs(v))):
+        if not self.fails(record, arguments, v + BESIDE * abs(v), parts):
             said.append(f"{record} holds what is beside the value")
         if not (self.near if which == "tanh" else self.within)(2**48, self.value(answer), frac(by)):
             said.append(f"{answer!r} is too far from {float(by)}")

@@ -3,7 +3,7 @@ import re
 
 from . import library
 from .reader import Expressions, NotUnderstood, is_name, read
-from .terms import bare, spell
+from .terms import bare, mentioned, spell
 
 MODULE = re.compile(r"Rattle·(\w+?)(?:·specs)?\.specs\.(.+)$")
 TYPE = ("type",)
@@ -155,6 +155,31 @@ class Names:
                 if len(rest) == 1:
                     return self.member(module, bare(rest[0]), s)
         s.refuse(f"`{name}` is not in scope")
+
+    # the definitions and records that files use, these and those that they use in turn
+    def used_by(self, files):
+        found, waiting = set(), []
+        for file in files:
+            own = [k[1] if k[0] == "definition" else k[2] for k in file.block.names.values() if k[0] in ("definition", "type")]
+            waiting += [x for x in own if x is not None and x.file is file]
+        while waiting:
+            x = waiting.pop()
+            if x in found:
+                continue
+            found.add(x)
+            parts = [(s, body) for s, _, body in x.clauses] if isinstance(x, Definition) else [(x.fields[f], e) for f, e in x.types.items()]
+            for s, e in parts:
+                for name in mentioned(e, set()):
+                    kind = self.known(x.file, x.block, name, s)
+                    waiting += [y for y in kind[1:3] if isinstance(y, (Definition, RecordType))]
+        return found
+
+    # what a name stands for, or nothing where it is bound in the expression
+    def known(self, file, block, name, s):
+        try:
+            return self.find(file, block, {}, name, s)
+        except NotUnderstood:
+            return ()
 
     def fixity(self, block):
         def look(operator):
