@@ -44,17 +44,18 @@ pub record Traced (N : Type 0) : Type 0 where
 abbrev pub numberOf : {N : Type 0} → Ans (Traced N) → Ans N
 numberOf a = a >>= λ x. held (x .number)
 
+-- an answer by the function's name
+abbrev pub named : Answers → Elementary → Float → Ans Float
+named E sqrt x = E .sqrt x
+named E ln x = E .ln x
+named E ln1p x = E .ln1p x
+named E exp x = E .exp x
+named E expm1 x = E .expm1 x
+named E tanh x = E .tanh x
+
 -- Answers that look at the arguments alone, as the port's do.
 abbrev pub unlooking : Answers → HistoryAnswers
-unlooking E = record { one = byName; powf = λ h k x y. E .powf x y }
-  where
-    byName : Elementary → History → Float → Ans Float
-    byName sqrt h x = E .sqrt x
-    byName ln h x = E .ln x
-    byName ln1p h x = E .ln1p x
-    byName exp h x = E .exp x
-    byName expm1 h x = E .expm1 x
-    byName tanh h x = E .tanh x
+unlooking E = record { one = λ f h x. named E f x; powf = λ h k x y. E .powf x y }
 
 -- no answer to any call
 abbrev silent : Answers

@@ -1,5 +1,5 @@
 //! The port beside the Rust, bit for bit. Options: --count N (cases), --seed S, --only CASE, --fuzz N (cases), --exact N (cases),
-//! --spread, --vectors FOLDER.
+//! --spread, --vectors FOLDER, --ends-vectors FOLDER.
 #[cfg(feature = "unproved")]
 extern crate unproved;
 
@@ -7,6 +7,7 @@ extern crate unproved;
 mod calls;
 mod compare;
 mod elementary;
+mod ends_vectors;
 mod exact;
 mod fuzz;
 mod lent;
@@ -35,6 +36,9 @@ fn main() {
     }
     if let Some(at) = std::env::args().position(|w| w == "--vectors") {
         return vectors::write(&std::env::args().nth(at + 1).expect("--vectors wants a folder"));
+    }
+    if let Some(at) = std::env::args().position(|w| w == "--ends-vectors") {
+        return ends_vectors::write(&std::env::args().nth(at + 1).expect("--ends-vectors wants a folder"));
     }
     let lacking: Vec<&str> = port::ALL.iter().filter(|f| !f.1).map(|f| f.0).collect();
     if !lacking.is_empty() {

@@ -1,4 +1,4 @@
-//! Vectors: chains of calls with what the oracle answers, for the program `vectors_main`. docs/VECTORS.md has the layout.
+//! Vectors: chains of calls with what the oracle answers, for the program `vectors_main` and for tools/evaluate. docs/VECTORS.md has the layout.
 use crate::oracle::{self, Lists, MieSet, QuantumSet, State};
 use crate::random::Random;
 use crate::states::{self, Kind};
@@ -20,15 +20,15 @@ const OFTEN: u64 = 25;
 
 /// One record: 24 words, then its list.
 #[derive(Default)]
-struct Record {
-    what: u64,
-    number: u64,
-    count: u64,
-    value: u64,
-    flag: u64,
-    lengths: Vec<u64>,
-    answers: Vec<u64>,
-    list: Vec<u64>,
+pub struct Record {
+    pub what: u64,
+    pub number: u64,
+    pub count: u64,
+    pub value: u64,
+    pub flag: u64,
+    pub lengths: Vec<u64>,
+    pub answers: Vec<u64>,
+    pub list: Vec<u64>,
 }
 
 impl Record {
@@ -45,13 +45,13 @@ impl Record {
 }
 
 /// All NaNs have one pattern.
-fn bits(x: f64) -> u64 {
+pub fn bits(x: f64) -> u64 {
     if x.is_nan() { 0x7ff8_0000_0000_0000 } else { x.to_bits() }
 }
-fn all_bits(list: &[f64]) -> Vec<u64> {
+pub fn all_bits(list: &[f64]) -> Vec<u64> {
     list.iter().map(|x| bits(*x)).collect()
 }
-fn wide(list: &[u8]) -> Vec<u64> {
+pub fn wide(list: &[u8]) -> Vec<u64> {
     list.iter().map(|b| *b as u64).collect()
 }
 /// FNV-1a over the words' bytes, least significant first.
@@ -62,28 +62,28 @@ fn hash(lists: &[&[u64]]) -> u64 {
 
 /// A file's records, the calls in it by operation and number, and what its searches did.
 #[derive(Default)]
-struct File {
+pub struct File {
     bytes: Vec<u8>,
-    met: BTreeMap<(&'static str, u8), u64>,
+    pub met: BTreeMap<(&'static str, u8), u64>,
     spent: [u64; 3],
 }
 
 impl File {
-    fn call(&mut self, name: &'static str, r: Record) {
+    pub fn call(&mut self, name: &'static str, r: Record) {
         *self.met.entry((name, r.number as u8)).or_default() += 1;
         self.write(&r);
     }
     fn write(&mut self, r: &Record) {
         r.words().iter().for_each(|w| self.bytes.extend(w.to_le_bytes()));
     }
-    fn lacks(&self, name: &'static str, number: u8) -> bool {
-        self.met.get(&(name, number)).is_none_or(|n| *n < OFTEN)
+    pub fn lacks(&self, name: &'static str, number: u8, often: u64) -> bool {
+        self.met.get(&(name, number)).is_none_or(|n| *n < often)
     }
     fn calls(&self) -> u64 {
         self.met.values().sum()
     }
     /// Takes a chain over.
-    fn join(&mut self, chain: File) {
+    pub fn join(&mut self, chain: File) {
         self.bytes.extend(chain.bytes);
         chain.met.into_iter().for_each(|(k, n)| *self.met.entry(k).or_default() += n);
         (0..3).for_each(|k| self.spent[k] += chain.spent[k]);
@@ -101,22 +101,22 @@ fn changed(from: u64, old: &[u64], new: &[u64]) -> Vec<(u64, u64)> {
 }
 
 /// What the program holds between calls: a refused call of the parameters leaves a set of count 0, any other leaves all as it was.
-struct Quantum {
-    set: QuantumSet,
-    table: Vec<f64>,
+pub struct Quantum {
+    pub set: QuantumSet,
+    pub table: Vec<f64>,
     counts: Vec<u8>,
-    file: File,
+    pub file: File,
 }
 
 impl Quantum {
-    fn new() -> Self {
+    pub fn new() -> Self {
         let set = QuantumSet { count: 0, m: vec![0.0; 8], sheets: vec![0.0; 384], orders: vec![0; 64] };
         let mut file = File::default();
         file.write(&Record { what: 10, ..Default::default() });
         Quantum { set, table: vec![0.0; 256], counts: vec![0; 192], file }
     }
 
-    fn parameters(&mut self, l: &Lists) -> bool {
+    pub fn parameters(&mut self, l: &Lists) -> bool {
         let answer = oracle::vrq_parameters(l, [8, 384, 64]);
         let floats = [&l.m, &l.sigma, &l.epsilon_k, &l.lr, &l.la, &l.mass, &l.k_ij, &l.l_ij];
         let mut r = Record { what: 1, count: l.count as u64, ..Default::default() };
@@ -130,7 +130,7 @@ impl Quantum {
         held
     }
 
-    fn by_hand(&mut self, set: QuantumSet, table: Vec<f64>) {
+    pub fn by_hand(&mut self, set: QuantumSet, table: Vec<f64>) {
         let mut places = changed(0, &[self.set.count as u64], &[set.count as u64]);
         places.extend(changed(1000, &all_bits(&self.set.m), &all_bits(&set.m)));
         places.extend(changed(2000, &all_bits(&self.set.sheets), &all_bits(&set.sheets)));
@@ -140,7 +140,7 @@ impl Quantum {
         (self.set, self.table) = (set, table);
     }
 
-    fn table(&mut self, t: f64, lent: [usize; 2]) {
+    pub fn table(&mut self, t: f64, lent: [usize; 2]) {
         let answer = oracle::vrq_table(&self.set, t, lent);
         let mut r = Record { what: 2, value: bits(t), lengths: lent.map(|n| n as u64).to_vec(), ..Default::default() };
         match answer {
@@ -167,20 +167,20 @@ impl Quantum {
     }
 }
 
-struct Mie {
-    set: MieSet,
-    diameters: Vec<f64>,
-    file: File,
+pub struct Mie {
+    pub set: MieSet,
+    pub diameters: Vec<f64>,
+    pub file: File,
 }
 
 impl Mie {
-    fn new() -> Self {
+    pub fn new() -> Self {
         let mut file = File::default();
         file.write(&Record { what: 10, ..Default::default() });
         Mie { set: MieSet { count: 0, lists: vec![0.0; 40], sheets: vec![0.0; 384] }, diameters: vec![0.0; 8], file }
     }
 
-    fn parameters(&mut self, l: &Lists) -> bool {
+    pub fn parameters(&mut self, l: &Lists) -> bool {
         let answer = oracle::vr_parameters(l, [40, 384]);
         let floats = [&l.m, &l.sigma, &l.epsilon_k, &l.lr, &l.la, &l.k_ij, &l.l_ij];
         let mut r = Record { what: 4, count: l.count as u64, ..Default::default() };
@@ -194,7 +194,7 @@ impl Mie {
         held
     }
 
-    fn by_hand(&mut self, set: MieSet, diameters: Vec<f64>) {
+    pub fn by_hand(&mut self, set: MieSet, diameters: Vec<f64>) {
         let mut places = changed(0, &[self.set.count as u64], &[set.count as u64]);
         places.extend(changed(1000, &all_bits(&self.set.lists), &all_bits(&set.lists)));
         places.extend(changed(2000, &all_bits(&self.set.sheets), &all_bits(&set.sheets)));
@@ -203,7 +203,7 @@ impl Mie {
         (self.set, self.diameters) = (set, diameters);
     }
 
-    fn diameters(&mut self, t: f64, lent: usize) {
+    pub fn diameters(&mut self, t: f64, lent: usize) {
         let mut r = Record { what: 5, value: bits(t), lengths: vec![lent as u64], ..Default::default() };
         match oracle::vr_diameters(&self.set, t, lent) {
             Ok(d) => self.diameters[..lent].copy_from_slice(&d),
@@ -227,7 +227,7 @@ impl Mie {
 }
 
 /// A length that is mostly right and never longer than what is there.
-fn length(g: &mut Random, odd: bool, right: usize) -> usize {
+pub fn length(g: &mut Random, odd: bool, right: usize) -> usize {
     if odd && g.once_in(12) { g.one_of(&[right - 1, 0]) } else { right }
 }
 
@@ -337,7 +337,7 @@ fn file(names: &[&'static str], seed: u64, chain: &dyn Fn(&mut Random, usize, us
     let numbers = |name| NUMBERS.iter().find(|x| x.0 == name).unwrap().1;
     for tries in 0.. {
         let lacking: Vec<_> =
-            names.iter().flat_map(|name| numbers(*name).iter().map(|k| (*name, *k))).filter(|x| file.lacks(x.0, x.1)).collect();
+            names.iter().flat_map(|name| numbers(*name).iter().map(|k| (*name, *k))).filter(|x| file.lacks(x.0, x.1, OFTEN)).collect();
         if lacking.is_empty() {
             break;
         }
@@ -351,7 +351,7 @@ fn file(names: &[&'static str], seed: u64, chain: &dyn Fn(&mut Random, usize, us
     file
 }
 
-fn save(folder: &str, name: &str, file: &File) {
+pub fn save(folder: &str, name: &str, file: &File) {
     let path = std::path::Path::new(folder).join(name);
     std::fs::write(&path, &file.bytes).unwrap();
     println!("{}: {} calls, {} bytes; searches spent: {:?}", path.display(), file.calls(), file.bytes.len(), file.spent);

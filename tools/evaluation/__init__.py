@@ -1,0 +1,1 @@
+"""Reads and evaluates the definitions of crates/*/specs, without the prover."""

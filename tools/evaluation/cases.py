@@ -1,0 +1,321 @@
+"""What the definitions are evaluated on, and what each result is held to. A section yields a name and None, or what differs."""
+import math
+import os
+import re
+import struct
+from decimal import Decimal, localcontext
+from fractions import Fraction
+
+from . import chains, promises, specs
+from .library import same
+from .scopes import Definition
+from .terms import spell
+
+F64 = ("binary64",)
+PORT = ["sqrt", "ln", "ln1p", "exp", "expm1", "tanh", "powf"]
+EVERY = 3  # the sample: each third chain of a file, the first included
+# the numbers that each operation gives in the files (docs/VECTORS.md), 0 for accepted
+NUMBERS = {
+    "quantum parameters": [0, 1, 2, 3, 4, 5, 6], "quantum table": [0, 1, 2, 6, 7], "quantum energies": [0, 1, 2, 6, 7], "VR Mie parameters": [0, 1, 2, 6],
+    "VR Mie diameters": [0, 1, 2, 6, 7], "VR Mie dispersion": [0, 1, 2, 6, 7], "VR Mie dispersion with chain": [0, 1, 2, 6, 7],
+    "quantum energies' ends": [0, 1, 2, 6, 7, 8], "quantum diameter's ends": [0, 1, 2, 6, 8], "quantum radii": [0, 1, 2, 6],
+    "VR Mie dispersion's ends": [0, 1, 2, 6, 7, 8], "VR Mie dispersion's ends with chain": [0, 1, 2, 6, 7, 8], "VR Mie diameter's ends": [0, 1, 2, 6, 7, 8], "VR Mie radius": [0, 1, 2, 6],
+}
+
+
+def compared(name, got, wanted):
+    return name, None if same(got, wanted) else f"{name}: {got!r}, and not {wanted!r}"
+
+
+class Random:
+    """A stream that depends on its seed alone."""
+
+    def __init__(self, seed):
+        self.state = seed
+
+    def next(self):
+        self.state = (self.state + 0x9e37_79b9_7f4a_7c15) % 2**64
+        z = (self.state ^ self.state >> 30) * 0xbf58_476d_1ce4_e5b9 % 2**64
+        z = (z ^ z >> 27) * 0x94d0_49bb_1331_11eb % 2**64
+        return z ^ z >> 31
+
+    def float(self):
+        kind = self.next() % 8
+        if kind == 0:
+            return [0.0, -0.0, 5e-324, -5e-324, 2.2250738585072014e-308, math.inf, -math.inf, math.nan, 1.7976931348623157e308, -1.7976931348623157e308, 1.0, -1.0][self.next() % 12]
+        if kind == 1:
+            return chains.number(self.next())
+        return (self.next() % 2**53 - 2**52) * 2.0 ** (self.next() % 120 - 110)
+
+
+class Cases:
+    def __init__(self, c, folder, texts, whole):
+        self.c, self.folder, self.texts, self.whole = c, folder, texts, whole
+        self.met = set()
+
+    def path(self, *parts):
+        return os.path.join(self.folder, *parts)
+
+    # ---- decimals of the source: Python's reading of the same digits
+    def decimals(self):
+        decimal = self.c.get("number", "Arith", "decimal")
+        found = set()
+        for text in self.texts.values():
+            found |= set(re.findall(r"\bdec(?:imal)? (true|false) (\d+) (\d+)", text))
+        for s, digits, places in sorted(found):
+            yield compared(f"decimal {s} {digits} {places}", decimal(s == "true", int(digits), int(places)), float(f"{'-' if s == 'true' else ''}{digits}e-{places}"))
+
+    # ---- the elementary functions: the vectors' answers
+    def records(self):
+        with open(self.path("crates/elementary_main/data/vectors.bin"), "rb") as f:
+            return list(struct.iter_unpack("<4Q", f.read()))
+
+    # the numbers of their tables, which the vectors' last bits do not all show: as the comments beside them say, by `decimal`
+    def tables(self):
+        with localcontext() as c:
+            c.prec = 60
+            two = Decimal(2)
+            ln2 = two.ln()
+            wanted = {
+                ("exponential", "Powers", "powers"): [two ** (63 + Decimal(j) / 128) for j in range(128)],
+                ("exponential", "Powers", "terms"): [two ** (64 - 7 * (i - 1)) * ln2**i / math.factorial(i) for i in range(1, 6)],
+                ("exponential", "ExpM1", "overTerms"): [(two**49 + Decimal(1) / 16) * k for k in (15120, 420, 1)],
+                ("exponential", "ExpM1", "underTerms"): [(two**49 + Decimal(1) / 16) * k for k in (15120, 1680, 15)],
+                ("binary_log", "Tables", "factors"): [two**18 / (129 + j) for j in range(128)],
+                ("binary_log", "Tables", "logs"): [-(two**61) * (Decimal(2**18 // (129 + j)) / 2048).ln() / ln2 for j in range(128)],
+                ("binary_log", "Tables", "oddTerms"): [two ** (63 - 6 * (i - 1)) / (i * ln2) for i in (1, 3, 5, 7)],
+                ("binary_log", "Tables", "evenTerms"): [two ** (63 - 6 * (i - 1)) / (i * ln2) for i in (2, 4, 6, 8)],
+                ("logarithm", "Logarithm", "coefficients"): [two**63 / (2 * i + 1) for i in range(11)],
+            }
+            for place, numbers in wanted.items():
+                for k, (got, number) in enumerate(zip(self.c.get(*place)(), numbers, strict=True)):
+                    # a whole number may come out a last digit short
+                    yield compared(f"{'.'.join(place)}, entry {k}", got, int(number + Decimal(10) ** -20))
+
+    # their exact values and distances, as they are promised
+    def promises(self):
+        return promises.run(self.c, self.records(), 20 if self.whole else 200, self.whole)
+
+    def elementary(self):
+        port = self.c.get("elementary", "Port", "port")()
+        for which, x, y, wanted in self.records():
+            answer = getattr(port, PORT[which])(chains.number(x))
+            if which == 6:
+                answer = answer(chains.number(y))
+            expected = ("refused", 6) if wanted == 2**64 - 1 else ("held", chains.number(wanted))
+            yield compared(f"{PORT[which]} of {x:x} {y:x}", answer, expected)
+
+    # ---- neighbours and the outward rules: Python's neighbour, the least and the greatest of four corners
+    def intervals(self):
+        up, down = self.c.get("number", "Neighbour", "nextUp"), self.c.get("number", "Neighbour", "nextDown")
+        rules = {name: self.c.get("interval", "Interval", name + "I") for name in ("add", "sub", "mul", "div")}
+        g = Random(0x55)
+        for k in range(1000):
+            a, b, x, y = (g.float() for _ in range(4))
+            yield compared(f"the neighbour above {a!r}", up(a), neighbour(a, math.inf))
+            yield compared(f"the neighbour below {a!r}", down(a), neighbour(a, -math.inf))
+            first, second = self.interval(a, b), self.interval(x, y)
+            for name, rule in rules.items():
+                yield compared(f"{name} of {first} and {second}", rule(first, second), self.outward(name, first, second))
+
+    def interval(self, a, b):
+        low, high = (b, a) if b < a else (a, b)
+        return self.c.record(lower=low, upper=high, sound=math.isfinite(low) and math.isfinite(high))
+
+    def outward(self, name, x, y):
+        corners = [worked(name, a, b) for a in (x.lower, x.upper) for b in (y.lower, y.upper)]
+        least, greatest = (pick(pick(*corners[:2], way), pick(*corners[2:], way), way) for way in (-1, 1))
+        low, high = neighbour(least, -math.inf), neighbour(greatest, math.inf)
+        sound = x.sound and y.sound and math.isfinite(low) and math.isfinite(high)
+        return self.c.record(lower=low, upper=high, sound=sound and (name != "div" or y.lower > 0 or y.upper < 0))
+
+    # ---- the operations: chains of docs/VECTORS.md
+    def run(self, path, model, every):
+        for k, chain in enumerate(chains.chains(self.path(path))):
+            if k % every:
+                continue
+            for name, number, differs in chains.run(self.c, model, chain):
+                self.met.add((name, number))
+                yield name, differs and f"{path}, chain {k}, {differs}"
+
+    def quantum(self):
+        return self.run("crates/vectors_main/data/quantum.bin", chains.Quantum, 1 if self.whole else EVERY)
+
+    def mie(self):
+        return self.run("crates/vectors_main/data/mie.bin", chains.Mie, 1 if self.whole else EVERY)
+
+    def quantum_ends(self):
+        return self.run("tools/evaluation/data/quantum_ends.bin", chains.Quantum, 1)
+
+    def mie_ends(self):
+        return self.run("tools/evaluation/data/mie_ends.bin", chains.Mie, 1)
+
+    # each number that an operation can give was met
+    def refusals(self):
+        for name, numbers in NUMBERS.items():
+            for n in numbers:
+                yield "refusals", None if (name, n) in self.met else f"{name}: no state gave {n}"
+
+    # ---- the stages: parameters to energies in one, on the usual chains of one component at the file's start
+    def stages(self):
+        for path, model, what in (("crates/vectors_main/data/quantum.bin", chains.Quantum, 3), ("crates/vectors_main/data/mie.bin", chains.Mie, 6)):
+            for k, chain in enumerate(chains.chains(self.path(path))[:6]):
+                for call in chain:
+                    if call.what == what:
+                        said, words = model(self.c).stage(chain[0], call)
+                        yield compared(f"{path}, chain {k}, stage", (said, tuple(words)), (call.number, tuple(call.answers[:len(words)])))
+
+    # ---- the exact run: where there are ends, both runs lie within them, by the text of `Encloses`
+    def exact(self):
+        for path, model in (("tools/evaluation/data/quantum_ends.bin", chains.Quantum), ("tools/evaluation/data/mie_ends.bin", chains.Mie)):
+            for k, chain in enumerate(chains.chains(self.path(path))):
+                m = model(self.c)
+                for call in chain:
+                    if call.what in (11, 12):
+                        m.changed(call)
+                    elif call.what in (7, 8, 9, 13) and m.count == 1 and call.number == 0 and (self.whole or small(call, m)):
+                        bad = Exact(self.c, m, call).fails()
+                        yield "exact run", f"{path}, chain {k}: {chains.NAMES[call.what]} do not enclose: {bad}" if bad else None
+                    elif call.what in (1, 2, 4, 5):
+                        m.worked(call)
+
+    # ---- the rows of the 'Table to be proved': those about all lists, exponents or counts at one of them
+    def table(self):
+        c = self.c
+        rows = c.statements("proved_table", "Table", "Table")
+        for row in ("root", "root-zero", "whole-power", "ln-1p", "ends"):
+            said = rows[row](*[None] * list(rows).index(row))
+            yield "table to be proved", None if said is True else f"the row {row} is {said}"
+        alike, quantum = c.get("proved_table", "Table", "alike"), c.get("saftvrqmie_parameters", "Parameters", "saftVRQMiePars")
+        for fh, m, number in (((0, 1), None, 0), ((1, 2), None, 5), ((1, 2, 3), None, 5), ((1, 3, 2), None, 4), ((0, 3), None, 4), ((3, 0), (1.0, 2.0), 3)):
+            lists = alike(fh)
+            lists.m = m or lists.m
+            yield compared(f"orders {fh}, m {lists.m}", chains.refusal(quantum(lists)), number)
+        mie, names = c.get("saftvrmie_parameters", "Parameters", "saftVRMiePars"), ["m", "sigma", "epsilon-k", "lr", "la", "k-ij", "gamma-ij"]
+        for count in (0, 9):
+            lists = alike((0,) * count)
+            yield compared(f"count {count}", chains.refusal(quantum(lists)), 1)
+            yield compared(f"VR Mie, count {count}", chains.refusal(mie(c.record(count=count, **{n: () for n in names}))), 1)
+        power = c.get("power", "Power", "powfOf")
+        yield compared("base 32", power(32.0, 2.0), ("held", 1024.0))
+        yield compared("the base above 32", power(math.nextafter(32.0, 64.0), 2.0), ("refused", 6))
+
+    # ---- slopes: the rules on fractions, at floats that are short, beside the derivative of a power, a product and a quotient
+    def slopes(self):
+        c = self.c
+        a = c.get("enclosure", "Exact", "exacts")()
+        exactly, g = c.get("enclosure", "Exact", "exactly"), Random(0x56)
+        rule = {name: c.get("dual", "Dual", name) for name in ("addD", "subD", "negD", "mulD", "divD", "powD", "downD", "afterD", "plainD")}
+
+        def dual(*x):
+            return c.record(re=exactly(x[0]), eps=exactly(x[1]))
+        for k in range(50):
+            x, dx, y, dy = (1 + g.next() % 1000 / 64 for _ in range(4))
+            n = g.next() % 5
+            fx, fdx, fy, fdy = map(Fraction, (x, dx, y, dy))
+            wanted = {
+                "addD": (fx + fy, fdx + fdy), "subD": (fx - fy, fdx - fdy), "mulD": (fx * fy, fdx * fy + fx * fdy),
+                "divD": (fx / fy, (fdx * fy - fx * fdy) / fy**2), "afterD": (fy, fdy),
+            }
+            got = {name: rule[name](a, dual(x, dx), dual(y, dy)) for name in wanted}
+            wanted |= {"negD": (-fx, -fdx), "powD": (fx**n, n * fx**n / fx * fdx), "downD": (1 / fx**n, -n / fx**n / fx * fdx), "plainD": (fx, Fraction(0))}
+            got |= {"negD": rule["negD"](a, dual(x, dx)), "powD": rule["powD"](a, dual(x, dx), n), "downD": rule["downD"](a, dual(x, dx), n), "plainD": rule["plainD"](a, exactly(x))}
+            for name, d in got.items():
+                said = tuple(Fraction(q.exact[1][1] - q.exact[1][2], q.exact[1][3]) for q in (d.re, d.eps))
+                yield "slopes", None if said == wanted[name] else f"{name} of {x}, {dx} and {y}, {dy}: {said}, and not {wanted[name]}"
+
+    # statements about all values of a bracket, made of `Keeps`; `promises` works what they say at the vectors
+    STATEMENTS = {f"elementary.Promised.{name}At" for name in ("Ln", "Ln1p", "Exp", "ExpM1", "Tanh")}
+
+    # ---- that nothing was left out: what the boundary, demand 3, the table and the promises use was evaluated, but for statements about all values
+    def believed(self):
+        c = self.c
+        files = [c.file(*f) for f in (("domthelv", "Operations"), ("domthelv", "Sets"), ("demand_three", "Demand"), ("proved_table", "Table"), ("elementary", "Promised"), ("elementary", "Port"))]
+        for d in sorted((d for d in c.used_by(files) if isinstance(d, Definition)), key=lambda d: d.python):
+            name = f"{d.file.name}.{d.name}"
+            if not (d.is_type and d.clauses[0][2][0] == "→") and name not in self.STATEMENTS:
+                yield "believed", None if name in c.reached else f"{name} is not evaluated"
+
+    # ---- the quadrature rules: a rule of 10 nodes sums x^k as far as k = 19, the one of 21 as far as 31
+    def quadrature(self):
+        c, decimal = self.c, self.c.get("number", "Arith", "decimal")
+        for crate, module, nodes, degree in (("saftvrmie_diameter", "Diameter", "positions", 19), ("saftvrqmie_searches", "Diameter", "abscissas", 31)):
+            x, w = ([Fraction(decimal(e.minus, e.digits, e.places)) for e in c.get(crate, module, name)()] for name in (nodes, "weights"))
+            yield compared(f"{crate}: as many weights as nodes", len(x), len(w))
+            for k in range(degree + 1):
+                error = abs(sum(b * a**k for a, b in zip(x, w)) - Fraction(2 * (k % 2 == 0), k + 1))
+                yield "quadrature", f"{crate}: the sum of x^{k} is {float(error)} away" if error > Fraction(1, 10**15) else None
+
+
+# an order above 0, and a chain, make the fractions large: these are left to --all
+def small(call, m):
+    return call.what in (8, 13) or call.flag == 0 if call.what != 7 else m.orders[0] == 0
+
+
+def neighbour(x, towards):
+    if not math.isfinite(x):
+        return x
+    y = math.nextafter(x, towards)
+    return 0.0 if y == 0.0 else y
+
+
+def pick(a, b, way):
+    return b if (b < a if way < 0 else a < b) else a
+
+
+def worked(name, a, b):
+    if name != "div":
+        return {"add": a + b, "sub": a - b, "mul": a * b}[name]
+    if b != 0.0:
+        return a / b
+    if a == 0.0 or a != a:
+        return math.nan
+    return math.copysign(math.inf, math.copysign(1.0, a) * math.copysign(1.0, b))
+
+
+class Exact:
+    """The runs of one two-ended call: the float operation, the enclosures, the fractions, and the ends."""
+
+    def __init__(self, c, m, call):
+        self.c, self.call = c, call
+        port, calls = c.get("elementary", "Port", "port")(), c.get("number", "Functions", "calls")
+        runs = [c.get("enclosure", "Enclosure", "enclosures")(), c.get("enclosure", "Exact", "exacts")()]
+        s = c.get("domthelv", "Sets", "mieSet" if call.what in (9, 13) else "quantumSet")(*m.set)[1]
+        if call.what in (8, 13):
+            crate = "saftvrmie" if call.what == 13 else "saftvrqmie"
+            handed = (s, *call.lengths[:2], chains.number(call.value), *chains.floats(call.listed))
+            self.ends, self.float = c.get(crate + "_diameter_ends", "Operations", "diameterEnds")(port, *handed), c.get(crate, "Pairs", "diameterIj")()
+            self.run, self.exact = (c.get(crate, "Pairs", "diameterRun")(a, calls(a, port), *handed) for a in runs)
+        else:
+            lent = m.diameters if call.what == 9 else m.table
+            handed = (s, chains.number(call.value), *map(chains.floats, call.cut(2)), lent[:call.lengths[2]], call.flag == 1)
+            crate, ends, run = ("saftvrmie_energies", "dispersionEnds", "energyRun") if call.what == 9 else ("saftvrqmie_energies", "energiesEnds", "contributionsOf")
+            self.ends = c.get(crate + "_ends", "Operation", ends)(port, *handed)
+            self.float = c.get(crate, "Energies", "energy" if call.what == 9 else "energies")()
+            self.run, self.exact = (c.get(crate, "Energies", run)(a, calls(a, port), *handed) for a in runs)
+        for x in handed:
+            self.float = self.float(x)
+
+    # what is false: a run without a result, ends that are not those of the enclosures, and fields of `Encloses`
+    def fails(self):
+        c, three = self.c, self.call.what == 7
+        if {self.float[0], self.run[0], self.exact[0], self.ends[0]} != {"held"}:
+            return ["a run without a result"]
+        crate, module, sound, ends = ("saftvrqmie_energies_ends", "Operation", "allSound", "eachEnds") if three else ("demand_three", "Demand", "isSound", None)
+        expected = c.get(crate, module, ends)(self.run[1]) if three else c.get("enclosure", "Ends", "endsIn")(self.run[1])
+        if not c.get(crate, module, sound)(self.run[1]) or not same(self.ends[1], expected):
+            return ["ends that are not the enclosures'"]
+        if not three:
+            return c.fails("enclosure", "Ends", "Encloses", (self.ends[1], self.float, self.exact), self.given(self.float[1], self.exact[1]))
+        given = {f: self.given(getattr(self.float[1], spell(f)), getattr(self.exact[1], spell(f))) for f in ("hard-sphere", "dispersion", "non-additive")}
+        return c.fails("saftvrqmie_energies_ends", "Encloses", "EachEncloses", (self.ends[1], self.float, self.exact), given)
+
+    def given(self, value, exact):
+        return {"value": value, "fraction": exact.exact[1] if exact.exact[0] == "some" else None}
+
+
+SECTIONS = ["decimals", "tables", "elementary", "promises", "intervals", "table", "quadrature", "slopes", "mie_ends", "quantum_ends", "mie", "quantum", "refusals", "stages", "exact", "believed"]
+
+
+def load(folder, texts, whole=False):
+    return Cases(specs.load(texts, specs.declared_in(folder)), folder, texts, whole)

@@ -1,0 +1,228 @@
+"""Chains of calls from a file of docs/VECTORS.md, each call worked by the definitions and held to the file's answer."""
+import struct
+
+from .library import of_bits, same, to_bits
+
+F64 = ("binary64",)
+OUT = (7.0,) * 8  # what stands in a lent list before a call
+START = 0xcbf2_9ce4_8422_2325
+NAMES = {1: "quantum parameters", 2: "quantum table", 3: "quantum energies", 4: "VR Mie parameters", 5: "VR Mie diameters", 6: "VR Mie dispersion", 7: "quantum energies' ends", 8: "quantum diameter's ends", 9: "VR Mie dispersion's ends", 13: "VR Mie diameter's ends", 14: "quantum radii", 15: "VR Mie radius"}
+
+
+def number(bits):
+    return of_bits(F64, bits)
+
+
+def floats(bits):
+    return tuple(map(number, bits))
+
+
+def patterns(values):
+    return [to_bits(F64, x) for x in values]
+
+
+def hashed(*lists):
+    h = START
+    for words in lists:
+        for w in words:
+            for b in w.to_bytes(8, "little"):
+                h = (h ^ b) * 0x100_0000_01b3 % 2**64
+    return h
+
+
+class Call:
+    """A record: 24 words and a list."""
+
+    def __init__(self, head, listed):
+        self.what, self.number, self.count, self.value, self.flag = head[:5]
+        self.lengths, self.answers, self.listed = head[6:15], head[15:], listed
+
+    # the list cut by the lengths
+    def cut(self, n):
+        found, at = [], 0
+        for length in self.lengths[:n]:
+            found.append(self.listed[at:at + length])
+            at += length
+        return found
+
+
+def chains(path):
+    """The file's chains: a chain is a list of calls."""
+    with open(path, "rb") as f:
+        data = f.read()
+    found, at = [], 0
+    while at < len(data):
+        head = struct.unpack_from("<24Q", data, at)
+        listed = struct.unpack_from(f"<{head[5]}Q", data, at + 192)
+        at += 192 + 8 * head[5]
+        if head[0] == 10:
+            found.append([])
+        else:
+            found[-1].append(Call(head, listed))
+    return found
+
+
+class Quantum:
+    """A set, a table and counts between the calls of a chain. Each call goes through the boundary's definition, which has the operation's in it."""
+
+    def __init__(self, c):
+        self.c = c
+        self.at = lambda name: c.get("domthelv", "Operations", name)
+        self.number = c.get("saftvrqmie_potential", "Potential", "orderNumber")
+        self.stored = c.get("mie_parameters", "Answer", "stored")
+        self.keep(c.get("saftvrqmie_parameters", "Parameters", "emptySet")())
+        self.table, self.counts = (0.0,) * 256, (0,) * 192
+
+    def keep(self, s):
+        self.count, self.m, self.sheets, self.orders = s.count, s.m, s.sheets, tuple(self.number(o.order) for o in s.orders)
+
+    @property
+    def set(self):
+        return self.count, self.m, self.sheets, self.orders
+
+    def lists(self, call):
+        names = ["m", "sigma", "epsilon-k", "lr", "la", "mass", "k-ij", "l-ij"]
+        *parts, fh = call.cut(9)
+        return self.c.record(**{"count": call.count, "fh": tuple(fh)}, **{n: floats(p) for n, p in zip(names, parts)})
+
+    def changed(self, call):
+        m, sheets, orders, table = list(self.m), list(self.sheets), list(self.orders), list(self.table)
+        for place, bits in zip(call.listed[::2], call.listed[1::2]):
+            if place == 0:
+                self.count = bits
+            elif place < 2000:
+                m[place - 1000] = number(bits)
+            elif place < 3000:
+                sheets[place - 2000] = number(bits)
+            elif place < 4000:
+                orders[place - 3000] = bits
+            else:
+                table[place - 4000] = number(bits)
+        self.m, self.sheets, self.orders, self.table = tuple(m), tuple(sheets), tuple(orders), tuple(table)
+
+    # what a call gives: the number and the words that stand in the record
+    def worked(self, call):
+        t = number(call.value)
+        if call.what == 1:
+            return self.parameters(self.lists(call))
+        if call.what == 2:
+            before = self.c.record(values=self.table[:call.lengths[0]], numbers=self.counts[:call.lengths[1]])
+            a = self.at("vrqTable")(*self.set, t, before)
+            after = self.stored(before, a)
+            self.table = after.values + self.table[call.lengths[0]:]
+            self.counts = after.numbers + self.counts[call.lengths[1]:]
+            return refusal(a), [hashed(patterns(self.table)), hashed(self.counts)]
+        if call.what == 8:
+            return told(self.at("vrqDiameterEnds")(*self.set, *call.lengths[:2], t, *floats(call.listed), OUT[:2]))
+        if call.what == 14:
+            a = self.at("vrqRadii")(*self.set, *call.lengths[:2], t, self.c.record(values=OUT[:6], numbers=(7,) * 3))
+            return refusal(a), patterns(a[1].values) + list(a[1].numbers) if a[0] == "held" else []
+        name, out = {3: ("vrqEnergies", OUT[:3]), 7: ("vrqEnergiesEnds", OUT[:6])}[call.what]
+        return told(self.at(name)(*self.set, t, *map(floats, call.cut(2)), self.table[:call.lengths[2]], call.flag == 1, out))
+
+    def parameters(self, lists):
+        a = self.c.get("saftvrqmie_parameters", "Parameters", "saftVRQMiePars")(lists)
+        self.keep(self.c.get("saftvrqmie_parameters", "Parameters", "given")(a).set)
+        written = self.at("vrqParameters")(lists, self.c.record(m=OUT[:8], sheets=OUT[:1] * 384, orders=(7,) * 64))
+        if refusal(written) != refusal(a) or (a[0] == "held" and not same((written[1].m, written[1].sheets, written[1].orders), self.set[1:])):
+            return None, []
+        return refusal(a), [hashed(patterns(self.m), patterns(self.sheets), self.orders)]
+
+    # parameters, a table and energies in one, for the lists, state and part of two calls
+    def stage(self, first, last):
+        return told(self.at("vrqStage")(self.lists(first), number(last.value), *map(floats, last.cut(2)), last.flag == 1, OUT[:3]))
+
+
+class Mie:
+    """A set and diameters between the calls of a chain."""
+
+    FIVE = ["m", "sigma", "epsilon_k", "lr", "la"]
+
+    def __init__(self, c):
+        self.c = c
+        self.at = lambda name: c.get("domthelv", "Operations", name)
+        self.stored = c.get("mie_parameters", "Answer", "stored")
+        self.keep(c.get("saftvrmie_parameters", "Parameters", "emptySet")())
+        self.diameters = (0.0,) * 8
+
+    def keep(self, s):
+        self.count, self.lists, self.sheets = s.count, s.m + s.sigma + s.epsilon_5f_k + s.lr + s.la, s.sheets
+
+    @property
+    def set(self):
+        return self.count, self.lists, self.sheets
+
+    def changed(self, call):
+        lists, sheets, d = list(self.lists), list(self.sheets), list(self.diameters)
+        for place, bits in zip(call.listed[::2], call.listed[1::2]):
+            if place == 0:
+                self.count = bits
+            elif place < 2000:
+                lists[place - 1000] = number(bits)
+            elif place < 4000:
+                sheets[place - 2000] = number(bits)
+            else:
+                d[place - 4000] = number(bits)
+        self.lists, self.sheets, self.diameters = tuple(lists), tuple(sheets), tuple(d)
+
+    def handed(self, call):
+        names = ["m", "sigma", "epsilon-k", "lr", "la", "k-ij", "gamma-ij"]
+        return self.c.record(**{"count": call.count}, **{n: floats(p) for n, p in zip(names, call.cut(7))})
+
+    def worked(self, call):
+        t = number(call.value)
+        if call.what == 4:
+            return self.parameters(self.handed(call))
+        if call.what == 5:
+            before = self.diameters[:call.lengths[0]]
+            a = self.at("vrDiameters")(*self.set, t, before)
+            self.diameters = self.stored(before, a) + self.diameters[call.lengths[0]:]
+            return refusal(a), patterns(self.diameters)
+        if call.what == 13:
+            return told(self.at("vrDiameterEnds")(*self.set, *call.lengths[:2], t, *floats(call.listed), OUT[:2]))
+        if call.what == 15:
+            return told(self.at("vrRadius")(*self.set, *call.lengths[:2], t))
+        state = (t, *map(floats, call.cut(2)), self.diameters[:call.lengths[2]], call.flag == 1)
+        if call.what == 6:
+            return told(self.at("vrDispersion")(*self.set, *state))
+        return told(self.at("vrDispersionEnds")(*self.set, *state, OUT[:2])) if call.what == 9 else None
+
+    def parameters(self, lists):
+        a = self.c.get("saftvrmie_parameters", "Parameters", "saftVRMiePars")(lists)
+        self.keep(self.c.get("saftvrmie_parameters", "Parameters", "given")(a).set)
+        written = self.at("vrParameters")(lists, self.c.record(lists=OUT[:1] * 40, sheets=OUT[:1] * 384))
+        if refusal(written) != refusal(a) or (a[0] == "held" and not same((written[1].lists, written[1].sheets), self.set[1:])):
+            return None, []
+        return refusal(a), [hashed(patterns(self.lists), patterns(self.sheets))]
+
+    def stage(self, first, last):
+        return told(self.c.get("stages", "Stages", "mieStage")(self.handed(first), number(last.value), *map(floats, last.cut(2)), last.flag == 1))
+
+
+def refusal(a):
+    return 0 if a[0] == "held" else a[1]
+
+
+# an answer that holds a number or a list
+def told(a):
+    if a[0] != "held":
+        return refusal(a), []
+    return 0, patterns(a[1] if isinstance(a[1], tuple) else [a[1]])
+
+
+def run(c, model, chain):
+    """Each call of a chain: its name, its number, and what differs or None."""
+    m = model(c)
+    for k, call in enumerate(chain):
+        if call.what in (11, 12):
+            m.changed(call)
+            continue
+        name = NAMES[call.what] + (" with chain" if call.what in (6, 9) and call.flag == 1 else "")
+        said, words = m.worked(call)
+        wanted = list(call.answers[:len(words)])
+        if said != call.number:
+            yield name, call.number, f"call {k}: {name} gives {said}, and the file {call.number}"
+        elif words != wanted:
+            yield name, call.number, f"call {k}: {name} gives {words}, and the file {wanted}"
+        else:
+            yield name, call.number, None

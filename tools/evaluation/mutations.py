@@ -1,0 +1,63 @@
+"""Changed definitions, each of which the evaluation must catch, and text that it must refuse to read."""
+from . import cases, specs
+from .reader import NotUnderstood
+
+# what is changed, in which file, from what (which stands there once), to what, and the section that is to see it
+CHANGED = [
+    ("a coefficient of both models", "mie_parameters/specs/Tables", "decimal false 81096 5", "decimal false 81097 5", "mie_ends"),
+    ("a digit of the exponential's constant", "exponential/specs/Exp", "* 13306513097844322491", "* 13306513097844322490", "elementary"),
+    ("the rounding of a packed number", "fixed_point/specs/Pack", "/ 1024 + 1) / 2", "/ 1024) / 2", "elementary"),
+    ("an end that does not belong", "limits/specs/Limits", "within low high x = le low x", "within low high x = lt low x", "mie"),
+    ("the operands of a difference", "saftvrqmie_potential/specs/Potential", "recip rr ⊗ sr ⊖ recip ra ⊗ sa", "recip ra ⊗ sa ⊖ recip rr ⊗ sr", "quantum_ends"),
+    ("the order of a sum", "mie_parameters/specs/Sums", "a2 ⊗ pow t-inv 2 ⊕ a3 ⊗ pow t-inv 3", "(a2 ⊗ pow t-inv 2 ⊕ a3 ⊗ pow t-inv 3)", "mie_ends"),
+    ("a precedence", "saftvrmie_dispersion/specs/Chain", "infixl 60 _⊖_", "infixl 70 _⊖_", "mie_ends"),
+    ("6 for 7", "saftvrmie_energies/specs/Energies", "demand 7 (finite v)", "demand 6 (finite v)", "mie_ends"),
+    ("7 for 8", "saftvrqmie_energies_ends/specs/Operation", "demand 8 (allSound b)", "demand 7 (allSound b)", "quantum_ends"),
+    ("a shorter series", "series/specs/Exact", "expSum t = sumF 30 (expTerm t)", "expSum t = sumF 20 (expTerm t)", "promises"),
+    ("a test before another", "saftvrqmie_parameters/specs/Parameters", "    demand 3 (allOne (l .count) (at (l .m))) >>= λ _.\n    orderWalk (l .count) (l .fh) >>= λ _.\n", "    orderWalk (l .count) (l .fh) >>= λ _.\n    demand 3 (allOne (l .count) (at (l .m))) >>= λ _.\n", "table"),
+    ("a digit of a node", "saftvrqmie_searches/specs/Diameter", "below 995657163025808080735527280689003", "below 995657163025818080735527280689003", "quadrature"),
+    ("a step of the wrong sign", "number/specs/Neighbour", "ofBits binary64 (stepDown (toBits binary64 (fin s m e)))", "ofBits binary64 (stepUp (toBits binary64 (fin s m e)))", "intervals"),
+    ("a divisor that touches zero", "interval/specs/Interval", "(x .sound && y .sound && oneSign y)", "(x .sound && y .sound)", "intervals"),
+    ("work that is not counted for 8", "saftvrqmie_dispersion/specs/Alpha", "held (after dmt (alphaOf", "held ((alphaOf", "quantum_ends"),
+    ("a count of evaluations", "saftvrqmie_searches/specs/Searches", "count = 19 - n", "count = 18 - n", "quantum_ends"),
+    ("an exact quotient", "enclosure/specs/Exact", "some (divF p q)", "some (mulF p q)", "exact"),
+    ("an entry's place", "number/specs/Side", "cell i j = side * i + j", "cell i j = side * j + i", "mie"),
+]
+# what the language has and specs/ has not: none of it may be passed over
+REFUSED = [
+    ("an axiom", "axiom pub trusted : Bool\n"),
+    ("a `do` block", "abbrev pub less : Bool\nless = do true\n"),
+    ("a name of nowhere", "abbrev pub less : Bool\nless = unheard\n"),
+    ("a definition with no clause", "abbrev pub less : Bool\n"),
+    ("a module of nowhere", "use lib.Unheard.{x}\n"),
+    ("an operator with no fixity", "abbrev pub less : Bool\nless = true ⊞ true\n"),
+]
+HOME = "crates/number/specs/Ans.antt"
+
+
+def caught(folder, declared, texts, section):
+    tried = cases.Cases(specs.load(texts, declared), folder, texts, False)
+    return next((differs for _, differs in getattr(tried, section)() if differs), None)
+
+
+def run(folder):
+    texts, declared = specs.texts_of(folder), specs.declared_in(folder)
+    passed = failed = 0
+    for name, module, old, new, section in CHANGED:
+        path = f"crates/{module}.antt"
+        if texts[path].count(old) != 1:
+            found = None
+            print(f"{name}: {path} has {texts[path].count(old)} times: {old}")
+        else:
+            found = caught(folder, declared, {**texts, path: texts[path].replace(old, new)}, section)
+            print(f"{name}: {'caught: ' + found[:110] if found else 'NOT CAUGHT'}", flush=True)
+        passed, failed = passed + bool(found), failed + (not found)
+    for name, text in REFUSED:
+        said = None
+        try:
+            specs.load({**texts, HOME: text + texts[HOME] if text.startswith("use") else texts[HOME] + text}, declared)
+        except NotUnderstood as e:
+            said = str(e)
+        print(f"{name}: {'refused: ' + said[:110] if said else 'NOT REFUSED'}")
+        passed, failed = passed + bool(said), failed + (not said)
+    return passed, failed
