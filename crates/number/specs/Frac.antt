@@ -46,7 +46,7 @@ abbrev pub sgn : Bool → ℕ → ℕ → Frac
 sgn false a c = frac a 0 c
 sgn true a c = frac 0 a c
 
--- the fraction that a finite f64 stands for, either zero for 0 (what is not finite stands for none; the value here is not used)
+-- the fraction that a finite f64 stands for, either zero for 0 (what is not finite stands for none and is read as 0 here: a distance alone would not tell it from 0, so that promises say beside it that the float is finite)
 abbrev pub valF : Float → Frac
 valF nan = zeroF
 valF (inf s) = zeroF
