@@ -1,9 +1,9 @@
--- `domthelv::quantum_lengths` meets its contract. Assumes nothing.
-use Rattle.domthelv.specs.Sets.{quantumLengths}
+-- `set_lists::quantum_lengths` meets its contract. Assumes nothing.
+use Rattle.set_lists.specs.Sets.{quantumLengths}
 use mathlib.Core.Path.{refl}
 use borrow.Author.Needs.{needs}
-use Rattle.domthelv.proofs.quantum_lengths.Statement.{statement}
-use Rattle.domthelv.proofs.quantum_lengths.Tie as tie
+use Rattle.set_lists.proofs.quantum_lengths.Statement.{statement}
+use Rattle.set_lists.proofs.quantum_lengths.Tie as tie
 
 mul-result : tie.Need-mul-result
 mul-result c = search needs

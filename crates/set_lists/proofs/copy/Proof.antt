@@ -1,5 +1,5 @@
--- `domthelv::copy` meets its contract. Assumes nothing.
-use Rattle.domthelv.specs.Sets.{copied}
+-- `set_lists::copy` meets its contract. Assumes nothing.
+use Rattle.set_lists.specs.Sets.{copied}
 use Rattle.number.specs.Lists.{at}
 use Prim.Native.Nat.{_+_, _≤_, _-_}
 use mathlib.Core.Path.{_≡_, refl}
@@ -7,8 +7,8 @@ use Rattle.number.specs.Walk.{turns}
 use Rattle.number.proofs.Walk.{turns-none, turns-next, turns-end}
 use lib.ListN.{set, length}
 use borrow.Author.Needs.{needs}
-use Rattle.domthelv.proofs.copy.Statement.{statement}
-use Rattle.domthelv.proofs.copy.Tie as tie
+use Rattle.set_lists.proofs.copy.Statement.{statement}
+use Rattle.set_lists.proofs.copy.Tie as tie
 
 abbrev Inv-loop : tie.InvT-loop
 Inv-loop n d from l₀ i₀ l i = (i ≤ n) × (length l ≡ length l₀) × (l ≡ turns i (λ i s. set s i (at d (from + i))) l₀)

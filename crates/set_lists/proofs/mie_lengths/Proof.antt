@@ -1,9 +1,9 @@
--- `domthelv::mie_lengths` meets its contract. Assumes nothing.
-use Rattle.domthelv.specs.Sets.{mieLengths}
+-- `set_lists::mie_lengths` meets its contract. Assumes nothing.
+use Rattle.set_lists.specs.Sets.{mieLengths}
 use mathlib.Core.Path.{refl}
 use borrow.Author.Needs.{needs}
-use Rattle.domthelv.proofs.mie_lengths.Statement.{statement}
-use Rattle.domthelv.proofs.mie_lengths.Tie as tie
+use Rattle.set_lists.proofs.mie_lengths.Statement.{statement}
+use Rattle.set_lists.proofs.mie_lengths.Tie as tie
 
 mul-result : tie.Need-mul-result
 mul-result c = search needs
