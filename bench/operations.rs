@@ -73,15 +73,6 @@ impl Fluid {
 #[derive(Default)]
 struct Rows(Vec<(&'static str, Vec<String>)>);
 
-// A pair's diameter in floats, which the C boundary has only in its tables.
-#[link(name = "diameter_bench", kind = "static")]
-unsafe extern "C" {
-    fn domthelv_bench_quantum_diameter(
-        sigma: f64, epsilon_k: f64, c: f64, lr: f64, la: f64, mass: f64, order: u8, temperature: f64, sigma_eff: f64, r0: f64,
-    ) -> f64;
-    fn domthelv_bench_mie_diameter(la: f64, lr: f64, c_eps_t: f64, sigma: f64, r0: f64) -> f64;
-}
-
 /// All of `k` fluids through one function.
 fn over<T>(k: usize, f: impl Fn(usize) -> T) -> impl Fn() {
     move || (0..k).for_each(|i| drop(black_box(f(black_box(i)))))
@@ -237,8 +228,8 @@ fn vr_mie(rows: &mut Rows, n: usize) {
 
 /// Two ends of the quantum energies and of a pair's diameter, beside their floats.
 fn quantum_ends(rows: &mut Rows, n: usize, order: u8) {
-    let (Some(energies), Some(ends), Some(radii), Some(diameter)) =
-        (port::VRQ_ENERGIES, port::VRQ_ENERGIES_ENDS, port::VRQ_RADII, port::VRQ_DIAMETER_ENDS)
+    let (Some(energies), Some(ends), Some(radii), Some(diameter), Some(diameter_ends)) =
+        (port::VRQ_ENERGIES, port::VRQ_ENERGIES_ENDS, port::VRQ_RADII, port::VRQ_DIAMETER, port::VRQ_DIAMETER_ENDS)
     else {
         return;
     };
@@ -278,7 +269,7 @@ fn quantum_ends(rows: &mut Rows, n: usize, order: u8) {
     let two = |i: usize| {
         let (mut out, (sheets, orders)) = ([0.0; 2], &flat[i]);
         let number = unsafe {
-            diameter(
+            diameter_ends(
                 1, [1.0; 8].as_ptr(), 8, sheets.as_ptr(), 384, orders.as_ptr(), 64, 0, 0, fluids[i].temperature, found[i][0],
                 found[i][2], out.as_mut_ptr(), 2,
             )
@@ -287,8 +278,15 @@ fn quantum_ends(rows: &mut Rows, n: usize, order: u8) {
         out
     };
     let float = |i: usize| {
-        let (s, t) = (&flat[i].0, fluids[i].temperature);
-        unsafe { domthelv_bench_quantum_diameter(s[0], s[64], s[128], s[192], s[256], s[320], order, t, found[i][0], found[i][2]) }
+        let (mut out, (sheets, orders)) = (0.0, &flat[i]);
+        let number = unsafe {
+            diameter(
+                1, [1.0; 8].as_ptr(), 8, sheets.as_ptr(), 384, orders.as_ptr(), 64, 0, 0, fluids[i].temperature, found[i][0],
+                found[i][2], &mut out,
+            )
+        };
+        assert!(number == 0);
+        out
     };
     (0..k).for_each(|i| assert!(two(i)[0] <= float(i) && float(i) <= two(i)[1]));
     rows.row("quantum diameter, two ends", n, Some(order), k, float, two);
@@ -335,7 +333,7 @@ fn vr_mie_ends(rows: &mut Rows, n: usize) {
     if n > 1 {
         return;
     }
-    if let (Some(radius), Some(ends)) = (port::VR_RADIUS, port::VR_DIAMETER_ENDS) {
+    if let (Some(radius), Some(diameter), Some(ends)) = (port::VR_RADIUS, port::VR_DIAMETER, port::VR_DIAMETER_ENDS) {
         let searched = |i: usize| {
             let mut out = 0.0;
             let number = unsafe { radius(1, lists[i].as_ptr(), 40, flat[i].as_ptr(), 384, 0, 0, fluids[i].temperature, &mut out) };
@@ -351,9 +349,10 @@ fn vr_mie_ends(rows: &mut Rows, n: usize) {
             out
         };
         let float = |i: usize| {
-            let s = &flat[i];
-            let c_eps_t = (1.0 / fluids[i].temperature) * s[256] * s[64];
-            unsafe { domthelv_bench_mie_diameter(s[192], s[128], c_eps_t, s[0], found[i]) }
+            let (mut out, t) = (0.0, fluids[i].temperature);
+            let number = unsafe { diameter(1, lists[i].as_ptr(), 40, flat[i].as_ptr(), 384, 0, 0, t, found[i], &mut out) };
+            assert!(number == 0);
+            out
         };
         rows.row("VR Mie diameter, two ends", n, None, k, float, two);
     }

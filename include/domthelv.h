@@ -4,7 +4,8 @@
  *
  * ANSWERS. A function that can refuse gives 0 where the call is accepted, and the refusal's number (enum domthelv_refusal)
  * where it is not. The first that applies, in the order beside the function, is given; a refused call leaves everything it
- * was lent with its bits. Every number, in a list too, may hold any bits, NaN included: the call ends, accepted or refused.
+ * was lent with its bits (proved up to the payload of a NaN, of which the logic has one; for payloads tools/differential
+ * tries it). Every number, in a list too, may hold any bits, NaN included: the call ends, accepted or refused.
  *
  * UNITS. Temperatures and energy parameters (epsilon_k: over Boltzmann's constant) and potentials: kelvin. Lengths
  * (sigma, radii, diameters): angstrom. Masses: kilograms a molecule. Densities: molecules of a component per cubic
@@ -24,7 +25,7 @@
  *   temperature             1 to 2000
  *   fractions, densities    0 to 1 (-0 counts as 0); fractions need not sum to 1
  * Sets, tables, diameters and radii are read as they are: where they were filled by hand, only the count and the order
- * bytes are tested. Elementary functions have their domain beside them (else 6).
+ * bytes of pairs in use (i, j below the count) are tested. Elementary functions have their domain beside them (else 6).
  *
  * LISTS. A list is a pointer and a length, and the length is exact, not a least one: another is 1. Component lists and
  * diameters have the count as length, pair lists k_ij, l_ij, gamma_ij its square (entry (i, j) at count i + j). Sheets always
@@ -122,7 +123,10 @@ double domthelv_powi(double x, int32_t n);
 
 /* Quantum model (SAFT-VRQ Mie). */
 
-/* Parameters. 1: a list of the set that is lent; 1: the count is not 1 to 8, or another list's length is not the count
+/* Tests one record's m: 3 if it is not 1.0, NaN included. */
+uint8_t domthelv_vrq_record_m(double m);
+
+/* Parameters. 1: a list of the set that is lent, the count is not 1 to 8, or another list's length is not the count
  * (k_ij, l_ij: its square); 2: a number outside its limit, m excepted; 3: an m that is not 1.0; then pair by pair
  * 4: an order above 2, 5: the orders 1 and 2; 6: an elementary argument outside. */
 uint8_t domthelv_vrq_parameters(size_t count, const double *m, size_t m_len, const double *sigma, size_t sigma_len,
@@ -132,20 +136,20 @@ uint8_t domthelv_vrq_parameters(size_t count, const double *m, size_t m_len, con
     uint8_t *set_orders, size_t set_orders_len);
 
 /* Temperature table (256: sigma_eff, hs_diameter, epsilon_k_eff, quantum_d) and counts (192: searches for sigma, zero,
- * depth; 1 to 19, or 20 if spent). 1, 4: the set's lists; 1: the count or a lent list; 2: temperature not 1 to 2000 K;
- * 6; 7: a value to be written is not finite. */
+ * depth; 1 to 19, or 20 if spent). 1: the count, a list of the set or a lent list; 4: an order byte of a pair in use is
+ * above 2; 2: temperature not 1 to 2000 K; 6; 7: a value to be written is not finite. */
 uint8_t domthelv_vrq_table(size_t count, const double *m, size_t m_len, const double *sheets, size_t sheets_len,
     const uint8_t *orders, size_t orders_len, double temperature, double *table, size_t table_len, uint8_t *counts,
     size_t counts_len);
 
 /* One pair's three searches. out (6): radius and last potential of sigma, zero, depth; counts (3).
- * 1: out or counts; 1, 4: the set's lists; 1: the count or an index; 2: temperature; 6. */
+ * 1: the count, a list of the set, an index, out or counts; 4: an order; 2: temperature; 6. */
 uint8_t domthelv_vrq_radii(size_t count, const double *m, size_t m_len, const double *sheets, size_t sheets_len,
     const uint8_t *orders, size_t orders_len, size_t i, size_t j, double temperature, double *out, size_t out_len,
     uint8_t *counts, size_t counts_len);
 
-/* Energies. out (3): hard sphere, dispersion, non-additive (+0 where not wanted). 1: out; 1, 4: the set's lists;
- * 1: the count, fractions, densities or table (256); 2: temperature, a fraction or a density not 0 to 1; 6;
+/* Energies. out (3): hard sphere, dispersion, non-additive (+0 where not wanted). 1: the count, a list of the set,
+ * fractions, densities, table (256) or out; 4: an order; 2: temperature, a fraction or a density not 0 to 1; 6;
  * 7: a contribution is not finite. */
 uint8_t domthelv_vrq_energies(size_t count, const double *m, size_t m_len, const double *sheets, size_t sheets_len,
     const uint8_t *orders, size_t orders_len, double temperature, const double *fractions, size_t fractions_len,
@@ -159,8 +163,13 @@ uint8_t domthelv_vrq_energies_ends(size_t count, const double *m, size_t m_len, 
     const double *densities, size_t densities_len, const double *table, size_t table_len, bool non_additive,
     double *out, size_t out_len);
 
-/* Two ends of a pair's diameter from its searched radii. out (2): low and high end. 1: out; 1, 4: the set's lists;
- * 1: the count or an index; 2: temperature; 6; 7: the diameter is not finite; 8. */
+/* A pair's diameter from its searched radii. 1: the count, a list of the set or an index; 4: an order; 2: temperature;
+ * 6; 7: the diameter is not finite. */
+uint8_t domthelv_vrq_diameter(size_t count, const double *m, size_t m_len, const double *sheets, size_t sheets_len,
+    const uint8_t *orders, size_t orders_len, size_t i, size_t j, double temperature, double sigma_eff, double r0,
+    double *out);
+
+/* Two ends of the same. out (2): low and high end. Refusals as above, with out's length among those for 1; then 8. */
 uint8_t domthelv_vrq_diameter_ends(size_t count, const double *m, size_t m_len, const double *sheets, size_t sheets_len,
     const uint8_t *orders, size_t orders_len, size_t i, size_t j, double temperature, double sigma_eff, double r0,
     double *out, size_t out_len);
@@ -175,36 +184,40 @@ uint8_t domthelv_vrq_stage(size_t count, const double *m, size_t m_len, const do
 
 /* SAFT-VR Mie. */
 
-/* Parameters. 1: a list of the set that is lent; 1: the count or a list's length; 2: a number outside its limit; 6. */
+/* Parameters. 1: the count or a list's length; 2: a number outside its limit; 6. */
 uint8_t domthelv_vr_parameters(size_t count, const double *m, size_t m_len, const double *sigma, size_t sigma_len,
     const double *epsilon_k, size_t epsilon_k_len, const double *lr, size_t lr_len, const double *la, size_t la_len,
     const double *k_ij, size_t k_ij_len, const double *gamma_ij, size_t gamma_ij_len, double *set_lists,
     size_t set_lists_len, double *set_sheets, size_t set_sheets_len);
 
-/* The components' diameters, a list as long as the count. 1: the set's lists; 1: the count or diameters;
+/* The components' diameters, a list as long as the count. 1: the count, a list of the set or diameters;
  * 2: temperature; 6; 7: a diameter is not finite. */
 uint8_t domthelv_vr_diameters(size_t count, const double *lists, size_t lists_len, const double *sheets,
     size_t sheets_len, double temperature, double *diameters, size_t diameters_len);
 
-/* Dispersion, with the chain where it is wanted, from diameters. 1: the set's lists; 1: the count, fractions, densities
+/* Dispersion, with the chain where it is wanted, from diameters. 1: the count, a list of the set, fractions, densities
  * or diameters; 2: temperature, a fraction or a density; 6; 7: the energy is not finite. */
 uint8_t domthelv_vr_dispersion(size_t count, const double *lists, size_t lists_len, const double *sheets,
     size_t sheets_len, double temperature, const double *fractions, size_t fractions_len, const double *densities,
     size_t densities_len, const double *diameters, size_t diameters_len, bool chain, double *out);
 
-/* One pair's reduced r0, the lower limit of its diameter's integral. 1: the set's lists; 1: the count or an index;
+/* One pair's reduced r0, the lower limit of its diameter's integral. 1: the count, a list of the set or an index;
  * 2: temperature; 6. */
 uint8_t domthelv_vr_radius(size_t count, const double *lists, size_t lists_len, const double *sheets,
     size_t sheets_len, size_t i, size_t j, double temperature, double *out);
 
-/* Two ends of dispersion, with the chain where it is wanted: low and high end. 1: out; 1: the set's lists; then as
+/* Two ends of dispersion, with the chain where it is wanted: low and high end. 1: out too; else as
  * domthelv_vr_dispersion, then 8. */
 uint8_t domthelv_vr_dispersion_ends(size_t count, const double *lists, size_t lists_len, const double *sheets,
     size_t sheets_len, double temperature, const double *fractions, size_t fractions_len, const double *densities,
     size_t densities_len, const double *diameters, size_t diameters_len, bool chain, double *out, size_t out_len);
 
-/* Two ends of one pair's diameter from its reduced r0: low and high end. 1: out; 1: the set's lists; 1: the count or an
- * index; 2: temperature; 6; 7; 8. */
+/* One pair's diameter from its reduced r0. 1: the count, a list of the set or an index; 2: temperature; 6;
+ * 7: the diameter is not finite. */
+uint8_t domthelv_vr_diameter(size_t count, const double *lists, size_t lists_len, const double *sheets,
+    size_t sheets_len, size_t i, size_t j, double temperature, double r0, double *out);
+
+/* Two ends of the same: low and high end. 1: out too; else as above, then 8. */
 uint8_t domthelv_vr_diameter_ends(size_t count, const double *lists, size_t lists_len, const double *sheets,
     size_t sheets_len, size_t i, size_t j, double temperature, double r0, double *out, size_t out_len);
 

@@ -17,6 +17,7 @@ unsafe extern "C" {
 #[rustfmt::skip] // one line for each list, with its length
 unsafe extern "C" {
     // Quantum model (SAFT-VRQ Mie).
+    pub fn domthelv_vrq_record_m(m: f64) -> u8;
     pub fn domthelv_vrq_parameters(
         count: usize,
         m: *const f64, m_len: usize,
@@ -74,6 +75,15 @@ unsafe extern "C" {
         table: *const f64, table_len: usize,
         non_additive: bool,
         out: *mut f64, out_len: usize,
+    ) -> u8;
+    pub fn domthelv_vrq_diameter(
+        count: usize,
+        m: *const f64, m_len: usize,
+        sheets: *const f64, sheets_len: usize,
+        orders: *const u8, orders_len: usize,
+        i: usize, j: usize,
+        temperature: f64, sigma_eff: f64, r0: f64,
+        out: *mut f64,
     ) -> u8;
     pub fn domthelv_vrq_diameter_ends(
         count: usize,
@@ -150,6 +160,14 @@ unsafe extern "C" {
         sheets: *const f64, sheets_len: usize,
         i: usize, j: usize,
         temperature: f64,
+        out: *mut f64,
+    ) -> u8;
+    pub fn domthelv_vr_diameter(
+        count: usize,
+        lists: *const f64, lists_len: usize,
+        sheets: *const f64, sheets_len: usize,
+        i: usize, j: usize,
+        temperature: f64, r0: f64,
         out: *mut f64,
     ) -> u8;
     pub fn domthelv_vr_diameter_ends(

@@ -140,6 +140,7 @@ pub struct State<'a> {
 }
 
 /// A quantum set. Entry (i, j) of a sheet stands at 8 i + j; sheets are sigma, epsilon_k, c, lambda_r, lambda_a, mass.
+/// Places of pairs beyond the count are not looked at; an order above 2 within it is refused after every wrong count, length or index.
 #[derive(Clone, Debug)]
 pub struct QuantumSet {
     pub count: usize,
@@ -195,6 +196,12 @@ pub struct EnergiesEnds {
 }
 
 // ---- quantum model (SAFT-VRQ Mie)
+
+/// Whether a record's m is one that the quantum model takes.
+#[inline]
+pub fn quantum_record_m(m: f64) -> Result<(), Refusal> {
+    given(unsafe { raw::domthelv_vrq_record_m(m) }, ())
+}
 
 /// The set of some components.
 #[inline]
@@ -288,7 +295,21 @@ impl QuantumSet {
         given(number, EnergiesEnds { hard_sphere: at(0), dispersion: at(1), non_additive: at(2) })
     }
 
-    /// Two ends of a pair's diameter from its searched radii.
+    /// A pair's diameter from its searched radii.
+    #[inline]
+    pub fn diameter(&self, i: usize, j: usize, temperature: f64, sigma_eff: f64, r0: f64) -> Result<f64, Refusal> {
+        let mut out = 0.0;
+        #[rustfmt::skip]
+        let number = unsafe {
+            raw::domthelv_vrq_diameter(
+                self.count, self.m.as_ptr(), 8, self.sheets.as_ptr(), 384, self.orders.as_ptr(), 64, i, j, temperature, sigma_eff,
+                r0, &mut out,
+            )
+        };
+        given(number, out)
+    }
+
+    /// Two ends of the same.
     #[inline]
     pub fn diameter_ends(&self, i: usize, j: usize, temperature: f64, sigma_eff: f64, r0: f64) -> Result<Ends, Refusal> {
         let mut out = [0.0; 2];
@@ -389,7 +410,18 @@ impl MieSet {
         given(number, Ends { low: out[0], high: out[1] })
     }
 
-    /// Two ends of a pair's diameter from its reduced r0.
+    /// A pair's diameter from its reduced r0.
+    #[inline]
+    pub fn diameter(&self, i: usize, j: usize, temperature: f64, r0: f64) -> Result<f64, Refusal> {
+        let mut out = 0.0;
+        #[rustfmt::skip]
+        let number = unsafe {
+            raw::domthelv_vr_diameter(self.count, self.lists.as_ptr(), 40, self.sheets.as_ptr(), 384, i, j, temperature, r0, &mut out)
+        };
+        given(number, out)
+    }
+
+    /// Two ends of the same.
     #[inline]
     pub fn diameter_ends(&self, i: usize, j: usize, temperature: f64, r0: f64) -> Result<Ends, Refusal> {
         let mut out = [0.0; 2];
@@ -460,6 +492,7 @@ mod tests {
         }
         let s = set.searches(0, 1, 30.0).unwrap();
         assert_eq!(s.sigma[0], table.values[1]);
+        assert_eq!(set.diameter(0, 1, 30.0, s.sigma[0], s.zero[0]), Ok(table.values[65]));
         let d = set.diameter_ends(0, 1, 30.0, s.sigma[0], s.zero[0]).unwrap();
         assert!(d.low <= table.values[65] && table.values[65] <= d.high);
     }
@@ -478,8 +511,31 @@ mod tests {
             assert_eq!(mie_stage(&ethane_and_methane(), &state, chain), Ok(x));
         }
         let r0 = set.radius(0, 0, 200.0).unwrap();
+        assert_eq!(set.diameter(0, 0, 200.0, r0), Ok(d[0]));
         let ends = set.diameter_ends(0, 0, 200.0, r0).unwrap();
         assert!(ends.low <= d[0] && d[0] <= ends.high);
+    }
+
+    #[test]
+    fn a_wrong_length_or_index_is_refused_before_an_order() {
+        let mut set = quantum_parameters(&hydrogen_and_neon(2)).unwrap();
+        let state = State { temperature: 30.0, fractions: &[0.5, 0.5], densities: &[0.01, 0.01] };
+        let table = set.table(30.0).unwrap().values;
+        let energies = set.energies(&state, &table, true);
+        set.orders[2] = 255;
+        assert_eq!(set.energies(&state, &table, true), energies);
+        set.orders[1] = 3;
+        assert_eq!(set.table(0.5).unwrap_err(), Refusal::Order);
+        assert_eq!(set.searches(0, 2, 30.0), Err(Refusal::Length));
+        assert_eq!(set.searches(1, 1, 30.0), Err(Refusal::Order));
+        assert_eq!(set.diameter(2, 0, 0.5, 3.0, 2.5), Err(Refusal::Length));
+        assert_eq!(set.diameter_ends(0, 0, 0.5, 3.0, 2.5), Err(Refusal::Order));
+        assert_eq!(set.energies(&state, &table[1..], true), Err(Refusal::Length));
+        assert_eq!(set.energies(&state, &table, true), Err(Refusal::Order));
+        let short = State { densities: &[0.01], ..state };
+        assert_eq!(set.energies_ends(&short, &table, true), Err(Refusal::Length));
+        set.count = 9;
+        assert_eq!(set.table(30.0).unwrap_err(), Refusal::Length);
     }
 
     #[test]
@@ -489,6 +545,8 @@ mod tests {
         assert_eq!(refused(QuantumComponents { sigma: &[3.0], ..right }), Refusal::Length);
         assert_eq!(refused(QuantumComponents { sigma: &[3.0, 17.0], ..right }), Refusal::Limit);
         assert_eq!(refused(QuantumComponents { m: &[1.0, 2.0], ..right }), Refusal::SegmentNumber);
+        assert_eq!(quantum_record_m(1.0), Ok(()));
+        assert_eq!(quantum_record_m(f64::NAN), Err(Refusal::SegmentNumber));
         assert_eq!(refused(QuantumComponents { order: &[0, 3], ..right }), Refusal::Order);
         assert_eq!(refused(QuantumComponents { order: &[1, 2], ..right }), Refusal::MixedOrders);
         let close = [6.0, f64::from_bits(6.0f64.to_bits() + 1)];

@@ -2,39 +2,39 @@
 use Prim.Native.Nat.{ℕ, _*_}
 use lib.Dec.{eqb}
 use lib.Ieee.{Float}
-use lib.ListN.{length, set}
+use lib.ListN.{length}
 use borrow.Author.Tests.{eqb-true}
 use Rattle.mie_parameters.proofs.Laws.{and-left, and-right}
 use mathlib.Core.List.{List}
-use mathlib.Core.Path.{_≡_, sym, ap, _∙_, fun-ext}
-use native.Mathlib.Nat.{zero-add}
+use mathlib.Core.Path.{_≡_, sym, ap, _∙_}
 use mathlib.Core.Bool.{Bool, true, false}
 use Rattle.number.specs.Ans.{Ans, held, refused, _>>=_, demand}
-use Rattle.number.specs.Lists.{at}
-use Rattle.number.specs.Walk.{turns, filled}
-use Rattle.number.specs.Side.{side, sheet}
+use Rattle.number.specs.Side.{sheet}
 use Rattle.mie_parameters.specs.declared.ParameterAnswer.{ParameterAnswer}
-use Rattle.mie_parameters.specs.Answer.{numberOf, verdict, stored, status}
+use Rattle.mie_parameters.specs.declared.ParameterAnswer.the-variants.{Held, Refused}
+use Rattle.mie_parameters.specs.Answer.{numberOf, outcome, verdict, stored, status}
 use Rattle.saftvrqmie_parameters.specs.Parameters as Quantum
 use Rattle.saftvrqmie_parameters.specs.declared.OrderRecord.{OrderRecord}
 use Rattle.saftvrqmie_parameters.specs.declared.SaftVRQMiePars.{SaftVRQMiePars}
 use Rattle.saftvrmie_parameters.specs.Parameters as Mie
 use Rattle.saftvrmie_parameters.specs.declared.SaftVRMiePars.{SaftVRMiePars}
-use Rattle.saftvrqmie.specs.Table.{Lent, temperatureTable, pairsOf}
+use Rattle.limits.specs.Limits.{indexWithin}
+use Rattle.saftvrqmie.specs.Table.{Lent, rightLists, temperatureTable, pairsOf}
+use Rattle.saftvrqmie.specs.Pairs as Pairs
 use Rattle.saftvrqmie.specs.Pairs.{SearchesIn, searches}
-use Rattle.saftvrqmie_energies.specs.Energies.{EnergiesIn, energies}
+use Rattle.saftvrqmie_energies.specs.Energies.{EnergiesIn, rightLengths, energies}
 use Rattle.elementary.specs.Port.{port}
 use Rattle.enclosure.specs.declared.Ends.{Ends}
 use Rattle.saftvrqmie_energies_ends.specs.Operation.{energiesEnds}
 use Rattle.saftvrqmie_diameter_ends.specs.Operations.{diameterEnds}
 use Rattle.stages.specs.Stages.{quantumStage}
 use Rattle.saftvrmie.specs.Diameters.{diameters}
-use Rattle.saftvrmie.specs.Pairs.{radiusIj}
+use Rattle.saftvrmie.specs.Pairs.{radiusIj, diameterIj}
 use Rattle.saftvrmie_energies.specs.Energies.{energy}
 use Rattle.saftvrmie_energies_ends.specs.Operation.{dispersionEnds}
 use Rattle.saftvrmie_diameter_ends.specs.Operations as MieDiameter
-use Rattle.domthelv.specs.Sets.{copied, taken, quantumLengths, quantumSet, mieLengths, mieSet}
-use Rattle.domthelv.specs.Operations.{QuantumLent, MieLent, setWritten, vrqParameters, vrqTable, radiiLengths, radiiWritten, vrqRadii, energiesWritten, vrqEnergies, endsWritten, vrqEnergiesEnds, pairWritten, vrqDiameterEnds, vrqStage, mieWritten, vrParameters, vrDiameters, vrRadius, vrDispersion, vrDispersionEnds, vrDiameterEnds}
+use Rattle.set_lists.specs.Sets.{QuantumLists, taken, quantumLengths, quantumSet, MieLists, mieLengths, mieRead, mieSet}
+use Rattle.domthelv.specs.Operations.{QuantumLent, MieLent, setWritten, vrqParameters, vrqTable, radiiLengths, radiiWritten, vrqRadii, energiesWritten, vrqEnergies, endsWritten, vrqEnergiesEnds, pairWritten, vrqDiameter, vrqDiameterEnds, vrqStage, mieWritten, vrParameters, vrDiameters, vrRadius, vrDiameter, vrDispersion, vrDispersionEnds, vrDiameterEnds}
 
 -- an operation that gives a parameter answer and leaves its lists by `stored`
 pub through-status : {S : Type 0} (q p : Ans S) (a : ParameterAnswer) (r : ℕ) → q ≡ p → a ≡ verdict p → r ≡ numberOf a → r ≡ status q
@@ -80,94 +80,106 @@ module _ (x : Quantum.Lists) (l : QuantumLent) where
   unfolding vrqParameters demand _>>=_
   parameters-held s p q = rw (p, q)
 
-module _ (n : ℕ) (m sheets : List Float) (orders : List ℕ) (t : Float) (l : Lent) where
-  pub table-refused : (k : ℕ) → quantumSet n m sheets orders ≡ refused k → vrqTable n m sheets orders t l ≡ refused k
+module _ (s : QuantumLists) (t : Float) (l : Lent) where
+  abbrev table-right : Bool
+  table-right = rightLists (s .count) (length (l .values)) (length (l .numbers))
+
+  pub table-refused : (k : ℕ) → quantumSet table-right s ≡ refused k → vrqTable s t l ≡ refused k
   unfolding vrqTable _>>=_
   table-refused k p = rw p
 
-  pub table-is : (s : SaftVRQMiePars) → quantumSet n m sheets orders ≡ held s → vrqTable n m sheets orders t l ≡ temperatureTable s t l
+  table-is : (p : SaftVRQMiePars) → quantumSet table-right s ≡ held p → vrqTable s t l ≡ temperatureTable p t l
   unfolding vrqTable _>>=_
-  table-is s p = rw p
+  table-is p q = rw q
 
-  pub table-of : (x y : List Float) (o : List OrderRecord) → quantumSet n m sheets orders ≡ held (record { count = n; m = x; sheets = y; orders = o }) → vrqTable n m sheets orders t l ≡ temperatureTable (pairsOf n y o) t l
+  pub table-of : (x y : List Float) (o : List OrderRecord) → quantumSet table-right s ≡ held (record { count = s .count; m = x; sheets = y; orders = o }) → vrqTable s t l ≡ temperatureTable (pairsOf (s .count) y o) t l
   unfolding temperatureTable
-  table-of x y o p = table-is (record { count = n; m = x; sheets = y; orders = o }) p
+  table-of x y o p = table-is (record { count = s .count; m = x; sheets = y; orders = o }) p
 
   module _ (i j : ℕ) where
-    pub radii-1 : radiiLengths l ≡ false → vrqRadii n m sheets orders i j t l ≡ refused 1
+    pub radii-1 : radiiLengths l ≡ false → vrqRadii s i j t l ≡ refused 1
     unfolding vrqRadii demand _>>=_
     radii-1 p = rw p
 
     module _ (p : radiiLengths l ≡ true) where
-      pub radii-set : (k : ℕ) → quantumSet n m sheets orders ≡ refused k → vrqRadii n m sheets orders i j t l ≡ refused k
+      pub radii-set : (k : ℕ) → quantumSet (indexWithin (s .count) i j) s ≡ refused k → vrqRadii s i j t l ≡ refused k
       unfolding vrqRadii demand _>>=_
       radii-set k q = rw (p, q)
 
-      module _ (s : SaftVRQMiePars) (q : quantumSet n m sheets orders ≡ held s) where
-        pub radii-refused : (k : ℕ) → searches s i j t ≡ refused k → vrqRadii n m sheets orders i j t l ≡ refused k
+      module _ (x : SaftVRQMiePars) (q : quantumSet (indexWithin (s .count) i j) s ≡ held x) where
+        pub radii-refused : (k : ℕ) → searches x i j t ≡ refused k → vrqRadii s i j t l ≡ refused k
         unfolding vrqRadii demand _>>=_
         radii-refused k r = rw (p, q, r)
 
-        pub radii-held : (r : SearchesIn Float) → searches s i j t ≡ held r → vrqRadii n m sheets orders i j t l ≡ held (radiiWritten r l)
+        pub radii-held : (r : SearchesIn Float) → searches x i j t ≡ held r → vrqRadii s i j t l ≡ held (radiiWritten r l)
         unfolding vrqRadii demand _>>=_
         radii-held r h = rw (p, q, h)
 
-module _ (n : ℕ) (m sheets : List Float) (orders : List ℕ) (t : Float) (x rho table : List Float) (wanted : Bool) (l : List Float) where
-  pub energies-1 : eqb (length l) 3 ≡ false → vrqEnergies n m sheets orders t x rho table wanted l ≡ refused 1
+module _ (s : QuantumLists) (t : Float) (x rho table : List Float) (wanted : Bool) (l : List Float) where
+  pub energies-1 : eqb (length l) 3 ≡ false → vrqEnergies s t x rho table wanted l ≡ refused 1
   unfolding vrqEnergies demand _>>=_
   energies-1 p = rw p
 
   module _ (p : eqb (length l) 3 ≡ true) where
-    pub energies-set : (k : ℕ) → quantumSet n m sheets orders ≡ refused k → vrqEnergies n m sheets orders t x rho table wanted l ≡ refused k
+    pub energies-set : (k : ℕ) → quantumSet (rightLengths (s .count) x rho table) s ≡ refused k → vrqEnergies s t x rho table wanted l ≡ refused k
     unfolding vrqEnergies demand _>>=_
     energies-set k q = rw (p, q)
 
-    module _ (s : SaftVRQMiePars) (q : quantumSet n m sheets orders ≡ held s) where
-      pub energies-refused : (k : ℕ) → energies s t x rho table wanted ≡ refused k → vrqEnergies n m sheets orders t x rho table wanted l ≡ refused k
+    module _ (y : SaftVRQMiePars) (q : quantumSet (rightLengths (s .count) x rho table) s ≡ held y) where
+      pub energies-refused : (k : ℕ) → energies y t x rho table wanted ≡ refused k → vrqEnergies s t x rho table wanted l ≡ refused k
       unfolding vrqEnergies demand _>>=_
       energies-refused k r = rw (p, q, r)
 
-      pub energies-held : (e : EnergiesIn Float) → energies s t x rho table wanted ≡ held e → vrqEnergies n m sheets orders t x rho table wanted l ≡ held (energiesWritten e l)
+      pub energies-held : (e : EnergiesIn Float) → energies y t x rho table wanted ≡ held e → vrqEnergies s t x rho table wanted l ≡ held (energiesWritten e l)
       unfolding vrqEnergies demand _>>=_
       energies-held e h = rw (p, q, h)
 
-module _ (n : ℕ) (m sheets : List Float) (orders : List ℕ) (t : Float) (x rho table : List Float) (wanted : Bool) (l : List Float) where
-  pub energies-ends-1 : eqb (length l) 6 ≡ false → vrqEnergiesEnds n m sheets orders t x rho table wanted l ≡ refused 1
+module _ (s : QuantumLists) (t : Float) (x rho table : List Float) (wanted : Bool) (l : List Float) where
+  pub energies-ends-1 : eqb (length l) 6 ≡ false → vrqEnergiesEnds s t x rho table wanted l ≡ refused 1
   unfolding vrqEnergiesEnds demand _>>=_
   energies-ends-1 p = rw p
 
   module _ (p : eqb (length l) 6 ≡ true) where
-    pub energies-ends-set : (k : ℕ) → quantumSet n m sheets orders ≡ refused k → vrqEnergiesEnds n m sheets orders t x rho table wanted l ≡ refused k
+    pub energies-ends-set : (k : ℕ) → quantumSet (rightLengths (s .count) x rho table) s ≡ refused k → vrqEnergiesEnds s t x rho table wanted l ≡ refused k
     unfolding vrqEnergiesEnds demand _>>=_
     energies-ends-set k q = rw (p, q)
 
-    module _ (s : SaftVRQMiePars) (q : quantumSet n m sheets orders ≡ held s) where
-      pub energies-ends-refused : (k : ℕ) → energiesEnds port s t x rho table wanted ≡ refused k → vrqEnergiesEnds n m sheets orders t x rho table wanted l ≡ refused k
+    module _ (y : SaftVRQMiePars) (q : quantumSet (rightLengths (s .count) x rho table) s ≡ held y) where
+      pub energies-ends-refused : (k : ℕ) → energiesEnds port y t x rho table wanted ≡ refused k → vrqEnergiesEnds s t x rho table wanted l ≡ refused k
       unfolding vrqEnergiesEnds demand _>>=_
       energies-ends-refused k r = rw (p, q, r)
 
-      pub energies-ends-held : (e : EnergiesIn Ends) → energiesEnds port s t x rho table wanted ≡ held e → vrqEnergiesEnds n m sheets orders t x rho table wanted l ≡ held (endsWritten e l)
+      pub energies-ends-held : (e : EnergiesIn Ends) → energiesEnds port y t x rho table wanted ≡ held e → vrqEnergiesEnds s t x rho table wanted l ≡ held (endsWritten e l)
       unfolding vrqEnergiesEnds demand _>>=_
       energies-ends-held e h = rw (p, q, h)
 
-module _ (n : ℕ) (m sheets : List Float) (orders : List ℕ) (i j : ℕ) (t sigma-eff r0 : Float) (l : List Float) where
-  pub diameter-ends-1 : eqb (length l) 2 ≡ false → vrqDiameterEnds n m sheets orders i j t sigma-eff r0 l ≡ refused 1
-  unfolding vrqDiameterEnds demand _>>=_
-  diameter-ends-1 p = rw p
+module _ (s : QuantumLists) (i j : ℕ) (t sigma-eff r0 : Float) where
+  pub diameter-set : (k : ℕ) → quantumSet (indexWithin (s .count) i j) s ≡ refused k → vrqDiameter s i j t sigma-eff r0 ≡ refused k
+  unfolding vrqDiameter _>>=_
+  diameter-set k q = rw q
 
-  module _ (p : eqb (length l) 2 ≡ true) where
-    pub diameter-ends-set : (k : ℕ) → quantumSet n m sheets orders ≡ refused k → vrqDiameterEnds n m sheets orders i j t sigma-eff r0 l ≡ refused k
+  pub diameter-is : (x : SaftVRQMiePars) → quantumSet (indexWithin (s .count) i j) s ≡ held x → vrqDiameter s i j t sigma-eff r0 ≡ Pairs.diameterIj x i j t sigma-eff r0
+  unfolding vrqDiameter _>>=_
+  diameter-is x q = rw q
+
+  module _ (l : List Float) where
+    pub diameter-ends-1 : eqb (length l) 2 ≡ false → vrqDiameterEnds s i j t sigma-eff r0 l ≡ refused 1
     unfolding vrqDiameterEnds demand _>>=_
-    diameter-ends-set k q = rw (p, q)
+    diameter-ends-1 p = rw p
 
-    module _ (s : SaftVRQMiePars) (q : quantumSet n m sheets orders ≡ held s) where
-      pub diameter-ends-refused : (k : ℕ) → diameterEnds port s i j t sigma-eff r0 ≡ refused k → vrqDiameterEnds n m sheets orders i j t sigma-eff r0 l ≡ refused k
+    module _ (p : eqb (length l) 2 ≡ true) where
+      pub diameter-ends-set : (k : ℕ) → quantumSet (indexWithin (s .count) i j) s ≡ refused k → vrqDiameterEnds s i j t sigma-eff r0 l ≡ refused k
       unfolding vrqDiameterEnds demand _>>=_
-      diameter-ends-refused k r = rw (p, q, r)
+      diameter-ends-set k q = rw (p, q)
 
-      pub diameter-ends-held : (e : Ends) → diameterEnds port s i j t sigma-eff r0 ≡ held e → vrqDiameterEnds n m sheets orders i j t sigma-eff r0 l ≡ held (pairWritten e l)
-      unfolding vrqDiameterEnds demand _>>=_
-      diameter-ends-held e h = rw (p, q, h)
+      module _ (x : SaftVRQMiePars) (q : quantumSet (indexWithin (s .count) i j) s ≡ held x) where
+        pub diameter-ends-refused : (k : ℕ) → diameterEnds port x i j t sigma-eff r0 ≡ refused k → vrqDiameterEnds s i j t sigma-eff r0 l ≡ refused k
+        unfolding vrqDiameterEnds demand _>>=_
+        diameter-ends-refused k r = rw (p, q, r)
+
+        pub diameter-ends-held : (e : Ends) → diameterEnds port x i j t sigma-eff r0 ≡ held e → vrqDiameterEnds s i j t sigma-eff r0 l ≡ held (pairWritten e l)
+        unfolding vrqDiameterEnds demand _>>=_
+        diameter-ends-held e h = rw (p, q, h)
 
 module _ (x : Quantum.Lists) (t : Float) (fractions rho : List Float) (wanted : Bool) (l : List Float) where
   pub stage-1 : eqb (length l) 3 ≡ false → vrqStage x t fractions rho wanted l ≡ refused 1
@@ -195,77 +207,82 @@ module _ (x : Mie.Lists) (l : MieLent) where
   unfolding vrParameters demand _>>=_
   mie-parameters-held s p q = rw (p, q)
 
--- what is copied from the first place on is what the operation writes
-pub copied-written : (n : ℕ) (d l : List Float) → copied n d 0 l ≡ filled n (at d) l
-unfolding copied
-copied-written n d l = ap (λ (f : ℕ → List Float → List Float). turns n f l) (fun-ext (λ i. fun-ext (λ s. ap (λ (k : ℕ). set s i (at d k)) (zero-add i))))
-
-module _ (n : ℕ) (lists sheets : List Float) where
-  pub diameters-refused : (t : Float) (l : List Float) (k : ℕ) → mieSet n lists sheets ≡ refused k → vrDiameters n lists sheets t l ≡ refused k
+module _ (s : MieLists) where
+  pub diameters-refused : (t : Float) (l : List Float) (k : ℕ) → mieSet s ≡ refused k → vrDiameters s t l ≡ refused k
   unfolding vrDiameters _>>=_
   diameters-refused t l k p = rw p
 
-  -- of the lists as they are lent, taken apart without a set
-  pub mie-set-1 : mieLengths lists sheets ≡ false → mieSet n lists sheets ≡ refused 1
-  unfolding mieSet demand _>>=_
-  mie-set-1 p = rw p
-
-  pub diameters-from : (t : Float) (l y : List Float) → mieLengths lists sheets ≡ true → y ≡ taken (6 * sheet) sheets 0 → vrDiameters n lists sheets t l ≡ diameters n y t l
-  unfolding vrDiameters mieSet demand _>>=_
+  -- the diameters read the sheets alone
+  pub diameters-from : (t : Float) (l y : List Float) → mieSet s ≡ held (mieRead s) → y ≡ taken (6 * sheet) (s .sheets) 0 → vrDiameters s t l ≡ diameters (s .count) y t l
+  unfolding vrDiameters _>>=_ mieRead
   diameters-from t l y p e = rw (p, e)
 
-  pub dispersion-from : (t : Float) (x rho d : List Float) (chain : Bool) (m sigma epsilon-k lr la y : List Float) → mieLengths lists sheets ≡ true → m ≡ taken side lists 0 → sigma ≡ taken side lists (1 * side) → epsilon-k ≡ taken side lists (2 * side) → lr ≡ taken side lists (3 * side) → la ≡ taken side lists (4 * side)
-      → y ≡ taken (6 * sheet) sheets 0
-      → vrDispersion n lists sheets t x rho d chain ≡ energy (record { count = n; m = m; sigma = sigma; «epsilon_k» = epsilon-k; lr = lr; la = la; sheets = y }) t x rho d chain
-  unfolding vrDispersion mieSet demand _>>=_
-  dispersion-from t x rho d chain m sigma epsilon-k lr la y p a b c f g h = rw (p, a, b, c, f, g, h)
+  module _ (i j : ℕ) (t : Float) where
+    pub radius-refused : (k : ℕ) → mieSet s ≡ refused k → vrRadius s i j t ≡ refused k
+    unfolding vrRadius _>>=_
+    radius-refused k p = rw p
 
-  pub radius-refused : (i j : ℕ) (t : Float) (k : ℕ) → mieSet n lists sheets ≡ refused k → vrRadius n lists sheets i j t ≡ refused k
-  unfolding vrRadius _>>=_
-  radius-refused i j t k p = rw p
+    pub radius-is : (x : SaftVRMiePars) → mieSet s ≡ held x → vrRadius s i j t ≡ radiusIj x i j t
+    unfolding vrRadius _>>=_
+    radius-is x p = rw p
 
-  pub radius-is : (i j : ℕ) (t : Float) (s : SaftVRMiePars) → mieSet n lists sheets ≡ held s → vrRadius n lists sheets i j t ≡ radiusIj s i j t
-  unfolding vrRadius _>>=_
-  radius-is i j t s p = rw p
+    pub mie-diameter-refused : (r0 : Float) (k : ℕ) → mieSet s ≡ refused k → vrDiameter s i j t r0 ≡ refused k
+    unfolding vrDiameter _>>=_
+    mie-diameter-refused r0 k p = rw p
 
-  pub dispersion-refused : (t : Float) (x rho d : List Float) (chain : Bool) (k : ℕ) → mieSet n lists sheets ≡ refused k → vrDispersion n lists sheets t x rho d chain ≡ refused k
-  unfolding vrDispersion _>>=_
-  dispersion-refused t x rho d chain k p = rw p
+    pub mie-diameter-is : (r0 : Float) (x : SaftVRMiePars) → mieSet s ≡ held x → vrDiameter s i j t r0 ≡ diameterIj x i j t r0
+    unfolding vrDiameter _>>=_
+    mie-diameter-is r0 x p = rw p
 
-module _ (n : ℕ) (lists sheets : List Float) (t : Float) (x rho d : List Float) (chain : Bool) (l : List Float) where
-  pub mie-dispersion-ends-1 : eqb (length l) 2 ≡ false → vrDispersionEnds n lists sheets t x rho d chain l ≡ refused 1
-  unfolding vrDispersionEnds demand _>>=_
-  mie-dispersion-ends-1 p = rw p
+  module _ (t : Float) (x rho d : List Float) (chain : Bool) where
+    pub dispersion-refused : (k : ℕ) → mieSet s ≡ refused k → vrDispersion s t x rho d chain ≡ refused k
+    unfolding vrDispersion _>>=_
+    dispersion-refused k p = rw p
 
-  module _ (p : eqb (length l) 2 ≡ true) where
-    pub mie-dispersion-ends-set : (k : ℕ) → mieSet n lists sheets ≡ refused k → vrDispersionEnds n lists sheets t x rho d chain l ≡ refused k
-    unfolding vrDispersionEnds demand _>>=_
-    mie-dispersion-ends-set k q = rw (p, q)
+    pub dispersion-is : (y : SaftVRMiePars) → mieSet s ≡ held y → vrDispersion s t x rho d chain ≡ energy y t x rho d chain
+    unfolding vrDispersion _>>=_
+    dispersion-is y p = rw p
 
-    module _ (s : SaftVRMiePars) (q : mieSet n lists sheets ≡ held s) where
-      pub mie-dispersion-ends-refused : (k : ℕ) → dispersionEnds port s t x rho d chain ≡ refused k → vrDispersionEnds n lists sheets t x rho d chain l ≡ refused k
+    module _ (l : List Float) where
+      pub mie-dispersion-ends-1 : eqb (length l) 2 ≡ false → vrDispersionEnds s t x rho d chain l ≡ refused 1
       unfolding vrDispersionEnds demand _>>=_
-      mie-dispersion-ends-refused k r = rw (p, q, r)
+      mie-dispersion-ends-1 p = rw p
 
-      pub mie-dispersion-ends-held : (e : Ends) → dispersionEnds port s t x rho d chain ≡ held e → vrDispersionEnds n lists sheets t x rho d chain l ≡ held (pairWritten e l)
-      unfolding vrDispersionEnds demand _>>=_
-      mie-dispersion-ends-held e h = rw (p, q, h)
+      module _ (p : eqb (length l) 2 ≡ true) where
+        pub mie-dispersion-ends-set : (k : ℕ) → mieSet s ≡ refused k → vrDispersionEnds s t x rho d chain l ≡ refused k
+        unfolding vrDispersionEnds demand _>>=_
+        mie-dispersion-ends-set k q = rw (p, q)
 
-module _ (n : ℕ) (lists sheets : List Float) (i j : ℕ) (t r0 : Float) (l : List Float) where
-  pub mie-diameter-ends-1 : eqb (length l) 2 ≡ false → vrDiameterEnds n lists sheets i j t r0 l ≡ refused 1
-  unfolding vrDiameterEnds demand _>>=_
-  mie-diameter-ends-1 p = rw p
+        module _ (y : SaftVRMiePars) (q : mieSet s ≡ held y) where
+          pub mie-dispersion-ends-refused : (k : ℕ) → dispersionEnds port y t x rho d chain ≡ refused k → vrDispersionEnds s t x rho d chain l ≡ refused k
+          unfolding vrDispersionEnds demand _>>=_
+          mie-dispersion-ends-refused k r = rw (p, q, r)
 
-  module _ (p : eqb (length l) 2 ≡ true) where
-    pub mie-diameter-ends-set : (k : ℕ) → mieSet n lists sheets ≡ refused k → vrDiameterEnds n lists sheets i j t r0 l ≡ refused k
+          pub mie-dispersion-ends-held : (e : Ends) → dispersionEnds port y t x rho d chain ≡ held e → vrDispersionEnds s t x rho d chain l ≡ held (pairWritten e l)
+          unfolding vrDispersionEnds demand _>>=_
+          mie-dispersion-ends-held e h = rw (p, q, h)
+
+  module _ (i j : ℕ) (t r0 : Float) (l : List Float) where
+    pub mie-diameter-ends-1 : eqb (length l) 2 ≡ false → vrDiameterEnds s i j t r0 l ≡ refused 1
     unfolding vrDiameterEnds demand _>>=_
-    mie-diameter-ends-set k q = rw (p, q)
+    mie-diameter-ends-1 p = rw p
 
-    module _ (s : SaftVRMiePars) (q : mieSet n lists sheets ≡ held s) where
-      pub mie-diameter-ends-refused : (k : ℕ) → MieDiameter.diameterEnds port s i j t r0 ≡ refused k → vrDiameterEnds n lists sheets i j t r0 l ≡ refused k
+    module _ (p : eqb (length l) 2 ≡ true) where
+      pub mie-diameter-ends-set : (k : ℕ) → mieSet s ≡ refused k → vrDiameterEnds s i j t r0 l ≡ refused k
       unfolding vrDiameterEnds demand _>>=_
-      mie-diameter-ends-refused k r = rw (p, q, r)
+      mie-diameter-ends-set k q = rw (p, q)
 
-      pub mie-diameter-ends-held : (e : Ends) → MieDiameter.diameterEnds port s i j t r0 ≡ held e → vrDiameterEnds n lists sheets i j t r0 l ≡ held (pairWritten e l)
-      unfolding vrDiameterEnds demand _>>=_
-      mie-diameter-ends-held e h = rw (p, q, h)
+      module _ (x : SaftVRMiePars) (q : mieSet s ≡ held x) where
+        pub mie-diameter-ends-refused : (k : ℕ) → MieDiameter.diameterEnds port x i j t r0 ≡ refused k → vrDiameterEnds s i j t r0 l ≡ refused k
+        unfolding vrDiameterEnds demand _>>=_
+        mie-diameter-ends-refused k r = rw (p, q, r)
+
+        pub mie-diameter-ends-held : (e : Ends) → MieDiameter.diameterEnds port x i j t r0 ≡ held e → vrDiameterEnds s i j t r0 l ≡ held (pairWritten e l)
+        unfolding vrDiameterEnds demand _>>=_
+        mie-diameter-ends-held e h = rw (p, q, h)
+
+-- `outcome` of an operation that leaves nothing behind
+pub outcome-status : (a : ParameterAnswer) (r : ℕ) (q : Ans Bool) → outcome a true ≡ q → r ≡ numberOf a → r ≡ status q
+unfolding status verdict
+outcome-status Held r q p e = rw (← p) e
+outcome-status (Refused n) r q p e = rw (← p) e

@@ -1,4 +1,4 @@
--- The operations behind the boundary, with the lists that a call lends (include/domthelv.h): 1 for the length of an `out` that is no list of the operation itself, then 1 and 4 for the set's lists, then the operation's own refusals in their order.
+-- The operations behind the boundary, with the lists that a call lends (include/domthelv.h): 1 for anything that is given 1, then 4 for an order of a quantum set, then the operation's other refusals in their order; its own 1 comes before the 4 and is never met after it.
 use Prim.Native.Nat.{ℕ, _*_}
 use lib.Dec.{eqb}
 use lib.Ieee.{Float}
@@ -12,20 +12,23 @@ use Rattle.saftvrqmie_parameters.specs.declared.SaftVRQMiePars.{SaftVRQMiePars}
 use Rattle.saftvrmie_parameters.specs.Parameters as Mie
 use Rattle.saftvrmie_parameters.specs.declared.SaftVRMiePars.{SaftVRMiePars}
 use Rattle.saftvrqmie_properties.specs.Properties.{radiusOf, lastOf}
-use Rattle.saftvrqmie.specs.Table.{Lent, temperatureTable}
+use Rattle.limits.specs.Limits.{indexWithin}
+use Rattle.saftvrqmie.specs.Table.{Lent, rightLists, temperatureTable}
+use Rattle.saftvrqmie.specs.Pairs as Pairs
 use Rattle.saftvrqmie.specs.Pairs.{SearchesIn, searches}
-use Rattle.saftvrqmie_energies.specs.Energies.{EnergiesIn, energies}
+use Rattle.saftvrqmie_energies.specs.Energies.{EnergiesIn, rightLengths, energies}
 use Rattle.elementary.specs.Port.{port}
 use Rattle.enclosure.specs.declared.Ends.{Ends}
 use Rattle.saftvrqmie_energies_ends.specs.Operation.{energiesEnds}
 use Rattle.saftvrqmie_diameter_ends.specs.Operations.{diameterEnds}
 use Rattle.stages.specs.Stages.{quantumStage}
 use Rattle.saftvrmie.specs.Diameters.{diameters}
-use Rattle.saftvrmie.specs.Pairs.{radiusIj}
+use Rattle.saftvrmie.specs.Pairs.{radiusIj, diameterIj}
 use Rattle.saftvrmie_energies.specs.Energies.{energy}
 use Rattle.saftvrmie_energies_ends.specs.Operation.{dispersionEnds}
 use Rattle.saftvrmie_diameter_ends.specs.Operations as MieDiameter
-use Rattle.domthelv.specs.Sets.{placed, ordersWritten, quantumLengths, quantumSet, mieLengths, mieSet, listsWritten}
+use Rattle.set_lists.specs.Sets.{QuantumLists, quantumLengths, quantumSet, MieLists, mieLengths, mieSet}
+use Rattle.domthelv.specs.Sets.{placed, ordersWritten, listsWritten}
 
 -- the lists that a quantum set is written into
 pub record QuantumLent : Type 0 where
@@ -42,8 +45,10 @@ vrqParameters x l =
     Quantum.saftVRQMiePars x >>= λ s.
     held (setWritten s l)
 
-unfoldable pub vrqTable : ℕ → List Float → List Float → List ℕ → Float → Lent → Ans Lent
-vrqTable n m sheets orders t l = quantumSet n m sheets orders >>= λ s. temperatureTable s t l
+unfoldable pub vrqTable : QuantumLists → Float → Lent → Ans Lent
+vrqTable s t l =
+    quantumSet (rightLists (s .count) (length (l .values)) (length (l .numbers))) s >>= λ p.
+    temperatureTable p t l
 
 -- radius and last potential of sigma, zero, depth, and the three counts
 unfoldable pub radiiWritten : SearchesIn Float → Lent → Lent
@@ -57,22 +62,22 @@ radiiWritten r l =
 unfoldable pub radiiLengths : Lent → Bool
 radiiLengths l = eqb (length (l .values)) 6 && eqb (length (l .numbers)) 3
 
-unfoldable pub vrqRadii : ℕ → List Float → List Float → List ℕ → ℕ → ℕ → Float → Lent → Ans Lent
-vrqRadii n m sheets orders i j t l =
+unfoldable pub vrqRadii : QuantumLists → ℕ → ℕ → Float → Lent → Ans Lent
+vrqRadii s i j t l =
     demand 1 (radiiLengths l) >>= λ _.
-    quantumSet n m sheets orders >>= λ s.
-    searches s i j t >>= λ r.
+    quantumSet (indexWithin (s .count) i j) s >>= λ p.
+    searches p i j t >>= λ r.
     held (radiiWritten r l)
 
 -- hard sphere, dispersion, non-additive
 unfoldable pub energiesWritten : EnergiesIn Float → List Float → List Float
 energiesWritten e l = set (set (set l 0 (e .hard-sphere)) 1 (e .dispersion)) 2 (e .non-additive)
 
-unfoldable pub vrqEnergies : ℕ → List Float → List Float → List ℕ → Float → List Float → List Float → List Float → Bool → List Float → Ans (List Float)
-vrqEnergies n m sheets orders t x rho table wanted l =
+unfoldable pub vrqEnergies : QuantumLists → Float → List Float → List Float → List Float → Bool → List Float → Ans (List Float)
+vrqEnergies s t x rho table wanted l =
     demand 1 (eqb (length l) 3) >>= λ _.
-    quantumSet n m sheets orders >>= λ s.
-    energies s t x rho table wanted >>= λ e.
+    quantumSet (rightLengths (s .count) x rho table) s >>= λ p.
+    energies p t x rho table wanted >>= λ e.
     held (energiesWritten e l)
 
 -- low and high end of each of the three
@@ -80,22 +85,27 @@ unfoldable pub endsWritten : EnergiesIn Ends → List Float → List Float
 endsWritten e l =
     set (set (set (set (set (set l 0 (e .hard-sphere .lower)) 1 (e .hard-sphere .upper)) 2 (e .dispersion .lower)) 3 (e .dispersion .upper)) 4 (e .non-additive .lower)) 5 (e .non-additive .upper)
 
-unfoldable pub vrqEnergiesEnds : ℕ → List Float → List Float → List ℕ → Float → List Float → List Float → List Float → Bool → List Float → Ans (List Float)
-vrqEnergiesEnds n m sheets orders t x rho table wanted l =
+unfoldable pub vrqEnergiesEnds : QuantumLists → Float → List Float → List Float → List Float → Bool → List Float → Ans (List Float)
+vrqEnergiesEnds s t x rho table wanted l =
     demand 1 (eqb (length l) 6) >>= λ _.
-    quantumSet n m sheets orders >>= λ s.
-    energiesEnds port s t x rho table wanted >>= λ e.
+    quantumSet (rightLengths (s .count) x rho table) s >>= λ p.
+    energiesEnds port p t x rho table wanted >>= λ e.
     held (endsWritten e l)
 
 -- low and high end
 unfoldable pub pairWritten : Ends → List Float → List Float
 pairWritten e l = set (set l 0 (e .lower)) 1 (e .upper)
 
-unfoldable pub vrqDiameterEnds : ℕ → List Float → List Float → List ℕ → ℕ → ℕ → Float → Float → Float → List Float → Ans (List Float)
-vrqDiameterEnds n m sheets orders i j t sigma-eff r0 l =
+unfoldable pub vrqDiameter : QuantumLists → ℕ → ℕ → Float → Float → Float → Ans Float
+vrqDiameter s i j t sigma-eff r0 =
+    quantumSet (indexWithin (s .count) i j) s >>= λ p.
+    Pairs.diameterIj p i j t sigma-eff r0
+
+unfoldable pub vrqDiameterEnds : QuantumLists → ℕ → ℕ → Float → Float → Float → List Float → Ans (List Float)
+vrqDiameterEnds s i j t sigma-eff r0 l =
     demand 1 (eqb (length l) 2) >>= λ _.
-    quantumSet n m sheets orders >>= λ s.
-    diameterEnds port s i j t sigma-eff r0 >>= λ e.
+    quantumSet (indexWithin (s .count) i j) s >>= λ p.
+    diameterEnds port p i j t sigma-eff r0 >>= λ e.
     held (pairWritten e l)
 
 unfoldable pub vrqStage : Quantum.Lists → Float → List Float → List Float → Bool → List Float → Ans (List Float)
@@ -118,25 +128,28 @@ vrParameters x l =
     Mie.saftVRMiePars x >>= λ s.
     held (mieWritten s l)
 
-unfoldable pub vrDiameters : ℕ → List Float → List Float → Float → List Float → Ans (List Float)
-vrDiameters n lists sheets t l = mieSet n lists sheets >>= λ s. diameters (s .count) (s .sheets) t l
+unfoldable pub vrDiameters : MieLists → Float → List Float → Ans (List Float)
+vrDiameters s t l = mieSet s >>= λ p. diameters (p .count) (p .sheets) t l
 
-unfoldable pub vrRadius : ℕ → List Float → List Float → ℕ → ℕ → Float → Ans Float
-vrRadius n lists sheets i j t = mieSet n lists sheets >>= λ s. radiusIj s i j t
+unfoldable pub vrRadius : MieLists → ℕ → ℕ → Float → Ans Float
+vrRadius s i j t = mieSet s >>= λ p. radiusIj p i j t
 
-unfoldable pub vrDispersion : ℕ → List Float → List Float → Float → List Float → List Float → List Float → Bool → Ans Float
-vrDispersion n lists sheets t x rho d chain = mieSet n lists sheets >>= λ s. energy s t x rho d chain
+unfoldable pub vrDiameter : MieLists → ℕ → ℕ → Float → Float → Ans Float
+vrDiameter s i j t r0 = mieSet s >>= λ p. diameterIj p i j t r0
 
-unfoldable pub vrDispersionEnds : ℕ → List Float → List Float → Float → List Float → List Float → List Float → Bool → List Float → Ans (List Float)
-vrDispersionEnds n lists sheets t x rho d chain l =
+unfoldable pub vrDispersion : MieLists → Float → List Float → List Float → List Float → Bool → Ans Float
+vrDispersion s t x rho d chain = mieSet s >>= λ p. energy p t x rho d chain
+
+unfoldable pub vrDispersionEnds : MieLists → Float → List Float → List Float → List Float → Bool → List Float → Ans (List Float)
+vrDispersionEnds s t x rho d chain l =
     demand 1 (eqb (length l) 2) >>= λ _.
-    mieSet n lists sheets >>= λ s.
-    dispersionEnds port s t x rho d chain >>= λ e.
+    mieSet s >>= λ p.
+    dispersionEnds port p t x rho d chain >>= λ e.
     held (pairWritten e l)
 
-unfoldable pub vrDiameterEnds : ℕ → List Float → List Float → ℕ → ℕ → Float → Float → List Float → Ans (List Float)
-vrDiameterEnds n lists sheets i j t r0 l =
+unfoldable pub vrDiameterEnds : MieLists → ℕ → ℕ → Float → Float → List Float → Ans (List Float)
+vrDiameterEnds s i j t r0 l =
     demand 1 (eqb (length l) 2) >>= λ _.
-    mieSet n lists sheets >>= λ s.
-    MieDiameter.diameterEnds port s i j t r0 >>= λ e.
+    mieSet s >>= λ p.
+    MieDiameter.diameterEnds port p i j t r0 >>= λ e.
     held (pairWritten e l)

@@ -10,12 +10,16 @@ ghost use lib.ListN.{length};
 ghost use Rattle.number.specs.Side.{side, sheet};
 ghost use Rattle.mie_parameters.specs.Answer.{status, stored};
 ghost use Rattle.domthelv.specs.Elementary.{Delivers};
-ghost use Rattle.domthelv.specs.Sets.{copied, taken, placed, ordersWithin, ordersRead, ordersWritten, quantumLengths, quantumSet, mieLengths, mieSet, listsWritten};
-ghost use Rattle.domthelv.specs.Operations.{vrqParameters, vrqTable, radiiWritten, radiiLengths, vrqRadii, energiesWritten, vrqEnergies, endsWritten, vrqEnergiesEnds, pairWritten, vrqDiameterEnds, vrqStage, vrParameters, vrDiameters, vrRadius, vrDispersion, vrDispersionEnds, vrDiameterEnds};
+ghost use Rattle.set_lists.specs.Sets.{QuantumLists, MieLists};
+ghost use Rattle.domthelv.specs.Sets.{placed, ordersWritten, listsWritten};
+ghost use Rattle.domthelv.specs.Operations.{QuantumLent, vrqParameters, vrqTable, radiiWritten, radiiLengths, vrqRadii, energiesWritten, vrqEnergies, endsWritten};
+ghost use Rattle.domthelv.specs.Operations.{vrqEnergiesEnds, pairWritten, vrqDiameter, vrqDiameterEnds, vrqStage};
+ghost use Rattle.domthelv.specs.Operations.{MieLent, vrParameters, vrDiameters, vrRadius, vrDiameter, vrDispersion, vrDispersionEnds, vrDiameterEnds};
 ghost use Rattle.stages.specs.Stages.{mieStage};
 ghost use Rattle.saftvrqmie_parameters.specs.Parameters as Quantum;
 ghost use Rattle.saftvrmie_parameters.specs.Parameters as Mie;
 ghost use Rattle.saftvrqmie_potential.specs.Potential.{orderNumber};
+ghost use Rattle.saftvrqmie.specs.Table.{Lent};
 ghost use Rattle.saftvrqmie.specs.Pairs.{searchesIn};
 ghost use Rattle.saftvrqmie_energies.specs.Energies.{energiesIn};
 ghost use Rattle.saftvrqmie_energies_ends.specs.Operation.{endsEach};
@@ -107,16 +111,6 @@ pub extern "C" fn domthelv_powi(x: f64, n: i32) -> f64
     number::powi(x, n)
 }
 
-// Numbers of a list into an array that is lent.
-fn copy(n: usize, d: &[f64], from: usize, l: &mut [f64])
-    requires { ⌜ (from + n ≤ length (now d)) × (n ≤ length (now l)) ⌝ }
-    ensures { λ _. ⌜ now (l .exit) ≡ copied n (now (d .entry)) from (now (l .entry)) ⌝ }
-{
-    for i in 0usize..n {
-        l[i] = d[from + i];
-    }
-}
-
 // A component list of a set into its places of a list.
 fn write_places(d: &[f64; 8], l: &mut [f64], to: usize)
     requires { ⌜ to + side ≤ length (now l) ⌝ }
@@ -135,32 +129,6 @@ fn write_sheets(d: &[f64; 384], l: &mut [f64], to: usize)
     for i in 0usize..6 * SHEET {
         l[to + i] = d[i];
     }
-}
-
-fn orders_within(l: &[u8]) -> bool
-    requires { ⌜ length (now l) ≡ sheet ⌝ }
-    ensures { λ r. ⌜ r ≡ ordersWithin (now (l .entry)) ⌝ }
-{
-    let mut ok = true;
-    for e in 0usize..SHEET {
-        ok = ok & (l[e] <= 2);
-    }
-    ok
-}
-
-fn orders_read(l: &[u8]) -> [OrderRecord; 64]
-    requires { ⌜ length (now l) ≡ sheet ⌝ }
-    ensures { λ r. ⌜ r ≡ ordersRead (now (l .entry)) ⌝ }
-{
-    let unused = OrderRecord {
-        order: FeynmanHibbsOrder::FH0,
-    };
-    let mut orders = [unused; 64];
-    for e in 0usize..SHEET {
-        let order = saftvrqmie_parameters::order_of(l[e]);
-        orders[e] = OrderRecord { order };
-    }
-    orders
 }
 
 fn order_byte(order: FeynmanHibbsOrder) -> u8
@@ -184,45 +152,16 @@ fn orders_written(orders: [OrderRecord; 64], l: &mut [u8])
     }
 }
 
-fn quantum_lengths(m: &[f64], sheets: &[f64], orders: &[u8]) -> bool
-    ensures { λ r. ⌜ r ≡ quantumLengths (now (m .entry)) (now (sheets .entry)) (now (orders .entry)) ⌝ }
+// `SaftVRQMieRecord::new`: 3 if m is not 1.
+#[no_mangle]
+pub extern "C" fn domthelv_vrq_record_m(m: f64) -> u8
+    ensures { λ r. ⌜ r ≡ status (Quantum.recordM m) ⌝ }
 {
-    (m.len() == SIDE) & (sheets.len() == 6 * SHEET) & (orders.len() == SHEET)
+    let answer = saftvrqmie_parameters::record_m(m);
+    mie_parameters::number(answer)
 }
 
-// The quantum set of its lists, or 1 or 4.
-fn quantum_set(
-    count: usize,
-    m: &[f64],
-    sheets: &[f64],
-    orders: &[u8],
-) -> saftvrqmie_parameters::ParameterSet
-    ensures { λ r. ⌜ r ≡ Quantum.given (quantumSet count (now (m .entry)) (now (sheets .entry)) (now (orders .entry))) ⌝ }
-{
-    if !quantum_lengths(m, sheets, orders) {
-        return saftvrqmie_parameters::refused_with(1);
-    }
-    if !orders_within(orders) {
-        return saftvrqmie_parameters::refused_with(4);
-    }
-    let mut places = [0.0; 8];
-    copy(SIDE, m, 0, &mut places);
-    let mut flat = [0.0; 384];
-    copy(6 * SHEET, sheets, 0, &mut flat);
-    let records = orders_read(orders);
-    let set = SaftVRQMiePars {
-        count,
-        m: places,
-        sheets: flat,
-        orders: records,
-    };
-    saftvrqmie_parameters::ParameterSet {
-        answer: ParameterAnswer::Held,
-        set,
-    }
-}
-
-// Quantum parameters. 1 for a list of the set that is lent, then 1, 2, 3, 4 or 5, 6.
+// Quantum parameters. 1, 2, 3, 4 or 5, 6.
 #[no_mangle]
 pub extern "C" fn domthelv_vrq_parameters(
     count: usize,
@@ -239,9 +178,25 @@ pub extern "C" fn domthelv_vrq_parameters(
     set_sheets: &mut [f64],
     set_orders: &mut [u8],
 ) -> u8
-    ensures { λ r. ⌜ (r ≡ status (vrqParameters (record { count = count; m = now (m .entry); sigma = now (sigma .entry); epsilon-k = now («epsilon_k» .entry); lr = now (lr .entry); la = now (la .entry); mass = now (mass .entry); fh = now (order .entry); k-ij = now («k_ij» .entry); l-ij = now («l_ij» .entry) }) (record { m = now («set_m» .entry); sheets = now («set_sheets» .entry); orders = now («set_orders» .entry) }))) × (now («set_m» .exit) ≡ stored (record { m = now («set_m» .entry); sheets = now («set_sheets» .entry); orders = now («set_orders» .entry) }) (vrqParameters (record { count = count; m = now (m .entry); sigma = now (sigma .entry); epsilon-k = now («epsilon_k» .entry); lr = now (lr .entry); la = now (la .entry); mass = now (mass .entry); fh = now (order .entry); k-ij = now («k_ij» .entry); l-ij = now («l_ij» .entry) }) (record { m = now («set_m» .entry); sheets = now («set_sheets» .entry); orders = now («set_orders» .entry) })) .m) × (now («set_sheets» .exit) ≡ stored (record { m = now («set_m» .entry); sheets = now («set_sheets» .entry); orders = now («set_orders» .entry) }) (vrqParameters (record { count = count; m = now (m .entry); sigma = now (sigma .entry); epsilon-k = now («epsilon_k» .entry); lr = now (lr .entry); la = now (la .entry); mass = now (mass .entry); fh = now (order .entry); k-ij = now («k_ij» .entry); l-ij = now («l_ij» .entry) }) (record { m = now («set_m» .entry); sheets = now («set_sheets» .entry); orders = now («set_orders» .entry) })) .sheets) × (now («set_orders» .exit) ≡ stored (record { m = now («set_m» .entry); sheets = now («set_sheets» .entry); orders = now («set_orders» .entry) }) (vrqParameters (record { count = count; m = now (m .entry); sigma = now (sigma .entry); epsilon-k = now («epsilon_k» .entry); lr = now (lr .entry); la = now (la .entry); mass = now (mass .entry); fh = now (order .entry); k-ij = now («k_ij» .entry); l-ij = now («l_ij» .entry) }) (record { m = now («set_m» .entry); sheets = now («set_sheets» .entry); orders = now («set_orders» .entry) })) .orders) ⌝ }
+    ensures { λ r.
+        let x : Quantum.Lists =
+        record {
+          count = count;
+          m = now (m .entry);
+          sigma = now (sigma .entry);
+          epsilon-k = now («epsilon_k» .entry);
+          lr = now (lr .entry);
+          la = now (la .entry);
+          mass = now (mass .entry);
+          fh = now (order .entry);
+          k-ij = now («k_ij» .entry);
+          l-ij = now («l_ij» .entry);
+        } in
+        let l : QuantumLent = record { m = now («set_m» .entry); sheets = now («set_sheets» .entry); orders = now («set_orders» .entry) } in
+        let q = vrqParameters x l in
+        ⌜ (r ≡ status q) × (now («set_m» .exit) ≡ stored l q .m) × (now («set_sheets» .exit) ≡ stored l q .sheets) × (now («set_orders» .exit) ≡ stored l q .orders) ⌝ }
 {
-    if !quantum_lengths(set_m, set_sheets, set_orders) {
+    if !set_lists::quantum_lengths(set_m, set_sheets, set_orders) {
         return 1;
     }
     let given = saftvrqmie_parameters::parameters(
@@ -270,7 +225,7 @@ pub extern "C" fn domthelv_vrq_parameters(
     0
 }
 
-// Temperature table and counts. 1 and 4 for the set's lists, then 1, 2, 6, 7.
+// Temperature table and counts. 1, 4, then 2, 6, 7.
 #[no_mangle]
 pub extern "C" fn domthelv_vrq_table(
     count: usize,
@@ -281,17 +236,19 @@ pub extern "C" fn domthelv_vrq_table(
     table: &mut [f64],
     counts: &mut [u8],
 ) -> u8
-    ensures { λ r. ⌜ (r ≡ status (vrqTable count (now (m .entry)) (now (sheets .entry)) (now (orders .entry)) temperature (record { values = now (table .entry); numbers = now (counts .entry) }))) × (now (table .exit) ≡ stored (record { values = now (table .entry); numbers = now (counts .entry) }) (vrqTable count (now (m .entry)) (now (sheets .entry)) (now (orders .entry)) temperature (record { values = now (table .entry); numbers = now (counts .entry) })) .values) × (now (counts .exit) ≡ stored (record { values = now (table .entry); numbers = now (counts .entry) }) (vrqTable count (now (m .entry)) (now (sheets .entry)) (now (orders .entry)) temperature (record { values = now (table .entry); numbers = now (counts .entry) })) .numbers) ⌝ }
+    ensures { λ r.
+        let s : QuantumLists = record { count = count; m = now (m .entry); sheets = now (sheets .entry); orders = now (orders .entry) } in
+        let l : Lent = record { values = now (table .entry); numbers = now (counts .entry) } in
+        let q = vrqTable s temperature l in
+        ⌜ (r ≡ status q) × (now (table .exit) ≡ stored l q .values) × (now (counts .exit) ≡ stored l q .numbers) ⌝ }
 {
-    if !quantum_lengths(m, sheets, orders) {
-        return 1;
-    }
-    if !orders_within(orders) {
-        return 4;
-    }
-    let mut flat = [0.0; 384];
-    copy(6 * SHEET, sheets, 0, &mut flat);
-    let records = orders_read(orders);
+    let right = saftvrqmie::right_lists(count, table.len(), counts.len());
+    let read = set_lists::quantum_answer(count, m, sheets, orders, right);
+    let ParameterAnswer::Held = read else {
+        return mie_parameters::number(read);
+    };
+    let flat = set_lists::flat(sheets);
+    let records = set_lists::order_records(orders);
     let worked = saftvrqmie::table_of(count, &flat, records, temperature, table, counts);
     mie_parameters::number(worked)
 }
@@ -320,7 +277,7 @@ fn write_searches(p: PairSearches, out: &mut [f64], counts: &mut [u8])
     counts[2] = p.depth_count;
 }
 
-// One pair's three searches: radius and last potential of sigma, zero, depth; their counts. 1 for `out` and `counts`, 1 and 4 for the set's lists, then 1, 2, 6.
+// One pair's three searches: radius and last potential of sigma, zero, depth; their counts. 1, 4, then 2, 6.
 #[no_mangle]
 pub extern "C" fn domthelv_vrq_radii(
     count: usize,
@@ -333,17 +290,22 @@ pub extern "C" fn domthelv_vrq_radii(
     out: &mut [f64],
     counts: &mut [u8],
 ) -> u8
-    ensures { λ r. ⌜ (r ≡ status (vrqRadii count (now (m .entry)) (now (sheets .entry)) (now (orders .entry)) i j temperature (record { values = now (out .entry); numbers = now (counts .entry) }))) × (now (out .exit) ≡ stored (record { values = now (out .entry); numbers = now (counts .entry) }) (vrqRadii count (now (m .entry)) (now (sheets .entry)) (now (orders .entry)) i j temperature (record { values = now (out .entry); numbers = now (counts .entry) })) .values) × (now (counts .exit) ≡ stored (record { values = now (out .entry); numbers = now (counts .entry) }) (vrqRadii count (now (m .entry)) (now (sheets .entry)) (now (orders .entry)) i j temperature (record { values = now (out .entry); numbers = now (counts .entry) })) .numbers) ⌝ }
+    ensures { λ r.
+        let s : QuantumLists = record { count = count; m = now (m .entry); sheets = now (sheets .entry); orders = now (orders .entry) } in
+        let l : Lent = record { values = now (out .entry); numbers = now (counts .entry) } in
+        let q = vrqRadii s i j temperature l in
+        ⌜ (r ≡ status q) × (now (out .exit) ≡ stored l q .values) × (now (counts .exit) ≡ stored l q .numbers) ⌝ }
 {
     if !radii_lengths(out, counts) {
         return 1;
     }
-    let read = quantum_set(count, m, sheets, orders);
-    let answer = read.answer;
-    let ParameterAnswer::Held = answer else {
-        return mie_parameters::number(answer);
+    let right = limits::index_within(count, i, j);
+    let read = set_lists::quantum_answer(count, m, sheets, orders, right);
+    let ParameterAnswer::Held = read else {
+        return mie_parameters::number(read);
     };
-    let searched = saftvrqmie::searches_ij(read.set, i, j, temperature);
+    let set = set_lists::quantum_set(count, m, sheets, orders);
+    let searched = saftvrqmie::searches_ij(set, i, j, temperature);
     match searched {
         SearchesAnswer::Refused(n) => n,
         SearchesAnswer::Searched(p) => {
@@ -362,7 +324,7 @@ fn write_energies(e: QuantumEnergies, out: &mut [f64])
     out[2] = e.non_additive;
 }
 
-// Quantum energies: hard sphere, dispersion, non-additive (+0 where not wanted). 1 for `out`, 1 and 4 for the set's lists, then 1, 2, 6, 7.
+// Quantum energies: hard sphere, dispersion, non-additive (+0 where not wanted). 1, 4, then 2, 6, 7.
 #[no_mangle]
 pub extern "C" fn domthelv_vrq_energies(
     count: usize,
@@ -376,22 +338,22 @@ pub extern "C" fn domthelv_vrq_energies(
     non_additive: bool,
     out: &mut [f64],
 ) -> u8
-    ensures { λ r. ⌜ (r ≡ status (vrqEnergies count (now (m .entry)) (now (sheets .entry)) (now (orders .entry)) temperature (now (fractions .entry)) (now (densities .entry)) (now (table .entry)) «non_additive» (now (out .entry)))) × (now (out .exit) ≡ stored (now (out .entry)) (vrqEnergies count (now (m .entry)) (now (sheets .entry)) (now (orders .entry)) temperature (now (fractions .entry)) (now (densities .entry)) (now (table .entry)) «non_additive» (now (out .entry)))) ⌝ }
+    ensures { λ r.
+        let s : QuantumLists = record { count = count; m = now (m .entry); sheets = now (sheets .entry); orders = now (orders .entry) } in
+        let q = vrqEnergies s temperature (now (fractions .entry)) (now (densities .entry)) (now (table .entry)) «non_additive» (now (out .entry)) in
+        ⌜ (r ≡ status q) × (now (out .exit) ≡ stored (now (out .entry)) q) ⌝ }
 {
     if out.len() != 3 {
         return 1;
     }
-    if !quantum_lengths(m, sheets, orders) {
-        return 1;
-    }
-    if !orders_within(orders) {
-        return 4;
-    }
-    let mut places = [0.0; 8];
-    copy(SIDE, m, 0, &mut places);
-    let mut flat = [0.0; 384];
-    copy(6 * SHEET, sheets, 0, &mut flat);
-    let records = orders_read(orders);
+    let right = saftvrqmie_energies::right_lengths(count, fractions, densities, table);
+    let read = set_lists::quantum_answer(count, m, sheets, orders, right);
+    let ParameterAnswer::Held = read else {
+        return mie_parameters::number(read);
+    };
+    let places = set_lists::places(m, 0);
+    let flat = set_lists::flat(sheets);
+    let records = set_lists::order_records(orders);
     let worked = saftvrqmie_energies::energies_of(
         count,
         &places,
@@ -427,7 +389,7 @@ fn write_ends(e: EnergiesEnds, out: &mut [f64])
     out[5] = a.upper;
 }
 
-// Two ends of the quantum energies: low and high end of each. 1 for `out`, 1 and 4 for the set's lists, then 1, 2, 6, 7, 8.
+// Two ends of the quantum energies: low and high end of each. 1, 4, then 2, 6, 7, 8.
 #[no_mangle]
 pub extern "C" fn domthelv_vrq_energies_ends(
     count: usize,
@@ -441,22 +403,22 @@ pub extern "C" fn domthelv_vrq_energies_ends(
     non_additive: bool,
     out: &mut [f64],
 ) -> u8
-    ensures { λ r. ⌜ (r ≡ status (vrqEnergiesEnds count (now (m .entry)) (now (sheets .entry)) (now (orders .entry)) temperature (now (fractions .entry)) (now (densities .entry)) (now (table .entry)) «non_additive» (now (out .entry)))) × (now (out .exit) ≡ stored (now (out .entry)) (vrqEnergiesEnds count (now (m .entry)) (now (sheets .entry)) (now (orders .entry)) temperature (now (fractions .entry)) (now (densities .entry)) (now (table .entry)) «non_additive» (now (out .entry)))) ⌝ }
+    ensures { λ r.
+        let s : QuantumLists = record { count = count; m = now (m .entry); sheets = now (sheets .entry); orders = now (orders .entry) } in
+        let q = vrqEnergiesEnds s temperature (now (fractions .entry)) (now (densities .entry)) (now (table .entry)) «non_additive» (now (out .entry)) in
+        ⌜ (r ≡ status q) × (now (out .exit) ≡ stored (now (out .entry)) q) ⌝ }
 {
     if out.len() != 6 {
         return 1;
     }
-    if !quantum_lengths(m, sheets, orders) {
-        return 1;
-    }
-    if !orders_within(orders) {
-        return 4;
-    }
-    let mut places = [0.0; 8];
-    copy(SIDE, m, 0, &mut places);
-    let mut flat = [0.0; 384];
-    copy(6 * SHEET, sheets, 0, &mut flat);
-    let records = orders_read(orders);
+    let right = saftvrqmie_energies::right_lengths(count, fractions, densities, table);
+    let read = set_lists::quantum_answer(count, m, sheets, orders, right);
+    let ParameterAnswer::Held = read else {
+        return mie_parameters::number(read);
+    };
+    let places = set_lists::places(m, 0);
+    let flat = set_lists::flat(sheets);
+    let records = set_lists::order_records(orders);
     let worked = saftvrqmie_energies_ends::energies_ends_of(
         count,
         &places,
@@ -485,7 +447,42 @@ fn write_pair(e: Ends, out: &mut [f64])
     out[1] = e.upper;
 }
 
-// Two ends of a pair's diameter from its searched radii. 1 for `out`, 1 and 4 for the set's lists, then 1, 2, 6, 7, 8.
+// A pair's diameter from its searched radii. 1, 4, then 2, 6, 7.
+#[no_mangle]
+pub extern "C" fn domthelv_vrq_diameter(
+    count: usize,
+    m: &[f64],
+    sheets: &[f64],
+    orders: &[u8],
+    i: usize,
+    j: usize,
+    temperature: f64,
+    sigma_eff: f64,
+    r0: f64,
+    out: &mut f64,
+) -> u8
+    ensures { λ r.
+        let s : QuantumLists = record { count = count; m = now (m .entry); sheets = now (sheets .entry); orders = now (orders .entry) } in
+        let q = vrqDiameter s i j temperature «sigma_eff» r0 in
+        ⌜ (r ≡ status q) × (now (out .exit) ≡ stored (now (out .entry)) q) ⌝ }
+{
+    let right = limits::index_within(count, i, j);
+    let read = set_lists::quantum_answer(count, m, sheets, orders, right);
+    let ParameterAnswer::Held = read else {
+        return mie_parameters::number(read);
+    };
+    let set = set_lists::quantum_set(count, m, sheets, orders);
+    let worked = saftvrqmie::hs_diameter_ij(set, i, j, temperature, sigma_eff, r0);
+    match worked {
+        NumberAnswer::Refused(n) => n,
+        NumberAnswer::Value(x) => {
+            *out = x;
+            0
+        }
+    }
+}
+
+// Two ends of a pair's diameter from its searched radii. 1, 4, then 2, 6, 7, 8.
 #[no_mangle]
 pub extern "C" fn domthelv_vrq_diameter_ends(
     count: usize,
@@ -499,18 +496,22 @@ pub extern "C" fn domthelv_vrq_diameter_ends(
     r0: f64,
     out: &mut [f64],
 ) -> u8
-    ensures { λ r. ⌜ (r ≡ status (vrqDiameterEnds count (now (m .entry)) (now (sheets .entry)) (now (orders .entry)) i j temperature «sigma_eff» r0 (now (out .entry)))) × (now (out .exit) ≡ stored (now (out .entry)) (vrqDiameterEnds count (now (m .entry)) (now (sheets .entry)) (now (orders .entry)) i j temperature «sigma_eff» r0 (now (out .entry)))) ⌝ }
+    ensures { λ r.
+        let s : QuantumLists = record { count = count; m = now (m .entry); sheets = now (sheets .entry); orders = now (orders .entry) } in
+        let q = vrqDiameterEnds s i j temperature «sigma_eff» r0 (now (out .entry)) in
+        ⌜ (r ≡ status q) × (now (out .exit) ≡ stored (now (out .entry)) q) ⌝ }
 {
     if out.len() != 2 {
         return 1;
     }
-    let read = quantum_set(count, m, sheets, orders);
-    let answer = read.answer;
-    let ParameterAnswer::Held = answer else {
-        return mie_parameters::number(answer);
+    let right = limits::index_within(count, i, j);
+    let read = set_lists::quantum_answer(count, m, sheets, orders, right);
+    let ParameterAnswer::Held = read else {
+        return mie_parameters::number(read);
     };
+    let set = set_lists::quantum_set(count, m, sheets, orders);
     let worked = saftvrqmie_diameter_ends::hs_diameter_ij_ends(
-        read.set,
+        set,
         i,
         j,
         temperature,
@@ -545,7 +546,22 @@ pub extern "C" fn domthelv_vrq_stage(
     non_additive: bool,
     out: &mut [f64],
 ) -> u8
-    ensures { λ r. ⌜ (r ≡ status (vrqStage (record { count = count; m = now (m .entry); sigma = now (sigma .entry); epsilon-k = now («epsilon_k» .entry); lr = now (lr .entry); la = now (la .entry); mass = now (mass .entry); fh = now (order .entry); k-ij = now («k_ij» .entry); l-ij = now («l_ij» .entry) }) temperature (now (fractions .entry)) (now (densities .entry)) «non_additive» (now (out .entry)))) × (now (out .exit) ≡ stored (now (out .entry)) (vrqStage (record { count = count; m = now (m .entry); sigma = now (sigma .entry); epsilon-k = now («epsilon_k» .entry); lr = now (lr .entry); la = now (la .entry); mass = now (mass .entry); fh = now (order .entry); k-ij = now («k_ij» .entry); l-ij = now («l_ij» .entry) }) temperature (now (fractions .entry)) (now (densities .entry)) «non_additive» (now (out .entry)))) ⌝ }
+    ensures { λ r.
+        let x : Quantum.Lists =
+        record {
+          count = count;
+          m = now (m .entry);
+          sigma = now (sigma .entry);
+          epsilon-k = now («epsilon_k» .entry);
+          lr = now (lr .entry);
+          la = now (la .entry);
+          mass = now (mass .entry);
+          fh = now (order .entry);
+          k-ij = now («k_ij» .entry);
+          l-ij = now («l_ij» .entry);
+        } in
+        let q = vrqStage x temperature (now (fractions .entry)) (now (densities .entry)) «non_additive» (now (out .entry)) in
+        ⌜ (r ≡ status q) × (now (out .exit) ≡ stored (now (out .entry)) q) ⌝ }
 {
     if out.len() != 3 {
         return 1;
@@ -575,51 +591,6 @@ pub extern "C" fn domthelv_vrq_stage(
     }
 }
 
-fn mie_lengths(lists: &[f64], sheets: &[f64]) -> bool
-    ensures { λ r. ⌜ r ≡ mieLengths (now (lists .entry)) (now (sheets .entry)) ⌝ }
-{
-    (lists.len() == 5 * SIDE) & (sheets.len() == 6 * SHEET)
-}
-
-// Eight places of a list, which has them.
-fn places(lists: &[f64], from: usize) -> [f64; 8]
-    requires { ⌜ from + side ≤ length (now lists) ⌝ }
-    ensures { λ r. ⌜ r ≡ taken side (now (lists .entry)) from ⌝ }
-{
-    let mut list = [0.0; 8];
-    copy(SIDE, lists, from, &mut list);
-    list
-}
-
-// The set of SAFT-VR Mie of its lists, or 1.
-fn mie_set(count: usize, lists: &[f64], sheets: &[f64]) -> saftvrmie_parameters::ParameterSet
-    ensures { λ r. ⌜ r ≡ Mie.given (mieSet count (now (lists .entry)) (now (sheets .entry))) ⌝ }
-{
-    if !mie_lengths(lists, sheets) {
-        return saftvrmie_parameters::refused_with(1);
-    }
-    let m = places(lists, 0);
-    let sigma = places(lists, SIDE);
-    let epsilon_k = places(lists, 2 * SIDE);
-    let lr = places(lists, 3 * SIDE);
-    let la = places(lists, 4 * SIDE);
-    let mut flat = [0.0; 384];
-    copy(6 * SHEET, sheets, 0, &mut flat);
-    let set = SaftVRMiePars {
-        count,
-        m,
-        sigma,
-        epsilon_k,
-        lr,
-        la,
-        sheets: flat,
-    };
-    saftvrmie_parameters::ParameterSet {
-        answer: ParameterAnswer::Held,
-        set,
-    }
-}
-
 fn write_lists(set: SaftVRMiePars, lists: &mut [f64])
     requires { ⌜ length (now lists) ≡ 5 * side ⌝ }
     ensures { λ _. ⌜ now (lists .exit) ≡ listsWritten set (now (lists .entry)) ⌝ }
@@ -636,7 +607,7 @@ fn write_lists(set: SaftVRMiePars, lists: &mut [f64])
     write_places(&la, lists, 4 * SIDE);
 }
 
-// Parameters of SAFT-VR Mie. 1 for a list of the set that is lent, then 1, 2, 6.
+// Parameters of SAFT-VR Mie. 1, 2, 6.
 #[no_mangle]
 pub extern "C" fn domthelv_vr_parameters(
     count: usize,
@@ -650,9 +621,23 @@ pub extern "C" fn domthelv_vr_parameters(
     set_lists: &mut [f64],
     set_sheets: &mut [f64],
 ) -> u8
-    ensures { λ r. ⌜ (r ≡ status (vrParameters (record { count = count; m = now (m .entry); sigma = now (sigma .entry); epsilon-k = now («epsilon_k» .entry); lr = now (lr .entry); la = now (la .entry); k-ij = now («k_ij» .entry); gamma-ij = now («gamma_ij» .entry) }) (record { lists = now («set_lists» .entry); sheets = now («set_sheets» .entry) }))) × (now («set_lists» .exit) ≡ stored (record { lists = now («set_lists» .entry); sheets = now («set_sheets» .entry) }) (vrParameters (record { count = count; m = now (m .entry); sigma = now (sigma .entry); epsilon-k = now («epsilon_k» .entry); lr = now (lr .entry); la = now (la .entry); k-ij = now («k_ij» .entry); gamma-ij = now («gamma_ij» .entry) }) (record { lists = now («set_lists» .entry); sheets = now («set_sheets» .entry) })) .lists) × (now («set_sheets» .exit) ≡ stored (record { lists = now («set_lists» .entry); sheets = now («set_sheets» .entry) }) (vrParameters (record { count = count; m = now (m .entry); sigma = now (sigma .entry); epsilon-k = now («epsilon_k» .entry); lr = now (lr .entry); la = now (la .entry); k-ij = now («k_ij» .entry); gamma-ij = now («gamma_ij» .entry) }) (record { lists = now («set_lists» .entry); sheets = now («set_sheets» .entry) })) .sheets) ⌝ }
+    ensures { λ r.
+        let x : Mie.Lists =
+        record {
+          count = count;
+          m = now (m .entry);
+          sigma = now (sigma .entry);
+          epsilon-k = now («epsilon_k» .entry);
+          lr = now (lr .entry);
+          la = now (la .entry);
+          k-ij = now («k_ij» .entry);
+          gamma-ij = now («gamma_ij» .entry);
+        } in
+        let l : MieLent = record { lists = now («set_lists» .entry); sheets = now («set_sheets» .entry) } in
+        let q = vrParameters x l in
+        ⌜ (r ≡ status q) × (now («set_lists» .exit) ≡ stored l q .lists) × (now («set_sheets» .exit) ≡ stored l q .sheets) ⌝ }
 {
-    if !mie_lengths(set_lists, set_sheets) {
+    if !set_lists::mie_lengths(set_lists, set_sheets) {
         return 1;
     }
     let given = saftvrmie_parameters::parameters(
@@ -676,7 +661,7 @@ pub extern "C" fn domthelv_vr_parameters(
     0
 }
 
-// The components' diameters. 1 for the set's lists, then 1, 2, 6, 7.
+// The components' diameters. 1, 2, 6, 7.
 #[no_mangle]
 pub extern "C" fn domthelv_vr_diameters(
     count: usize,
@@ -685,24 +670,20 @@ pub extern "C" fn domthelv_vr_diameters(
     temperature: f64,
     diameters: &mut [f64],
 ) -> u8
-    ensures { λ r. ⌜ (r ≡ status (vrDiameters count (now (lists .entry)) (now (sheets .entry)) temperature (now (diameters .entry)))) × (now (diameters .exit) ≡ stored (now (diameters .entry)) (vrDiameters count (now (lists .entry)) (now (sheets .entry)) temperature (now (diameters .entry)))) ⌝ }
+    ensures { λ r.
+        let s : MieLists = record { count = count; lists = now (lists .entry); sheets = now (sheets .entry) } in
+        let q = vrDiameters s temperature (now (diameters .entry)) in
+        ⌜ (r ≡ status q) × (now (diameters .exit) ≡ stored (now (diameters .entry)) q) ⌝ }
 {
-    if !mie_lengths(lists, sheets) {
+    if !set_lists::mie_lengths(lists, sheets) {
         return 1;
     }
-    let mut flat = [0.0; 384];
-    copy(6 * SHEET, sheets, 0, &mut flat);
-    let own = saftvrmie::diameters_of(count, &flat, temperature, diameters.len());
-    let answer = own.answer;
-    let ParameterAnswer::Held = answer else {
-        return mie_parameters::number(answer);
-    };
-    let d = own.d;
-    copy(count, &d, 0, diameters);
-    0
+    let flat = set_lists::flat(sheets);
+    let worked = saftvrmie::diameters_of(count, &flat, temperature, diameters);
+    mie_parameters::number(worked)
 }
 
-// One pair's reduced lower limit. 1 for the set's lists, then 1, 2, 6.
+// One pair's reduced lower limit. 1, 2, 6.
 #[no_mangle]
 pub extern "C" fn domthelv_vr_radius(
     count: usize,
@@ -713,14 +694,16 @@ pub extern "C" fn domthelv_vr_radius(
     temperature: f64,
     out: &mut f64,
 ) -> u8
-    ensures { λ r. ⌜ (r ≡ status (vrRadius count (now (lists .entry)) (now (sheets .entry)) i j temperature)) × (now (out .exit) ≡ stored (now (out .entry)) (vrRadius count (now (lists .entry)) (now (sheets .entry)) i j temperature)) ⌝ }
+    ensures { λ r.
+        let s : MieLists = record { count = count; lists = now (lists .entry); sheets = now (sheets .entry) } in
+        let q = vrRadius s i j temperature in
+        ⌜ (r ≡ status q) × (now (out .exit) ≡ stored (now (out .entry)) q) ⌝ }
 {
-    let read = mie_set(count, lists, sheets);
-    let answer = read.answer;
-    let ParameterAnswer::Held = answer else {
-        return mie_parameters::number(answer);
-    };
-    let worked = saftvrmie::radius_ij(read.set, i, j, temperature);
+    if !set_lists::mie_lengths(lists, sheets) {
+        return 1;
+    }
+    let set = set_lists::mie_set(count, lists, sheets);
+    let worked = saftvrmie::radius_ij(set, i, j, temperature);
     match worked {
         NumberAnswer::Refused(n) => n,
         NumberAnswer::Value(x) => {
@@ -730,7 +713,38 @@ pub extern "C" fn domthelv_vr_radius(
     }
 }
 
-// Dispersion, with the chain where it is wanted. 1 for the set's lists, then 1, 2, 6, 7.
+// One pair's diameter from its reduced lower limit. 1, 2, 6, 7.
+#[no_mangle]
+pub extern "C" fn domthelv_vr_diameter(
+    count: usize,
+    lists: &[f64],
+    sheets: &[f64],
+    i: usize,
+    j: usize,
+    temperature: f64,
+    r0: f64,
+    out: &mut f64,
+) -> u8
+    ensures { λ r.
+        let s : MieLists = record { count = count; lists = now (lists .entry); sheets = now (sheets .entry) } in
+        let q = vrDiameter s i j temperature r0 in
+        ⌜ (r ≡ status q) × (now (out .exit) ≡ stored (now (out .entry)) q) ⌝ }
+{
+    if !set_lists::mie_lengths(lists, sheets) {
+        return 1;
+    }
+    let set = set_lists::mie_set(count, lists, sheets);
+    let worked = saftvrmie::diameter_ij(set, i, j, temperature, r0);
+    match worked {
+        NumberAnswer::Refused(n) => n,
+        NumberAnswer::Value(x) => {
+            *out = x;
+            0
+        }
+    }
+}
+
+// Dispersion, with the chain where it is wanted. 1, 2, 6, 7.
 #[no_mangle]
 pub extern "C" fn domthelv_vr_dispersion(
     count: usize,
@@ -743,18 +757,20 @@ pub extern "C" fn domthelv_vr_dispersion(
     chain: bool,
     out: &mut f64,
 ) -> u8
-    ensures { λ r. ⌜ (r ≡ status (vrDispersion count (now (lists .entry)) (now (sheets .entry)) temperature (now (fractions .entry)) (now (densities .entry)) (now (diameters .entry)) chain)) × (now (out .exit) ≡ stored (now (out .entry)) (vrDispersion count (now (lists .entry)) (now (sheets .entry)) temperature (now (fractions .entry)) (now (densities .entry)) (now (diameters .entry)) chain)) ⌝ }
+    ensures { λ r.
+        let s : MieLists = record { count = count; lists = now (lists .entry); sheets = now (sheets .entry) } in
+        let q = vrDispersion s temperature (now (fractions .entry)) (now (densities .entry)) (now (diameters .entry)) chain in
+        ⌜ (r ≡ status q) × (now (out .exit) ≡ stored (now (out .entry)) q) ⌝ }
 {
-    if !mie_lengths(lists, sheets) {
+    if !set_lists::mie_lengths(lists, sheets) {
         return 1;
     }
-    let m = places(lists, 0);
-    let sigma = places(lists, SIDE);
-    let epsilon_k = places(lists, 2 * SIDE);
-    let lr = places(lists, 3 * SIDE);
-    let la = places(lists, 4 * SIDE);
-    let mut flat = [0.0; 384];
-    copy(6 * SHEET, sheets, 0, &mut flat);
+    let m = set_lists::places(lists, 0);
+    let sigma = set_lists::places(lists, SIDE);
+    let epsilon_k = set_lists::places(lists, 2 * SIDE);
+    let lr = set_lists::places(lists, 3 * SIDE);
+    let la = set_lists::places(lists, 4 * SIDE);
+    let flat = set_lists::flat(sheets);
     let worked = saftvrmie_energies::dispersion_of(
         count,
         &m,
@@ -778,7 +794,7 @@ pub extern "C" fn domthelv_vr_dispersion(
     }
 }
 
-// Two ends of dispersion, with the chain where it is wanted. 1 for `out` and for the set's lists, then 1, 2, 6, 7, 8.
+// Two ends of dispersion, with the chain where it is wanted. 1, 2, 6, 7, 8.
 #[no_mangle]
 pub extern "C" fn domthelv_vr_dispersion_ends(
     count: usize,
@@ -791,18 +807,20 @@ pub extern "C" fn domthelv_vr_dispersion_ends(
     chain: bool,
     out: &mut [f64],
 ) -> u8
-    ensures { λ r. ⌜ (r ≡ status (vrDispersionEnds count (now (lists .entry)) (now (sheets .entry)) temperature (now (fractions .entry)) (now (densities .entry)) (now (diameters .entry)) chain (now (out .entry)))) × (now (out .exit) ≡ stored (now (out .entry)) (vrDispersionEnds count (now (lists .entry)) (now (sheets .entry)) temperature (now (fractions .entry)) (now (densities .entry)) (now (diameters .entry)) chain (now (out .entry)))) ⌝ }
+    ensures { λ r.
+        let s : MieLists = record { count = count; lists = now (lists .entry); sheets = now (sheets .entry) } in
+        let q = vrDispersionEnds s temperature (now (fractions .entry)) (now (densities .entry)) (now (diameters .entry)) chain (now (out .entry)) in
+        ⌜ (r ≡ status q) × (now (out .exit) ≡ stored (now (out .entry)) q) ⌝ }
 {
     if out.len() != 2 {
         return 1;
     }
-    let read = mie_set(count, lists, sheets);
-    let answer = read.answer;
-    let ParameterAnswer::Held = answer else {
-        return mie_parameters::number(answer);
-    };
+    if !set_lists::mie_lengths(lists, sheets) {
+        return 1;
+    }
+    let set = set_lists::mie_set(count, lists, sheets);
     let worked = saftvrmie_energies_ends::dispersion_ends(
-        read.set,
+        set,
         temperature,
         fractions,
         densities,
@@ -818,7 +836,7 @@ pub extern "C" fn domthelv_vr_dispersion_ends(
     }
 }
 
-// Two ends of a pair's diameter from its reduced lower limit. 1 for `out` and for the set's lists, then 1, 2, 6, 7, 8.
+// Two ends of a pair's diameter from its reduced lower limit. 1, 2, 6, 7, 8.
 #[no_mangle]
 pub extern "C" fn domthelv_vr_diameter_ends(
     count: usize,
@@ -830,17 +848,19 @@ pub extern "C" fn domthelv_vr_diameter_ends(
     r0: f64,
     out: &mut [f64],
 ) -> u8
-    ensures { λ r. ⌜ (r ≡ status (vrDiameterEnds count (now (lists .entry)) (now (sheets .entry)) i j temperature r0 (now (out .entry)))) × (now (out .exit) ≡ stored (now (out .entry)) (vrDiameterEnds count (now (lists .entry)) (now (sheets .entry)) i j temperature r0 (now (out .entry)))) ⌝ }
+    ensures { λ r.
+        let s : MieLists = record { count = count; lists = now (lists .entry); sheets = now (sheets .entry) } in
+        let q = vrDiameterEnds s i j temperature r0 (now (out .entry)) in
+        ⌜ (r ≡ status q) × (now (out .exit) ≡ stored (now (out .entry)) q) ⌝ }
 {
     if out.len() != 2 {
         return 1;
     }
-    let read = mie_set(count, lists, sheets);
-    let answer = read.answer;
-    let ParameterAnswer::Held = answer else {
-        return mie_parameters::number(answer);
-    };
-    let worked = saftvrmie_diameter_ends::hs_diameter_ij_ends(read.set, i, j, temperature, r0);
+    if !set_lists::mie_lengths(lists, sheets) {
+        return 1;
+    }
+    let set = set_lists::mie_set(count, lists, sheets);
+    let worked = saftvrmie_diameter_ends::hs_diameter_ij_ends(set, i, j, temperature, r0);
     match worked {
         EndsAnswer::Refused(n) => n,
         EndsAnswer::Held(e) => {
@@ -867,7 +887,20 @@ pub extern "C" fn domthelv_vr_stage(
     chain: bool,
     out: &mut f64,
 ) -> u8
-    ensures { λ r. ⌜ (r ≡ status (mieStage (record { count = count; m = now (m .entry); sigma = now (sigma .entry); epsilon-k = now («epsilon_k» .entry); lr = now (lr .entry); la = now (la .entry); k-ij = now («k_ij» .entry); gamma-ij = now («gamma_ij» .entry) }) temperature (now (fractions .entry)) (now (densities .entry)) chain)) × (now (out .exit) ≡ stored (now (out .entry)) (mieStage (record { count = count; m = now (m .entry); sigma = now (sigma .entry); epsilon-k = now («epsilon_k» .entry); lr = now (lr .entry); la = now (la .entry); k-ij = now («k_ij» .entry); gamma-ij = now («gamma_ij» .entry) }) temperature (now (fractions .entry)) (now (densities .entry)) chain)) ⌝ }
+    ensures { λ r.
+        let x : Mie.Lists =
+        record {
+          count = count;
+          m = now (m .entry);
+          sigma = now (sigma .entry);
+          epsilon-k = now («epsilon_k» .entry);
+          lr = now (lr .entry);
+          la = now (la .entry);
+          k-ij = now («k_ij» .entry);
+          gamma-ij = now («gamma_ij» .entry);
+        } in
+        let q = mieStage x temperature (now (fractions .entry)) (now (densities .entry)) chain in
+        ⌜ (r ≡ status q) × (now (out .exit) ≡ stored (now (out .entry)) q) ⌝ }
 {
     let worked = stages::mie_stage(
         count,

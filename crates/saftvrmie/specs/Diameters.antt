@@ -38,15 +38,11 @@ allFinite n l = every n (λ i. finite (at l i))
 unfoldable pub rightLength : ℕ → ℕ → Bool
 rightLength n len = countWithin n && eqb len n
 
--- 1; 2 for the temperature; 6 at any component; then 7 if a diameter is not finite
-unfoldable pub ownDiameters : ℕ → List Float → Float → ℕ → Ans (List Float)
-ownDiameters n sheets t len =
-    demand 1 (rightLength n len) >>= λ _.
+-- 1; 2 for the temperature; 6 at any component; then 7 if a diameter is not finite; what is held is the lent list afterwards
+unfoldable pub diameters : ℕ → List Float → Float → List Float → Ans (List Float)
+diameters n sheets t l =
+    demand 1 (rightLength n (length l)) >>= λ _.
     demand 2 (temperatureWithin t) >>= λ _.
     worked n sheets t >>= λ d.
     demand 7 (allFinite n d) >>= λ _.
-    held d
-
--- the operation: what is held is the lent list afterwards
-unfoldable pub diameters : ℕ → List Float → Float → List Float → Ans (List Float)
-diameters n sheets t l = ownDiameters n sheets t (length l) >>= λ d. held (filled n (at d) l)
+    held (filled n (at d) l)

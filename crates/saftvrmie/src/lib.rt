@@ -8,7 +8,7 @@ ghost use Rattle.number.specs.Side.{side, sheet, cell};
 ghost use Rattle.number.specs.Walk.{filled, walk};
 ghost use Rattle.mie_parameters.specs.Answer.{outcome, verdict, numberAnswer, stored};
 ghost use Rattle.saftvrmie_diameter.specs.Diameter.{cEpsT};
-ghost use Rattle.saftvrmie.specs.Diameters.{diameterAt, diameterTurn, allFinite, rightLength, ownDiameters, diameters};
+ghost use Rattle.saftvrmie.specs.Diameters.{diameterAt, diameterTurn, allFinite, rightLength, diameters};
 ghost use Rattle.number.specs.Arith.{floats};
 ghost use Rattle.saftvrmie.specs.Pairs.{radiusIj, diameterIj};
 use mie_parameters::NumberAnswer;
@@ -17,12 +17,6 @@ use number::FloatAnswer;
 use number::SHEET;
 use number::SIDE;
 use saftvrmie_parameters::SaftVRMiePars;
-
-// Diameters, or the refusal's number.
-pub struct Diameters {
-    pub answer: ParameterAnswer,
-    pub d: [f64; 8],
-}
 
 fn diagonal(sheets: &[f64; 384], k: usize, i: usize) -> f64
     requires { ⌜ (k < 6) × (i < side) ⌝ }
@@ -82,50 +76,43 @@ fn right_length(n: usize, len: usize) -> bool
     limits::count_within(n) & (len == n)
 }
 
-// The diameters in places of their own, for a list of `len` places: for the boundary, which has sheets and no set.
-pub fn diameters_of(n: usize, sheets: &[f64; 384], temperature: f64, len: usize) -> Diameters
-    ensures { λ r. ⌜ outcome (r .answer) (r .d) ≡ ownDiameters n (now (sheets .entry)) temperature len ⌝ }
+// The diameters of a set's count and sheets: it reads nothing else. 1, 2, 6, 7.
+pub fn diameters_of(
+    n: usize,
+    sheets: &[f64; 384],
+    temperature: f64,
+    out: &mut [f64],
+) -> ParameterAnswer
+    ensures { λ r.
+        let q = diameters n (now (sheets .entry)) temperature (now (out .entry)) in
+        ⌜ (r ≡ verdict q) × (now (out .exit) ≡ stored (now (out .entry)) q) ⌝ }
 {
-    let mut d = [0.0; 8];
-    if !right_length(n, len) {
-        return Diameters {
-            answer: ParameterAnswer::Refused(1),
-            d,
-        };
+    if !right_length(n, out.len()) {
+        return ParameterAnswer::Refused(1);
     }
     if !limits::temperature_within(temperature) {
-        return Diameters {
-            answer: ParameterAnswer::Refused(2),
-            d,
-        };
+        return ParameterAnswer::Refused(2);
     }
-    let answer = work(n, sheets, temperature, &mut d);
-    let ParameterAnswer::Held = answer else {
-        return Diameters { answer, d };
+    let mut d = [0.0; 8];
+    let worked = work(n, sheets, temperature, &mut d);
+    let ParameterAnswer::Held = worked else {
+        return worked;
     };
     if !all_finite(n, &d) {
-        return Diameters {
-            answer: ParameterAnswer::Refused(7),
-            d,
-        };
+        return ParameterAnswer::Refused(7);
     }
-    Diameters { answer, d }
+    write(n, &d, out);
+    ParameterAnswer::Held
 }
 
 // `hs_diameter`: the diameter of each component, into a list as long as the count. 1, 2, 6, 7.
 pub fn hs_diameter(set: SaftVRMiePars, temperature: f64, out: &mut [f64]) -> ParameterAnswer
-    ensures { λ r. ⌜ (r ≡ verdict (diameters (set .count) (set .sheets) temperature (now (out .entry)))) × (now (out .exit) ≡ stored (now (out .entry)) (diameters (set .count) (set .sheets) temperature (now (out .entry)))) ⌝ }
+    ensures { λ r.
+        let q = diameters (set .count) (set .sheets) temperature (now (out .entry)) in
+        ⌜ (r ≡ verdict q) × (now (out .exit) ≡ stored (now (out .entry)) q) ⌝ }
 {
-    let n = set.count;
     let sheets = set.sheets;
-    let own = diameters_of(n, &sheets, temperature, out.len());
-    let answer = own.answer;
-    let ParameterAnswer::Held = answer else {
-        return answer;
-    };
-    let d = own.d;
-    write(n, &d, out);
-    ParameterAnswer::Held
+    diameters_of(set.count, &sheets, temperature, out)
 }
 
 fn entry(sheets: &[f64; 384], k: usize, e: usize) -> f64

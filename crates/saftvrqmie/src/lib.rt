@@ -172,7 +172,8 @@ fn write_numbers(counts: &mut [u8], numbers: &[u8; 192])
     write_counts(&mut counts[THIRD..FOURTH], numbers, THIRD);
 }
 
-fn right_lists(n: usize, a: usize, b: usize) -> bool
+// 1: the count, and the length of each lent list.
+pub fn right_lists(n: usize, a: usize, b: usize) -> bool
     ensures { λ r. ⌜ r ≡ rightLists n a b ⌝ }
 {
     limits::count_within(n) & (a == FIFTH) & (b == FOURTH)

@@ -17,9 +17,9 @@ impl Caller {
         let at_end = !self.random.once_in(4);
         self.lent.lend(list, at_end)
     }
-    /// A list to be written, with arbitrary bits in it.
+    /// A list to be written, with arbitrary bits in it, every second float a NaN.
     fn floats(&mut self, n: usize) -> *mut f64 {
-        let list: Vec<u64> = (0..n).map(|_| self.random.next()).collect();
+        let list: Vec<u64> = (0..n).map(|_| self.random.pattern()).collect();
         self.lend(&list) as *mut f64
     }
     fn bytes(&mut self, n: usize) -> *mut u8 {
@@ -88,6 +88,20 @@ impl Caller {
         self.vrq_energies_by(port::VRQ_ENERGIES_ENDS?, s, st, table, non_additive, out)
     }
 
+    pub fn vrq_record_m(&mut self, m: f64) -> Option<u8> {
+        let f = port::VRQ_RECORD_M?;
+        self.lent.clear();
+        Some(unsafe { f(m) })
+    }
+
+    pub fn vrq_diameter(&mut self, s: &QuantumSet, i: usize, j: usize, t: f64, radii: [f64; 2]) -> Option<u8> {
+        let f = port::VRQ_DIAMETER?;
+        self.lent.clear();
+        let (m, sheets, orders) = (self.lend(&s.m), self.lend(&s.sheets), self.lend(&s.orders));
+        let diameter = self.floats(1);
+        Some(unsafe { f(s.count, m, s.m.len(), sheets, s.sheets.len(), orders, s.orders.len(), i, j, t, radii[0], radii[1], diameter) })
+    }
+
     pub fn vrq_diameter_ends(&mut self, s: &QuantumSet, i: usize, j: usize, t: f64, radii: [f64; 2], out: usize) -> Option<u8> {
         let f = port::VRQ_DIAMETER_ENDS?;
         self.lent.clear();
@@ -140,6 +154,14 @@ impl Caller {
         let (lists, sheets) = (self.lend(&s.lists), self.lend(&s.sheets));
         let radius = self.floats(1);
         Some(unsafe { f(s.count, lists, s.lists.len(), sheets, s.sheets.len(), i, j, t, radius) })
+    }
+
+    pub fn vr_diameter(&mut self, s: &MieSet, i: usize, j: usize, t: f64, r0: f64) -> Option<u8> {
+        let f = port::VR_DIAMETER?;
+        self.lent.clear();
+        let (lists, sheets) = (self.lend(&s.lists), self.lend(&s.sheets));
+        let diameter = self.floats(1);
+        Some(unsafe { f(s.count, lists, s.lists.len(), sheets, s.sheets.len(), i, j, t, r0, diameter) })
     }
 
     pub fn vr_dispersion(&mut self, s: &MieSet, st: &State, diameters: &[f64], chain: bool) -> Option<u8> {

@@ -76,6 +76,11 @@ fn quantum(g: &mut Random, case: u64, c: &mut Caller, tally: &mut Tally, tell_al
     if g.once_in(5) {
         states::spoil(g, &mut lists, true);
     }
+    for m in lists.m.iter().chain([&1.0f64.next_up(), &1.0f64.next_down(), &f64::NAN]) {
+        if let Some(number) = c.vrq_record_m(*m) {
+            judge(tally, "vrq_record_m", case, c, 0, number, &oracle::vrq_record_m(*m), |_| Ok(()));
+        }
+    }
     let out = [length(g, 8), length(g, 384), length(g, 64)];
     let expected = oracle::vrq_parameters(&lists, out);
     if let Some(number) = c.vrq_parameters(&lists, out) {
@@ -169,6 +174,15 @@ fn quantum(g: &mut Random, case: u64, c: &mut Caller, tally: &mut Tally, tell_al
     }
     let mut radii = [table[8 * (i % n) + j % n], table[8 * (i % n) + j % n] * 0.8];
     states::by_hand(g, &mut radii);
+    let expected = oracle::vrq_diameter(&set, i, j, t, radii);
+    if let Some(number) = c.vrq_diameter(&set, i, j, t, radii) {
+        judge(tally, "vrq_diameter", case, c, 1, number, &expected, |d| floats("diameter", &c.lent.out(0), &[*d]));
+    }
+    if let Ok((radii, d)) = oracle::vrq_diameter_searched(&set, i, j, t) {
+        if let Some(number) = c.vrq_diameter(&set, i, j, t, radii) {
+            judge(tally, "vrq_diameter", case, c, 1, number, &Ok(d), |d| floats("diameter", &c.lent.out(0), &[*d]));
+        }
+    }
     let out = length(g, 2);
     let expected = oracle::vrq_diameter_ends(&set, i, j, t, radii, out);
     if let Some(number) = c.vrq_diameter_ends(&set, i, j, t, radii, out) {
@@ -269,6 +283,15 @@ fn vr_mie(g: &mut Random, case: u64, c: &mut Caller, tally: &mut Tally, tell_all
         judge(tally, "vr_dispersion_ends", case, c, 1, number, &expected, |e| floats("ends", &c.lent.out(0), e));
     }
     let r0 = if g.once_in(10) { g.odd() } else { g.within(0.5, 0.95) };
+    let expected = oracle::vr_diameter(&set, i, j, t, r0);
+    if let Some(number) = c.vr_diameter(&set, i, j, t, r0) {
+        judge(tally, "vr_diameter", case, c, 1, number, &expected, |d| floats("diameter", &c.lent.out(0), &[*d]));
+    }
+    if let Ok((r0, d)) = oracle::vr_diameter_searched(&set, i, j, t) {
+        if let Some(number) = c.vr_diameter(&set, i, j, t, r0) {
+            judge(tally, "vr_diameter", case, c, 1, number, &Ok(d), |d| floats("diameter", &c.lent.out(0), &[*d]));
+        }
+    }
     let expected = oracle::vr_diameter_ends(&set, i, j, t, r0, out);
     if let Some(number) = c.vr_diameter_ends(&set, i, j, t, r0, out) {
         judge(tally, "vr_diameter_ends", case, c, 1, number, &expected, |e| floats("ends", &c.lent.out(0), e));

@@ -108,7 +108,7 @@ pub fn run(count: u64, seed: u64, tally: &mut Tally) {
         for f in &ONE {
             let Some(port) = f.port else { continue };
             let x = argument(&mut g, f);
-            let (number, r, kept) = call(&mut lent, g.next(), |out| unsafe { port(x, out) });
+            let (number, r, kept) = call(&mut lent, g.pattern(), |out| unsafe { port(x, out) });
             let wanted = if (f.inside)(x) { 0 } else { 6 };
             let right = number == wanted && kept && (wanted == 6 || (f.right)(x, r));
             tally.note(f.name, wanted, right, || format!("of {x:e} ({:016x}) answers {number}, {r:e} ({:016x})", x.to_bits(), r.to_bits()));
@@ -130,7 +130,7 @@ pub fn run(count: u64, seed: u64, tally: &mut Tally) {
                 2 => g.one_of(&[192.0, -192.0, 192.0f64.next_up(), -(192.0f64.next_up()), 0.0, -0.0, 1.0, -1.0]),
                 _ => g.within(-192.0, 192.0),
             };
-            let (number, r, kept) = call(&mut lent, g.next(), |out| unsafe { port(base, exponent, out) });
+            let (number, r, kept) = call(&mut lent, g.pattern(), |out| unsafe { port(base, exponent, out) });
             let wanted = if powf_inside(base, exponent) { 0 } else { 6 };
             let right = number == wanted && kept && (wanted == 6 || near(r, base.powf(exponent)));
             tally.note("powf", wanted, right, || format!("of {base:e}, {exponent:e} answers {number}, {r:e}"));

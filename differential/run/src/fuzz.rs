@@ -10,7 +10,7 @@ use crate::tally::Tally;
 fn scatter(g: &mut Random, list: &mut [f64], one_in: usize) {
     for x in list {
         if g.once_in(one_in) {
-            *x = if g.once_in(2) { g.odd() } else { g.bits() };
+            *x = [f64::from_bits(g.nan()), g.odd(), g.bits(), g.odd()][g.below(4)];
         }
     }
 }
@@ -62,6 +62,10 @@ fn state(g: &mut Random, n: usize, one_in: usize) -> State {
 
 fn quantum(g: &mut Random, case: u64, c: &mut Caller, tally: &mut Tally) {
     let l = lists(g, true);
+    let m = if g.once_in(2) { g.odd() } else { f64::from_bits(g.pattern()) };
+    if let Some(number) = c.vrq_record_m(m) {
+        judge(tally, "fuzz vrq_record_m", case, c, 0, number, &oracle::vrq_record_m(m), |_| Ok(()));
+    }
     let out = [8, 384, 64].map(|n| if g.once_in(25) { g.below(500) } else { n });
     let expected = oracle::vrq_parameters(&l, out);
     if let Some(number) = c.vrq_parameters(&l, out) {
@@ -108,6 +112,10 @@ fn quantum(g: &mut Random, case: u64, c: &mut Caller, tally: &mut Tally) {
     }
     let (radii, out) =
         ([g.odd(), g.odd()].map(|x| if g.once_in(4) { x } else { g.within(2.0, 4.0) }), if g.once_in(25) { g.below(9) } else { 2 });
+    let expected = oracle::vrq_diameter(&set, i, j, t, radii);
+    if let Some(number) = c.vrq_diameter(&set, i, j, t, radii) {
+        judge(tally, "fuzz vrq_diameter", case, c, 1, number, &expected, |d| floats("diameter", &c.lent.out(0), &[*d]));
+    }
     if let Some(number) = c.vrq_diameter_ends(&set, i, j, t, radii, out) {
         let expected = oracle::vrq_diameter_ends(&set, i, j, t, radii, out);
         judge(tally, "fuzz vrq_diameter_ends", case, c, 1, number, &expected, |e| floats("ends", &c.lent.out(0), e));
@@ -167,6 +175,10 @@ fn vr_mie(g: &mut Random, case: u64, c: &mut Caller, tally: &mut Tally) {
         judge(tally, "fuzz vr_dispersion_ends", case, c, 1, number, &expected, |e| floats("ends", &c.lent.out(0), e));
     }
     let r0 = if g.once_in(4) { g.odd() } else { g.within(0.5, 0.95) };
+    let expected = oracle::vr_diameter(&set, i, j, t, r0);
+    if let Some(number) = c.vr_diameter(&set, i, j, t, r0) {
+        judge(tally, "fuzz vr_diameter", case, c, 1, number, &expected, |d| floats("diameter", &c.lent.out(0), &[*d]));
+    }
     if let Some(number) = c.vr_diameter_ends(&set, i, j, t, r0, out) {
         let expected = oracle::vr_diameter_ends(&set, i, j, t, r0, out);
         judge(tally, "fuzz vr_diameter_ends", case, c, 1, number, &expected, |e| floats("ends", &c.lent.out(0), e));

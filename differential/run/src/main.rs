@@ -52,6 +52,7 @@ fn main() {
     };
     part("oracle on itself", &mut |t| {
         selfcheck::known_values(t);
+        selfcheck::payloads(t);
         selfcheck::texts(count / 4, seed, t);
     });
     part("elementary functions", &mut |t| elementary::run(50 * count, seed, t));

@@ -169,11 +169,18 @@ fn state_right(s: &State) -> bool {
     temperature_right(s.temperature) && all_within(&s.fractions, 0.0, 1.0) && all_within(&s.densities, 0.0, 1.0)
 }
 
-/// The lists of a set as the boundary takes them apart: 1 for a length, then 4 if an order is above 2 (an enum has no such
-/// case); the count comes after.
-fn quantum_lists(s: &QuantumSet) -> Result<(), u8> {
-    lengths(s.m.len() == 8 && s.sheets.len() == 384 && s.orders.len() == 64)?;
-    if s.orders.iter().all(|&o| o <= 2) { Ok(()) } else { Err(4) }
+/// A set as the boundary takes it apart: 1 for the count, one of its lists or what else of the call is not `right`; only then
+/// 4 if the order of a pair in use is above 2 (an enum has no such case). Other places are not looked at.
+fn quantum_set(s: &QuantumSet, right: bool) -> Result<(), u8> {
+    lengths(count_right(s.count) && s.m.len() == 8 && s.sheets.len() == 384 && s.orders.len() == 64 && right)?;
+    let used = |e: &usize| e / 8 < s.count && e % 8 < s.count;
+    if (0..64).filter(used).all(|e| s.orders[e] <= 2) { Ok(()) } else { Err(4) }
+}
+fn pair_right(count: usize, i: usize, j: usize) -> bool {
+    i < count && j < count
+}
+fn state_lists_right(count: usize, st: &State, table: &[f64]) -> bool {
+    st.fractions.len() == count && st.densities.len() == count && table.len() == 256
 }
 fn mie_set_right(s: &MieSet) -> bool {
     count_right(s.count) && s.lists.len() == 40 && s.sheets.len() == 384
@@ -185,6 +192,11 @@ fn in_places(list: &[f64]) -> Vec<f64> {
     let mut places = vec![0.0; 8];
     places[..list.len()].copy_from_slice(list);
     places
+}
+
+/// 3 if m is not equal to 1.0, NaN included.
+pub fn vrq_record_m(m: f64) -> Result<(), u8> {
+    if m == 1.0 { Ok(()) } else { Err(3) }
 }
 
 pub fn vrq_parameters(l: &Lists, out: [usize; 3]) -> Result<QuantumSet, u8> {
@@ -252,16 +264,13 @@ fn searches(p: &renamed::saftvrqmie::parameters::SaftVRQMiePars, order: u8, i: u
 }
 
 pub fn vrq_radii(s: &QuantumSet, i: usize, j: usize, t: f64, out: [usize; 2]) -> Result<([f64; 6], [u8; 3]), u8> {
-    lengths(out == [6, 3])?;
-    quantum_lists(s)?;
-    lengths(count_right(s.count) && i < s.count && j < s.count)?;
+    quantum_set(s, pair_right(s.count, i, j) && out == [6, 3])?;
     limits(temperature_right(t))?;
     searches(&vrq::set(s.count, &s.m, &s.sheets, &s.orders), s.orders[8 * i + j], i, j, t)
 }
 
 pub fn vrq_table(s: &QuantumSet, t: f64, out: [usize; 2]) -> Result<([f64; 256], [u8; 192]), u8> {
-    quantum_lists(s)?;
-    lengths(count_right(s.count) && out == [256, 192])?;
+    quantum_set(s, out == [256, 192])?;
     limits(temperature_right(t))?;
     let p = vrq::set(s.count, &s.m, &s.sheets, &s.orders);
     let mut counts = [0; 192];
@@ -281,9 +290,7 @@ pub fn vrq_table(s: &QuantumSet, t: f64, out: [usize; 2]) -> Result<([f64; 256],
 
 pub fn vrq_energies(s: &QuantumSet, st: &State, table: &[f64], non_additive: bool, out: usize) -> Result<[f64; 3], u8> {
     let n = s.count;
-    lengths(out == 3)?;
-    quantum_lists(s)?;
-    lengths(count_right(n) && st.fractions.len() == n && st.densities.len() == n && table.len() == 256)?;
+    quantum_set(s, state_lists_right(n, st, table) && out == 3)?;
     limits(state_right(st))?;
     start();
     let p = vrq::set(n, &s.m, &s.sheets, &s.orders);
@@ -351,7 +358,7 @@ pub fn vr_diameters(s: &MieSet, t: f64, out: usize) -> Result<Vec<f64>, u8> {
 }
 
 pub fn vr_radius(s: &MieSet, i: usize, j: usize, t: f64) -> Result<f64, u8> {
-    lengths(mie_set_right(s) && i < s.count && j < s.count)?;
+    lengths(mie_set_right(s) && pair_right(s.count, i, j))?;
     limits(temperature_right(t))?;
     start();
     let r = r0(&vr::set(s.count, &s.lists, &s.sheets), i, j, t);
@@ -405,6 +412,12 @@ fn enclosed(results: &[F]) -> Result<Vec<F>, u8> {
     assert!(results.iter().all(|r| r.low <= r.v && r.v <= r.high), "a float result outside its ends");
     Ok(results.to_vec())
 }
+/// The float run's result alone: 6, 7.
+fn float_of(result: F) -> Result<f64, u8> {
+    inside()?;
+    finite(&[result.v])?;
+    Ok(result.v)
+}
 /// The ends one after another.
 fn ends_of(results: Result<Vec<F>, u8>) -> Result<Vec<f64>, u8> {
     results.map(|list| list.iter().flat_map(|r| [r.low, r.high]).collect())
@@ -416,9 +429,7 @@ fn start_ends() {
 
 pub fn vrq_energies_enclosed(s: &QuantumSet, st: &State, table: &[f64], non_additive: bool, out: usize) -> Result<Vec<F>, u8> {
     let n = s.count;
-    lengths(out == 6)?;
-    quantum_lists(s)?;
-    lengths(count_right(n) && st.fractions.len() == n && st.densities.len() == n && table.len() == 256)?;
+    quantum_set(s, state_lists_right(n, st, table) && out == 6)?;
     limits(state_right(st))?;
     let p = ended_vrq::set(n, &points(&s.m), &points(&s.sheets), &s.orders);
     start_ends();
@@ -429,15 +440,29 @@ pub fn vrq_energies_ends(s: &QuantumSet, st: &State, table: &[f64], non_additive
     ends_of(vrq_energies_enclosed(s, st, table, non_additive, out))
 }
 
-pub fn vrq_diameter_enclosed(s: &QuantumSet, i: usize, j: usize, t: f64, radii: [f64; 2], out: usize) -> Result<Vec<F>, u8> {
-    lengths(out == 2)?;
-    quantum_lists(s)?;
-    lengths(count_right(s.count) && i < s.count && j < s.count)?;
+/// The diameter from radii: the text with two ends takes an r0, and its float run is the float operation.
+fn vrq_diameter_run(s: &QuantumSet, i: usize, j: usize, t: f64, radii: [f64; 2], right: bool) -> Result<F, u8> {
+    quantum_set(s, pair_right(s.count, i, j) && right)?;
     limits(temperature_right(t))?;
     let p = ended_vrq::set(s.count, &points(&s.m), &points(&s.sheets), &s.orders);
     start_ends();
     ends::set_r0(radii[1]);
-    enclosed(&[p.hs_diameter_ij(i, j, F::k(t), F::k(radii[0]))])
+    Ok(p.hs_diameter_ij(i, j, F::k(t), F::k(radii[0])))
+}
+pub fn vrq_diameter(s: &QuantumSet, i: usize, j: usize, t: f64, radii: [f64; 2]) -> Result<f64, u8> {
+    float_of(vrq_diameter_run(s, i, j, t, radii, true)?)
+}
+/// The same from the pair's own radii, by the text in floats, which searches r0 itself.
+pub fn vrq_diameter_searched(s: &QuantumSet, i: usize, j: usize, t: f64) -> Result<([f64; 2], f64), u8> {
+    let (radii, _) = vrq_radii(s, i, j, t, [6, 3])?;
+    start();
+    let d = vrq::set(s.count, &s.m, &s.sheets, &s.orders).hs_diameter_ij(i, j, t, radii[0]);
+    inside()?;
+    finite(&[d])?;
+    Ok(([radii[0], radii[2]], d))
+}
+pub fn vrq_diameter_enclosed(s: &QuantumSet, i: usize, j: usize, t: f64, radii: [f64; 2], out: usize) -> Result<Vec<F>, u8> {
+    enclosed(&[vrq_diameter_run(s, i, j, t, radii, out == 2)?])
 }
 pub fn vrq_diameter_ends(s: &QuantumSet, i: usize, j: usize, t: f64, radii: [f64; 2], out: usize) -> Result<Vec<f64>, u8> {
     ends_of(vrq_diameter_enclosed(s, i, j, t, radii, out))
@@ -456,13 +481,27 @@ pub fn vr_dispersion_ends(s: &MieSet, st: &State, diameters: &[f64], chain: bool
     ends_of(vr_dispersion_enclosed(s, st, diameters, chain, out))
 }
 
-pub fn vr_diameter_enclosed(s: &MieSet, i: usize, j: usize, t: f64, r0: f64, out: usize) -> Result<Vec<F>, u8> {
-    lengths(mie_set_right(s) && i < s.count && j < s.count && out == 2)?;
+fn vr_diameter_run(s: &MieSet, i: usize, j: usize, t: f64, r0: f64, right: bool) -> Result<F, u8> {
+    lengths(mie_set_right(s) && pair_right(s.count, i, j) && right)?;
     limits(temperature_right(t))?;
     let p = ended_vr::set(s.count, &points(&s.lists), &points(&s.sheets));
     start_ends();
     ends::set_r0(r0);
-    enclosed(&[p.hs_diameter_ij(i, j, F::k(1.0) / F::k(t))])
+    Ok(p.hs_diameter_ij(i, j, F::k(1.0) / F::k(t)))
+}
+pub fn vr_diameter(s: &MieSet, i: usize, j: usize, t: f64, r0: f64) -> Result<f64, u8> {
+    float_of(vr_diameter_run(s, i, j, t, r0, true)?)
+}
+pub fn vr_diameter_searched(s: &MieSet, i: usize, j: usize, t: f64) -> Result<(f64, f64), u8> {
+    let r0 = vr_radius(s, i, j, t)?;
+    start();
+    let d = vr::set(s.count, &s.lists, &s.sheets).hs_diameter_ij(i, j, 1.0 / t);
+    inside()?;
+    finite(&[d])?;
+    Ok((r0, d))
+}
+pub fn vr_diameter_enclosed(s: &MieSet, i: usize, j: usize, t: f64, r0: f64, out: usize) -> Result<Vec<F>, u8> {
+    enclosed(&[vr_diameter_run(s, i, j, t, r0, out == 2)?])
 }
 pub fn vr_diameter_ends(s: &MieSet, i: usize, j: usize, t: f64, r0: f64, out: usize) -> Result<Vec<f64>, u8> {
     ends_of(vr_diameter_enclosed(s, i, j, t, r0, out))

@@ -39,6 +39,7 @@ boundary! {
     EXP_M1 = domthelv_exp_m1(f64, Out);
     TANH = domthelv_tanh(f64, Out);
     POWF = domthelv_powf(f64, f64, Out);
+    VRQ_RECORD_M = domthelv_vrq_record_m(f64);
     // count, m, sigma, epsilon_k, lr, la, mass, order, k_ij, l_ij; set_m, set_sheets, set_orders
     VRQ_PARAMETERS = domthelv_vrq_parameters(
         usize, In, Len, In, Len, In, Len, In, Len, In, Len, In, Len, BytesIn, Len, In, Len, In, Len,
@@ -57,6 +58,8 @@ boundary! {
         usize, In, Len, In, Len, BytesIn, Len, f64, In, Len, In, Len, In, Len, bool, Out, Len,
     );
     // count, m, sheets, orders, i, j, temperature, sigma_eff, r0; out
+    VRQ_DIAMETER = domthelv_vrq_diameter(usize, In, Len, In, Len, BytesIn, Len, usize, usize, f64, f64, f64, Out);
+    // the same; out: low and high end
     VRQ_DIAMETER_ENDS = domthelv_vrq_diameter_ends(
         usize, In, Len, In, Len, BytesIn, Len, usize, usize, f64, f64, f64, Out, Len,
     );
@@ -73,13 +76,15 @@ boundary! {
     VR_DIAMETERS = domthelv_vr_diameters(usize, In, Len, In, Len, f64, Out, Len);
     // count, lists, sheets, i, j, temperature; out
     VR_RADIUS = domthelv_vr_radius(usize, In, Len, In, Len, usize, usize, f64, Out);
+    // count, lists, sheets, i, j, temperature, r0; out
+    VR_DIAMETER = domthelv_vr_diameter(usize, In, Len, In, Len, usize, usize, f64, f64, Out);
     // count, lists, sheets, temperature, fractions, densities, diameters, chain; out
     VR_DISPERSION = domthelv_vr_dispersion(usize, In, Len, In, Len, f64, In, Len, In, Len, In, Len, bool, Out);
     // the same; out: low and high end
     VR_DISPERSION_ENDS = domthelv_vr_dispersion_ends(
         usize, In, Len, In, Len, f64, In, Len, In, Len, In, Len, bool, Out, Len,
     );
-    // count, lists, sheets, i, j, temperature, r0; out
+    // count, lists, sheets, i, j, temperature, r0; out: low and high end
     VR_DIAMETER_ENDS = domthelv_vr_diameter_ends(usize, In, Len, In, Len, usize, usize, f64, f64, Out, Len);
     // count, m, sigma, epsilon_k, lr, la, k_ij, gamma_ij, temperature, fractions, densities, chain; out
     VR_STAGE = domthelv_vr_stage(

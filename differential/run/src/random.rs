@@ -33,6 +33,16 @@ impl Random {
     pub fn bits(&mut self) -> f64 {
         f64::from_bits(self.next())
     }
+    /// The pattern of a NaN: either sign, any payload, quiet or signalling.
+    pub fn nan(&mut self) -> u64 {
+        let payload = self.next() >> 12;
+        let payload = if self.once_in(2) { payload | 1 << 51 } else { payload & !(1 << 51) | 1 };
+        self.next() & 1 << 63 | 0x7ff << 52 | payload
+    }
+    /// The pattern of a place that is lent to be written: arbitrary, every second one a NaN.
+    pub fn pattern(&mut self) -> u64 {
+        if self.once_in(2) { self.nan() } else { self.next() }
+    }
     /// A float that formulas stumble over.
     pub fn odd(&mut self) -> f64 {
         const ODD: [f64; 16] = [

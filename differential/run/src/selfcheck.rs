@@ -1,5 +1,6 @@
 //! The oracle tried on itself: the renamed text with the platform's functions gives the bits of the unchanged text,
-//! and both give the values worked out for a few fluids.
+//! and both give the values worked out for a few fluids; and the bits of a NaN are seen.
+use crate::lent::Lent;
 use crate::oracle::{lists_for, same};
 use crate::random::Random;
 use crate::states;
@@ -108,4 +109,19 @@ pub fn known_values(tally: &mut Tally) {
     close(tally, "diameters of ethane and methane", &d, &[3.62927155125, 3.62348866077]);
     let energies = [false, true].map(|chain| vr::dispersion(&p, &d, 200.0, &[0.4, 0.6], &[0.003, 0.004], chain));
     close(tally, "ethane and methane", &energies, &[-0.0206772971504, -0.0207175328474]);
+}
+
+/// A NaN of another pattern, a signalling one made quiet among them, is seen in a lent list.
+pub fn payloads(tally: &mut Tally) {
+    let (mut g, mut lent) = (Random(5), Lent::default());
+    for case in 0..100 {
+        let before = [g.nan(), g.nan(), g.nan()];
+        let quiet = before[1] | 1 << 51;
+        let other = if quiet != before[1] { quiet } else { before[1] ^ 1 << g.below(51) };
+        lent.clear();
+        let at = lent.lend(&before, case % 2 == 0);
+        let kept = lent.kept(0);
+        unsafe { at.add(1).write(other) };
+        tally.note("oracle: NaN payloads", 0, kept && !lent.kept(0), || format!("{:016x} taken for {other:016x}", before[1]));
+    }
 }

@@ -1,11 +1,11 @@
 -- `domthelv::domthelv_vr_dispersion` meets its contract. Assumes nothing.
-use Rattle.domthelv.proofs.Sets.{mie-lengths}
+use Rattle.set_lists.proofs.Sets.{mie-lengths, mie-1, mie-holds, mie-by}
+use Rattle.domthelv.proofs.Operations.{dispersion-refused, dispersion-is, refused-status, refused-stored, held-status, held-stored}
+use Rattle.saftvrmie_energies.specs.Energies.{energyAnswer}
 use Rattle.number.proofs.Walk.{told, via}
 use borrow.Author.Tests.{not-true, not-false}
-use native.Mathlib.Omega.{arith}
 use mathlib.Core.Path.{refl, _∙_}
-use Rattle.domthelv.proofs.Operations.{dispersion-refused, mie-set-1, dispersion-from, refused-status, refused-stored, held-status, held-stored}
-use Rattle.saftvrmie_energies.specs.Energies.{energyAnswer}
+use native.Mathlib.Omega.{arith}
 use borrow.Author.Needs.{needs}
 use Rattle.domthelv.proofs.domthelv_vr_dispersion.Statement.{statement}
 use Rattle.domthelv.proofs.domthelv_vr_dispersion.Tie as tie
@@ -14,7 +14,7 @@ mie-lengths-requires : tie.Need-mie-lengths-requires
 mie-lengths-requires c κs = search needs
 
 returns : tie.Need-returns
-returns c = let q = dispersion-refused _ _ _ _ _ _ _ _ _ (mie-set-1 _ _ _ (told ((c .before .mie-lengths) .ensures) (not-true _ ((c .if1) .taken)))) in (refused-status _ _ _ refl q, refused-stored _ _ _ q)
+returns c = let q = dispersion-refused _ _ _ _ _ _ _ (mie-1 _ (told ((c .before .mie-lengths) .ensures) (not-true _ ((c .if1) .taken)))) in (refused-status _ _ _ refl q, refused-stored _ _ _ q)
 
 places-requires : tie.Need-places-requires
 places-requires c κs = let h = mie-lengths _ _ (told ((c .before .mie-lengths) .ensures) (not-false _ ((c .if1) .left))) .places in omega (arith, h)
@@ -40,14 +40,8 @@ mul-places-3 c = search needs
 places-requires-5 : tie.Need-places-requires-5
 places-requires-5 c κs = let h = mie-lengths _ _ (told ((c .before .before .before .before .before .mie-lengths) .ensures) (not-false _ ((c .before .before .before .before .if1) .left))) .places in omega (arith, h)
 
-mul-copy : tie.Need-mul-copy
-mul-copy c = search needs
-
-slice-aggregate-copy : tie.Need-slice-aggregate-copy
-slice-aggregate-copy c = search needs
-
-copy-requires : tie.Need-copy-requires
-copy-requires c κs = let h = mie-lengths _ _ (told ((c .before .before .before .before .before .before .before .mie-lengths) .ensures) (not-false _ ((c .before .before .before .before .before .before .if1) .left))) .flat in (omega (arith, h), search needs)
+flat-requires : tie.Need-flat-requires
+flat-requires c κs = mie-lengths _ _ (told ((c .before .before .before .before .before .before .mie-lengths) .ensures) (not-false _ ((c .before .before .before .before .before .if1) .left))) .flat
 
 dispersion-of-requires : tie.Need-dispersion-of-requires
 dispersion-of-requires c κs = search needs
@@ -59,10 +53,10 @@ enum-known-worked-2 : tie.Need-enum-known-worked-2
 enum-known-worked-2 c = search needs
 
 returns-2 : tie.Need-returns-2
-returns-2 c = let q = dispersion-from _ _ _ _ _ _ _ _ _ _ _ _ _ _ (told ((c .before .before .before .before .before .before .before .before .before .before .before .before .before .before .before .before .before .before .before .mie-lengths) .ensures) (not-false _ ((c .before .before .before .before .before .before .before .before .before .before .before .before .before .before .before .before .before .before .if1) .left))) ((c .before .before .before .before .before .before .before .before .before .before .before .before .before .before .before .before .before .places) .ensures) ((c .before .before .before .before .before .before .before .before .before .before .before .before .before .before .before .before .places2) .ensures) ((c .before .before .before .before .before .before .before .before .before .before .before .before .before .before .before .places3) .ensures) ((c .before .before .before .before .before .before .before .before .before .before .before .before .before .before .places4) .ensures) ((c .before .before .before .before .before .before .before .before .before .before .before .before .before .places5) .ensures) ((c .before .before .before .before .before .before .before .before .before .before .before .copy) .ensures) ∙ via energyAnswer ((c .before .before .before .dispersion-of) .ensures) ((c .before .worked) .given .1) in (refused-status _ _ _ refl q, refused-stored _ _ _ q)
+returns-2 c = let q = dispersion-is _ _ _ _ _ _ _ (mie-by _ _ _ _ _ _ _ _ (mie-holds _ (told ((c .before .before .before .before .before .before .before .before .before .before .before .before .before .before .before .before .before .mie-lengths) .ensures) (not-false _ ((c .before .before .before .before .before .before .before .before .before .before .before .before .before .before .before .before .if1) .left)))) ((c .before .before .before .before .before .before .before .before .before .before .before .before .before .before .before .places) .ensures) ((c .before .before .before .before .before .before .before .before .before .before .before .before .before .before .places2) .ensures) ((c .before .before .before .before .before .before .before .before .before .before .before .before .before .places3) .ensures) ((c .before .before .before .before .before .before .before .before .before .before .before .before .places4) .ensures) ((c .before .before .before .before .before .before .before .before .before .before .before .places5) .ensures) ((c .before .before .before .before .before .before .before .before .before .before .flat) .ensures)) ∙ via energyAnswer ((c .before .before .before .dispersion-of) .ensures) ((c .before .worked) .given .1) in (refused-status _ _ _ refl q, refused-stored _ _ _ q)
 
 returns-3 : tie.Need-returns-3
-returns-3 c = let q = dispersion-from _ _ _ _ _ _ _ _ _ _ _ _ _ _ (told ((c .before .before .before .before .before .before .before .before .before .before .before .before .before .before .before .before .before .before .before .mie-lengths) .ensures) (not-false _ ((c .before .before .before .before .before .before .before .before .before .before .before .before .before .before .before .before .before .before .if1) .left))) ((c .before .before .before .before .before .before .before .before .before .before .before .before .before .before .before .before .before .places) .ensures) ((c .before .before .before .before .before .before .before .before .before .before .before .before .before .before .before .before .places2) .ensures) ((c .before .before .before .before .before .before .before .before .before .before .before .before .before .before .before .places3) .ensures) ((c .before .before .before .before .before .before .before .before .before .before .before .before .before .before .places4) .ensures) ((c .before .before .before .before .before .before .before .before .before .before .before .before .before .places5) .ensures) ((c .before .before .before .before .before .before .before .before .before .before .before .copy) .ensures) ∙ via energyAnswer ((c .before .before .before .dispersion-of) .ensures) ((c .before .worked2) .given .1) in (held-status _ _ q, held-stored _ _ _ q)
+returns-3 c = let q = dispersion-is _ _ _ _ _ _ _ (mie-by _ _ _ _ _ _ _ _ (mie-holds _ (told ((c .before .before .before .before .before .before .before .before .before .before .before .before .before .before .before .before .before .mie-lengths) .ensures) (not-false _ ((c .before .before .before .before .before .before .before .before .before .before .before .before .before .before .before .before .if1) .left)))) ((c .before .before .before .before .before .before .before .before .before .before .before .before .before .before .before .places) .ensures) ((c .before .before .before .before .before .before .before .before .before .before .before .before .before .before .places2) .ensures) ((c .before .before .before .before .before .before .before .before .before .before .before .before .before .places3) .ensures) ((c .before .before .before .before .before .before .before .before .before .before .before .before .places4) .ensures) ((c .before .before .before .before .before .before .before .before .before .before .before .places5) .ensures) ((c .before .before .before .before .before .before .before .before .before .before .flat) .ensures)) ∙ via energyAnswer ((c .before .before .before .dispersion-of) .ensures) ((c .before .worked2) .given .1) in (held-status _ _ q, held-stored _ _ _ q)
 
 pub domthelv-vr-dispersion-spec : {M : Type 1} → statement M
 domthelv-vr-dispersion-spec =
@@ -78,9 +72,7 @@ domthelv-vr-dispersion-spec =
     places-requires-4
     mul-places-3
     places-requires-5
-    mul-copy
-    slice-aggregate-copy
-    copy-requires
+    flat-requires
     dispersion-of-requires
     enum-known-worked
     enum-known-worked-2

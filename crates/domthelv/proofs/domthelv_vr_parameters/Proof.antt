@@ -1,5 +1,5 @@
 -- `domthelv::domthelv_vr_parameters` meets its contract. Assumes nothing.
-use Rattle.domthelv.proofs.Sets.{mie-lengths}
+use Rattle.set_lists.proofs.Sets.{mie-lengths}
 use Rattle.stages.proofs.Given.{mie-held, mie-refused}
 use Rattle.domthelv.proofs.Operations.{mie-parameters-1, mie-parameters-refused, mie-parameters-held, refused-status, refused-stored, held-status, held-stored}
 use Rattle.domthelv.specs.Operations.{MieLent, mieWritten}

@@ -1,47 +1,45 @@
 -- `domthelv::domthelv_vrq_energies` meets its contract. Assumes nothing.
-use Rattle.domthelv.proofs.Sets.{lengths, refuses-1, refuses-4, holds}
+use Rattle.set_lists.proofs.Sets.{lengths, passed-lengths, passed, not-passed, set-by}
 use Rattle.domthelv.proofs.Operations.{energies-1, energies-set, energies-refused, energies-held, refused-status, refused-stored, held-status, held-stored}
 use Rattle.saftvrqmie_energies.specs.Energies.{energiesAnswer}
-use borrow.Author.Tests.{eq-eqb, ne-eqb, not-true, not-false}
-use Rattle.number.proofs.Walk.{told, via}
-use mathlib.Core.Path.{refl, _∙_}
+use Rattle.number.proofs.Walk.{via}
+use borrow.Author.Tests.{eq-eqb, ne-eqb}
+use mathlib.Core.Path.{refl, ap, _∙_}
+use Rattle.mie_parameters.specs.Answer.{numberOf}
 use native.Mathlib.Omega.{arith}
 use borrow.Author.Needs.{needs}
 use Rattle.domthelv.proofs.domthelv_vrq_energies.Statement.{statement}
 use Rattle.domthelv.proofs.domthelv_vrq_energies.Tie as tie
 
 returns : tie.Need-returns
-returns c = let q = energies-1 _ _ _ _ _ _ _ _ _ _ (ne-eqb _ _ ((c .if1) .taken)) in (refused-status _ _ _ refl q, refused-stored _ _ _ q)
+returns c = let q = energies-1 _ _ _ _ _ _ _ (ne-eqb _ _ ((c .if1) .taken)) in (refused-status _ _ _ refl q, refused-stored _ _ _ q)
 
-quantum-lengths-requires : tie.Need-quantum-lengths-requires
-quantum-lengths-requires c κs = search needs
+right-lengths-requires : tie.Need-right-lengths-requires
+right-lengths-requires c κs = search needs
+
+quantum-answer-requires : tie.Need-quantum-answer-requires
+quantum-answer-requires c κs = search needs
+
+enum-told : tie.Need-enum-told
+enum-told c = search needs
+
+enum-told-2 : tie.Need-enum-told-2
+enum-told-2 c = search needs
+
+number-requires : tie.Need-number-requires
+number-requires c κs = search needs
 
 returns-2 : tie.Need-returns-2
-returns-2 c = let q = energies-set _ _ _ _ _ _ _ _ _ _ (eq-eqb _ _ ((c .before .before .if1) .left)) _ (refuses-1 _ _ _ _ (told ((c .before .quantum-lengths) .ensures) (not-true _ ((c .if2) .taken)))) in (refused-status _ _ _ refl q, refused-stored _ _ _ q)
+returns-2 c = let q = energies-set _ _ _ _ _ _ _ (eq-eqb _ _ ((c .before .before .before .before .before .if1) .left)) _ (not-passed _ _ _ ((c .before .before .before .before .right-lengths) .ensures) _ ((c .before .before .before .quantum-answer) .ensures) _ ((c .before .enum-told2) .given .1)) in (refused-status _ _ _ (((c .number) .ensures) ∙ ap numberOf ((c .before .enum-told2) .given .1)) q, refused-stored _ _ _ q)
 
-orders-within-requires : tie.Need-orders-within-requires
-orders-within-requires c κs = lengths _ _ _ (told ((c .before .quantum-lengths) .ensures) (not-false _ ((c .if2) .left))) .records
+places-requires : tie.Need-places-requires
+places-requires c κs = let h = lengths _ _ _ (passed-lengths _ _ _ ((c .before .before .before .right-lengths) .ensures) _ ((c .before .before .quantum-answer) .ensures) ((c .enum-told) .given .1)) .places in omega (arith, h)
 
-returns-3 : tie.Need-returns-3
-returns-3 c = let q = energies-set _ _ _ _ _ _ _ _ _ _ (eq-eqb _ _ ((c .before .before .before .before .if1) .left)) _ (refuses-4 _ _ _ _ (told ((c .before .before .before .quantum-lengths) .ensures) (not-false _ ((c .before .before .if2) .left))) (told ((c .before .orders-within) .ensures) (not-true _ ((c .if3) .taken)))) in (refused-status _ _ _ refl q, refused-stored _ _ _ q)
+flat-requires : tie.Need-flat-requires
+flat-requires c κs = lengths _ _ _ (passed-lengths _ _ _ ((c .before .before .before .before .right-lengths) .ensures) _ ((c .before .before .before .quantum-answer) .ensures) ((c .before .enum-told) .given .1)) .flat
 
-slice-aggregate-copy : tie.Need-slice-aggregate-copy
-slice-aggregate-copy c = search needs
-
-copy-requires : tie.Need-copy-requires
-copy-requires c κs = let h = lengths _ _ _ (told ((c .before .before .before .before .quantum-lengths) .ensures) (not-false _ ((c .before .before .before .if2) .left))) .places in (omega (arith, h), search needs)
-
-mul-copy : tie.Need-mul-copy
-mul-copy c = search needs
-
-slice-aggregate-copy-2 : tie.Need-slice-aggregate-copy-2
-slice-aggregate-copy-2 c = search needs
-
-copy-requires-2 : tie.Need-copy-requires-2
-copy-requires-2 c κs = let h = lengths _ _ _ (told ((c .before .before .before .before .before .before .before .quantum-lengths) .ensures) (not-false _ ((c .before .before .before .before .before .before .if2) .left))) .flat in (omega (arith, h), search needs)
-
-orders-read-requires : tie.Need-orders-read-requires
-orders-read-requires c κs = lengths _ _ _ (told ((c .before .before .before .before .before .before .before .before .before .quantum-lengths) .ensures) (not-false _ ((c .before .before .before .before .before .before .before .before .if2) .left))) .records
+order-records-requires : tie.Need-order-records-requires
+order-records-requires c κs = lengths _ _ _ (passed-lengths _ _ _ ((c .before .before .before .before .before .right-lengths) .ensures) _ ((c .before .before .before .before .quantum-answer) .ensures) ((c .before .before .enum-told) .given .1)) .records
 
 energies-of-requires : tie.Need-energies-of-requires
 energies-of-requires c κs = search needs
@@ -55,34 +53,33 @@ enum-known-worked-2 c = search needs
 write-energies-requires : tie.Need-write-energies-requires
 write-energies-requires c κs = search needs
 
-returns-4 : tie.Need-returns-4
-returns-4 c = let q = energies-refused _ _ _ _ _ _ _ _ _ _ (eq-eqb _ _ ((c .before .before .before .before .before .before .before .before .before .before .before .before .before .before .before .before .before .if1) .left)) _ (holds _ _ _ _ (told ((c .before .before .before .before .before .before .before .before .before .before .before .before .before .before .before .before .quantum-lengths) .ensures) (not-false _ ((c .before .before .before .before .before .before .before .before .before .before .before .before .before .before .before .if2) .left))) _ _ _ (told ((c .before .before .before .before .before .before .before .before .before .before .before .before .before .before .orders-within) .ensures) (not-false _ ((c .before .before .before .before .before .before .before .before .before .before .before .before .before .if3) .left))) ((c .before .before .before .before .before .before .before .before .before .before .before .copy) .ensures) ((c .before .before .before .before .before .before .before .before .copy2) .ensures) ((c .before .before .before .before .before .before .orders-read) .ensures)) _ (via energiesAnswer ((c .before .before .before .energies-of) .ensures) ((c .before .worked) .given .1)) in (refused-status _ _ _ refl q, refused-stored _ _ _ q)
+returns-3 : tie.Need-returns-3
+returns-3 c = let q = energies-refused _ _ _ _ _ _ _ (eq-eqb _ _ ((c .before .before .before .before .before .before .before .before .before .before .before .before .before .if1) .left)) _ (set-by _ _ _ _ _ (passed _ _ _ ((c .before .before .before .before .before .before .before .before .before .before .before .before .right-lengths) .ensures) _ ((c .before .before .before .before .before .before .before .before .before .before .before .quantum-answer) .ensures) ((c .before .before .before .before .before .before .before .before .before .enum-told) .given .1)) ((c .before .before .before .before .before .before .before .before .places) .ensures) ((c .before .before .before .before .before .before .before .flat) .ensures) ((c .before .before .before .before .before .before .order-records) .ensures)) _ (via energiesAnswer ((c .before .before .before .energies-of) .ensures) ((c .before .worked) .given .1)) in (refused-status _ _ _ refl q, refused-stored _ _ _ q)
 
 same-length : tie.Need-same-length
 same-length c = search needs
 
-returns-5 : tie.Need-returns-5
-returns-5 c = let q = energies-held _ _ _ _ _ _ _ _ _ _ (eq-eqb _ _ ((c .before .before .before .before .before .before .before .before .before .before .before .before .before .before .before .before .before .before .before .before .before .if1) .left)) _ (holds _ _ _ _ (told ((c .before .before .before .before .before .before .before .before .before .before .before .before .before .before .before .before .before .before .before .before .quantum-lengths) .ensures) (not-false _ ((c .before .before .before .before .before .before .before .before .before .before .before .before .before .before .before .before .before .before .before .if2) .left))) _ _ _ (told ((c .before .before .before .before .before .before .before .before .before .before .before .before .before .before .before .before .before .before .orders-within) .ensures) (not-false _ ((c .before .before .before .before .before .before .before .before .before .before .before .before .before .before .before .before .before .if3) .left))) ((c .before .before .before .before .before .before .before .before .before .before .before .before .before .before .before .copy) .ensures) ((c .before .before .before .before .before .before .before .before .before .before .before .before .copy2) .ensures) ((c .before .before .before .before .before .before .before .before .before .before .orders-read) .ensures)) _ (via energiesAnswer ((c .before .before .before .before .before .before .before .energies-of) .ensures) ((c .before .before .before .before .before .worked2) .given .1)) in (held-status _ _ q, ((c .before .before .write-energies) .ensures) ∙ held-stored _ _ _ q)
+returns-4 : tie.Need-returns-4
+returns-4 c = let q = energies-held _ _ _ _ _ _ _ (eq-eqb _ _ ((c .before .before .before .before .before .before .before .before .before .before .before .before .before .before .before .before .before .if1) .left)) _ (set-by _ _ _ _ _ (passed _ _ _ ((c .before .before .before .before .before .before .before .before .before .before .before .before .before .before .before .before .right-lengths) .ensures) _ ((c .before .before .before .before .before .before .before .before .before .before .before .before .before .before .before .quantum-answer) .ensures) ((c .before .before .before .before .before .before .before .before .before .before .before .before .before .enum-told) .given .1)) ((c .before .before .before .before .before .before .before .before .before .before .before .before .places) .ensures) ((c .before .before .before .before .before .before .before .before .before .before .before .flat) .ensures) ((c .before .before .before .before .before .before .before .before .before .before .order-records) .ensures)) _ (via energiesAnswer ((c .before .before .before .before .before .before .before .energies-of) .ensures) ((c .before .before .before .before .before .worked2) .given .1)) in (held-status _ _ q, ((c .before .before .write-energies) .ensures) ∙ held-stored _ _ _ q)
 
 pub domthelv-vrq-energies-spec : {M : Type 1} → statement M
 domthelv-vrq-energies-spec =
     tie.close
     (tie.spec
     returns
-    quantum-lengths-requires
+    right-lengths-requires
+    quantum-answer-requires
+    enum-told
+    enum-told-2
+    number-requires
     returns-2
-    orders-within-requires
-    returns-3
-    slice-aggregate-copy
-    copy-requires
-    mul-copy
-    slice-aggregate-copy-2
-    copy-requires-2
-    orders-read-requires
+    places-requires
+    flat-requires
+    order-records-requires
     energies-of-requires
     enum-known-worked
     enum-known-worked-2
     write-energies-requires
-    returns-4
+    returns-3
     same-length
-    returns-5)
+    returns-4)

@@ -1,5 +1,5 @@
 -- `domthelv::domthelv_vrq_parameters` meets its contract. Assumes nothing.
-use Rattle.domthelv.proofs.Sets.{lengths}
+use Rattle.set_lists.proofs.Sets.{lengths}
 use Rattle.stages.proofs.Given.{quantum-held, quantum-refused}
 use Rattle.domthelv.proofs.Operations.{parameters-1, parameters-refused, parameters-held, refused-status, refused-stored, held-status, held-stored}
 use Rattle.domthelv.specs.Operations.{QuantumLent, setWritten}

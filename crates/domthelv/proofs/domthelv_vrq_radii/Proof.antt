@@ -1,12 +1,12 @@
 -- `domthelv::domthelv_vrq_radii` meets its contract. Assumes nothing.
-use Rattle.stages.proofs.Given.{quantum-held, quantum-refused}
+use Rattle.set_lists.proofs.Sets.{passed-lengths, passed, not-passed, set-is}
 use Rattle.domthelv.proofs.Operations.{radii-lengths, radii-1, radii-set, radii-refused, radii-held, refused-status, refused-stored, held-status, held-stored}
-use Rattle.saftvrqmie.specs.Table.{Lent}
 use Rattle.saftvrqmie.specs.Pairs.{searchesAnswer}
 use Rattle.number.proofs.Walk.{told, via}
 use borrow.Author.Tests.{not-true, not-false}
 use mathlib.Core.Path.{refl, ap, _∙_}
 use Rattle.mie_parameters.specs.Answer.{numberOf}
+use Rattle.saftvrqmie.specs.Table.{Lent}
 use borrow.Author.Needs.{needs}
 use Rattle.domthelv.proofs.domthelv_vrq_radii.Statement.{statement}
 use Rattle.domthelv.proofs.domthelv_vrq_radii.Tie as tie
@@ -21,10 +21,13 @@ same-length-2 : tie.Need-same-length-2
 same-length-2 c = search needs
 
 returns : tie.Need-returns
-returns c = let q = radii-1 _ _ _ _ _ _ _ _ (told ((c .before .radii-lengths) .ensures) (not-true _ ((c .if1) .taken))) in (refused-status _ _ _ refl q, ap (λ (l : Lent). l .values) (refused-stored _ _ _ q), ap (λ (l : Lent). l .numbers) (refused-stored _ _ _ q))
+returns c = let q = radii-1 _ _ _ _ _ (told ((c .before .radii-lengths) .ensures) (not-true _ ((c .if1) .taken))) in (refused-status _ _ _ refl q, ap (λ (l : Lent). l .values) (refused-stored _ _ _ q), ap (λ (l : Lent). l .numbers) (refused-stored _ _ _ q))
 
-quantum-set-requires : tie.Need-quantum-set-requires
-quantum-set-requires c κs = search needs
+index-within-requires : tie.Need-index-within-requires
+index-within-requires c κs = search needs
+
+quantum-answer-requires : tie.Need-quantum-answer-requires
+quantum-answer-requires c κs = search needs
 
 enum-told : tie.Need-enum-told
 enum-told c = search needs
@@ -42,7 +45,10 @@ same-length-4 : tie.Need-same-length-4
 same-length-4 c = search needs
 
 returns-2 : tie.Need-returns-2
-returns-2 c = let q = radii-set _ _ _ _ _ _ _ _ (told ((c .before .before .before .before .before .radii-lengths) .ensures) (not-false _ ((c .before .before .before .before .if1) .left))) _ (quantum-refused _ _ _ ((c .before .before .before .quantum-set) .ensures) ((c .before .enum-told2) .given .1)) in (refused-status _ _ _ (((c .number) .ensures) ∙ ap numberOf ((c .before .enum-told2) .given .1)) q, ap (λ (l : Lent). l .values) (refused-stored _ _ _ q), ap (λ (l : Lent). l .numbers) (refused-stored _ _ _ q))
+returns-2 c = let q = radii-set _ _ _ _ _ (told ((c .before .before .before .before .before .before .radii-lengths) .ensures) (not-false _ ((c .before .before .before .before .before .if1) .left))) _ (not-passed _ _ _ ((c .before .before .before .before .index-within) .ensures) _ ((c .before .before .before .quantum-answer) .ensures) _ ((c .before .enum-told2) .given .1)) in (refused-status _ _ _ (((c .number) .ensures) ∙ ap numberOf ((c .before .enum-told2) .given .1)) q, ap (λ (l : Lent). l .values) (refused-stored _ _ _ q), ap (λ (l : Lent). l .numbers) (refused-stored _ _ _ q))
+
+quantum-set-requires : tie.Need-quantum-set-requires
+quantum-set-requires c κs = (passed-lengths _ _ _ ((c .before .before .before .index-within) .ensures) _ ((c .before .before .quantum-answer) .ensures) ((c .enum-told) .given .1))
 
 searches-ij-requires : tie.Need-searches-ij-requires
 searches-ij-requires c κs = search needs
@@ -54,7 +60,7 @@ enum-known-searched-2 : tie.Need-enum-known-searched-2
 enum-known-searched-2 c = search needs
 
 write-searches-requires : tie.Need-write-searches-requires
-write-searches-requires c κs = radii-lengths _ (told ((c .before .before .before .before .before .before .before .before .before .before .radii-lengths) .ensures) (not-false _ ((c .before .before .before .before .before .before .before .before .before .if1) .left)))
+write-searches-requires c κs = radii-lengths _ (told ((c .before .before .before .before .before .before .before .before .before .before .before .before .radii-lengths) .ensures) (not-false _ ((c .before .before .before .before .before .before .before .before .before .before .before .if1) .left)))
 
 same-length-5 : tie.Need-same-length-5
 same-length-5 c = search needs
@@ -63,7 +69,7 @@ same-length-6 : tie.Need-same-length-6
 same-length-6 c = search needs
 
 returns-3 : tie.Need-returns-3
-returns-3 c = let q = radii-refused _ _ _ _ _ _ _ _ (told ((c .before .before .before .before .before .before .before .before .radii-lengths) .ensures) (not-false _ ((c .before .before .before .before .before .before .before .if1) .left))) _ (quantum-held _ _ ((c .before .before .before .before .before .before .quantum-set) .ensures) ((c .before .before .before .before .enum-told) .given .1)) _ (via searchesAnswer ((c .before .before .before .searches-ij) .ensures) ((c .before .searched) .given .1)) in (refused-status _ _ _ refl q, ap (λ (l : Lent). l .values) (refused-stored _ _ _ q), ap (λ (l : Lent). l .numbers) (refused-stored _ _ _ q))
+returns-3 c = let q = radii-refused _ _ _ _ _ (told ((c .before .before .before .before .before .before .before .before .before .before .radii-lengths) .ensures) (not-false _ ((c .before .before .before .before .before .before .before .before .before .if1) .left))) _ (set-is _ _ _ (passed _ _ _ ((c .before .before .before .before .before .before .before .before .index-within) .ensures) _ ((c .before .before .before .before .before .before .before .quantum-answer) .ensures) ((c .before .before .before .before .before .enum-told) .given .1)) ((c .before .before .before .before .quantum-set) .ensures)) _ (via searchesAnswer ((c .before .before .before .searches-ij) .ensures) ((c .before .searched) .given .1)) in (refused-status _ _ _ refl q, ap (λ (l : Lent). l .values) (refused-stored _ _ _ q), ap (λ (l : Lent). l .numbers) (refused-stored _ _ _ q))
 
 same-length-7 : tie.Need-same-length-7
 same-length-7 c = search needs
@@ -72,7 +78,7 @@ same-length-8 : tie.Need-same-length-8
 same-length-8 c = search needs
 
 returns-4 : tie.Need-returns-4
-returns-4 c = let q = radii-held _ _ _ _ _ _ _ _ (told ((c .before .before .before .before .before .before .before .before .before .before .before .before .before .before .before .radii-lengths) .ensures) (not-false _ ((c .before .before .before .before .before .before .before .before .before .before .before .before .before .before .if1) .left))) _ (quantum-held _ _ ((c .before .before .before .before .before .before .before .before .before .before .before .before .before .quantum-set) .ensures) ((c .before .before .before .before .before .before .before .before .before .before .before .enum-told) .given .1)) _ (via searchesAnswer ((c .before .before .before .before .before .before .before .before .before .before .searches-ij) .ensures) ((c .before .before .before .before .before .before .before .before .searched2) .given .1)) in (held-status _ _ q, ap (λ (l : Lent). l .values) ((c .before .before .before .before .write-searches) .ensures ∙ held-stored _ _ _ q), ap (λ (l : Lent). l .numbers) ((c .before .before .before .before .write-searches) .ensures ∙ held-stored _ _ _ q))
+returns-4 c = let q = radii-held _ _ _ _ _ (told ((c .before .before .before .before .before .before .before .before .before .before .before .before .before .before .before .before .before .radii-lengths) .ensures) (not-false _ ((c .before .before .before .before .before .before .before .before .before .before .before .before .before .before .before .before .if1) .left))) _ (set-is _ _ _ (passed _ _ _ ((c .before .before .before .before .before .before .before .before .before .before .before .before .before .before .before .index-within) .ensures) _ ((c .before .before .before .before .before .before .before .before .before .before .before .before .before .before .quantum-answer) .ensures) ((c .before .before .before .before .before .before .before .before .before .before .before .before .enum-told) .given .1)) ((c .before .before .before .before .before .before .before .before .before .before .before .quantum-set) .ensures)) _ (via searchesAnswer ((c .before .before .before .before .before .before .before .before .before .before .searches-ij) .ensures) ((c .before .before .before .before .before .before .before .before .searched2) .given .1)) in (held-status _ _ q, ap (λ (l : Lent). l .values) ((c .before .before .before .before .write-searches) .ensures ∙ held-stored _ _ _ q), ap (λ (l : Lent). l .numbers) ((c .before .before .before .before .write-searches) .ensures ∙ held-stored _ _ _ q))
 
 pub domthelv-vrq-radii-spec : {M : Type 1} → statement M
 domthelv-vrq-radii-spec =
@@ -82,13 +88,15 @@ domthelv-vrq-radii-spec =
     same-length
     same-length-2
     returns
-    quantum-set-requires
+    index-within-requires
+    quantum-answer-requires
     enum-told
     enum-told-2
     number-requires
     same-length-3
     same-length-4
     returns-2
+    quantum-set-requires
     searches-ij-requires
     enum-known-searched
     enum-known-searched-2
