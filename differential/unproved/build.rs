@@ -32,16 +32,38 @@ fn after_braces(text: &str) -> &str {
     panic!("a clause without an end")
 }
 
+/// The text of a source file, with each module that it declares in the place of its declaration.
+fn with_modules(folder: &Path, file: &str) -> String {
+    let source = folder.join(file);
+    println!("cargo::rerun-if-changed={}", source.display());
+    // a crate without code has none to read
+    let text = fs::read_to_string(&source).unwrap_or_default();
+    let mut out = String::new();
+    for line in text.lines() {
+        match line.strip_suffix(';').and_then(|l| l.split_once("mod ")) {
+            Some((seen, module)) if seen.is_empty() || seen == "pub " => {
+                out += &format!("{seen}mod {module} {{\n{}}}\n", with_modules(folder, &format!("{module}.rt")));
+            }
+            _ => {
+                out += line;
+                out += "\n";
+            }
+        }
+    }
+    out
+}
+
 /// Imports from other crates as modules of this one; structs and enums as values.
 fn as_module(name: &str, uses: &[&str], text: &str) -> String {
     let mut out = format!("pub mod {name} {{\n");
-    for other in uses {
-        out += &format!("use crate::{other};\n");
-    }
+    let others: String = uses.iter().map(|other| format!("use crate::{other};\n")).collect();
+    out += &others;
     for line in without_contracts(text).lines() {
         let item = line.strip_prefix("pub ").unwrap_or(line);
-        if let Some(path) = line.strip_prefix("use ") {
-            out += &format!("use crate::{path}\n");
+        if let Some(path) = item.strip_prefix("use ") {
+            let seen = &line[..line.len() - item.len()];
+            let path = path.strip_prefix("crate::").map_or(path.to_string(), |own| format!("{name}::{own}"));
+            out += &format!("{seen}use crate::{path}\n");
             continue;
         }
         if item.starts_with("struct ") || item.starts_with("enum ") {
@@ -50,6 +72,9 @@ fn as_module(name: &str, uses: &[&str], text: &str) -> String {
         if line != "#[no_mangle]" {
             out += &line.replace("pub extern \"C\" fn", "pub fn");
             out += "\n";
+        }
+        if item.starts_with("mod ") {
+            out += &others;
         }
     }
     out + "}\n"
@@ -96,10 +121,7 @@ fn main() {
     }
     let mut out = String::new();
     for name in &wanted {
-        let source = root.join("crates").join(name).join("src/lib.rt");
-        println!("cargo::rerun-if-changed={}", source.display());
-        // a crate without code has none to read
-        let text = fs::read_to_string(&source).unwrap_or_default();
+        let text = with_modules(&root.join("crates").join(name).join("src"), "lib.rt");
         out += &as_module(name, &uses(name), &text);
         if *name == "domthelv" {
             for function in without_contracts(&text).split("pub extern \"C\" fn ").skip(1) {
