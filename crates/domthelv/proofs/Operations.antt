@@ -9,7 +9,7 @@ use mathlib.Core.List.{List}
 use mathlib.Core.Path.{_≡_, sym, ap, _∙_}
 use mathlib.Core.Bool.{Bool, true, false}
 use Rattle.number.specs.Ans.{Ans, held, refused, _>>=_, demand}
-use Rattle.number.specs.Side.{sheet}
+use Rattle.sizes.specs.Sizes.{sheet}
 use Rattle.mie_parameters.specs.declared.ParameterAnswer.{ParameterAnswer}
 use Rattle.mie_parameters.specs.declared.ParameterAnswer.the-variants.{Held, Refused}
 use Rattle.mie_parameters.specs.Answer.{numberOf, outcome, verdict, stored, status}

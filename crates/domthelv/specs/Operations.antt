@@ -6,7 +6,7 @@ use lib.ListN.{length, set}
 use mathlib.Core.List.{List}
 use mathlib.Core.Bool.{Bool, _&&_}
 use Rattle.number.specs.Ans.{Ans, held, _>>=_, demand}
-use Rattle.number.specs.Side.{side, sheet}
+use Rattle.sizes.specs.Sizes.{side, sheet}
 use Rattle.saftvrqmie_parameters.specs.Parameters as Quantum
 use Rattle.saftvrqmie_parameters.specs.declared.SaftVRQMiePars.{SaftVRQMiePars}
 use Rattle.saftvrmie_parameters.specs.Parameters as Mie

@@ -4,7 +4,7 @@ use lib.Ieee.{Float}
 use lib.ListN.{getD, set}
 use mathlib.Core.List.{List}
 use Rattle.number.specs.Lists.{at}
-use Rattle.number.specs.Side.{side, sheet}
+use Rattle.sizes.specs.Sizes.{side, sheet}
 use Rattle.number.specs.Walk.{turns, filled}
 use Rattle.saftvrqmie_parameters.specs.Parameters.{unused}
 use Rattle.saftvrqmie_parameters.specs.declared.OrderRecord.{OrderRecord}

@@ -7,7 +7,7 @@ ghost use Rattle.elementary.specs.Port.{port};
 ghost use Rattle.elementary.specs.Promised.{SqrtAt, LnAt, Ln1pAt, ExpAt, ExpM1At, TanhAt, PowfAt};
 ghost use Prim.Native.Nat.{_+_, _*_, _≤_};
 ghost use lib.ListN.{length};
-ghost use Rattle.number.specs.Side.{side, sheet};
+ghost use Rattle.sizes.specs.Sizes.{side, sheet};
 ghost use Rattle.mie_parameters.specs.Answer.{status, stored};
 ghost use Rattle.domthelv.specs.Elementary.{Delivers};
 ghost use Rattle.set_lists.specs.Sets.{QuantumLists, MieLists};
@@ -28,8 +28,6 @@ use enclosure::EndsAnswer;
 use mie_parameters::NumberAnswer;
 use mie_parameters::ParameterAnswer;
 use number::FloatAnswer;
-use number::SHEET;
-use number::SIDE;
 use saftvrmie_energies::EnergyAnswer;
 use saftvrmie_parameters::SaftVRMiePars;
 use saftvrqmie::PairSearches;
@@ -41,6 +39,9 @@ use saftvrqmie_energies_ends::EnergiesEndsAnswer;
 use saftvrqmie_parameters::FeynmanHibbsOrder;
 use saftvrqmie_parameters::OrderRecord;
 use saftvrqmie_parameters::SaftVRQMiePars;
+use sizes::SHEET;
+use sizes::SHEETS;
+use sizes::SIDE;
 
 // Stores an answer's value; gives 0, or 6 where the argument is outside.
 fn deliver(a: FloatAnswer, out: &mut f64) -> u8
@@ -112,7 +113,7 @@ pub extern "C" fn domthelv_powi(x: f64, n: i32) -> f64
 }
 
 // A component list of a set into its places of a list.
-fn write_places(d: &[f64; 8], l: &mut [f64], to: usize)
+fn write_places(d: &[f64; SIDE], l: &mut [f64], to: usize)
     requires { ⌜ to + side ≤ length (now l) ⌝ }
     ensures { λ _. ⌜ now (l .exit) ≡ placed side (now (d .entry)) to (now (l .entry)) ⌝ }
 {
@@ -122,11 +123,11 @@ fn write_places(d: &[f64; 8], l: &mut [f64], to: usize)
 }
 
 // The six sheets of a set into a list.
-fn write_sheets(d: &[f64; 384], l: &mut [f64], to: usize)
+fn write_sheets(d: &[f64; SHEETS], l: &mut [f64], to: usize)
     requires { ⌜ to + 6 * sheet ≤ length (now l) ⌝ }
     ensures { λ _. ⌜ now (l .exit) ≡ placed (6 * sheet) (now (d .entry)) to (now (l .entry)) ⌝ }
 {
-    for i in 0usize..6 * SHEET {
+    for i in 0usize..SHEETS {
         l[to + i] = d[i];
     }
 }
@@ -141,7 +142,7 @@ fn order_byte(order: FeynmanHibbsOrder) -> u8
     }
 }
 
-fn orders_written(orders: [OrderRecord; 64], l: &mut [u8])
+fn orders_written(orders: [OrderRecord; SHEET], l: &mut [u8])
     requires { ⌜ length (now l) ≡ sheet ⌝ }
     ensures { λ _. ⌜ now (l .exit) ≡ ordersWritten orders (now (l .entry)) ⌝ }
 {

@@ -9,6 +9,13 @@ use saftvrqmie_energies::QuantumEnergies;
 use saftvrqmie_energies_ends::EnergiesEnds;
 use saftvrqmie_energies_ends::EnergiesEndsAnswer;
 use saftvrqmie_parameters::SaftVRQMiePars;
+use sizes::COUNTS;
+use sizes::TABLE;
+use sizes::quantum_set::LAMBDA_A_IJ;
+use sizes::quantum_set::MASS_IJ;
+use sizes::table::EPSILON_K_EFF;
+use sizes::table::HS_DIAMETER;
+use sizes::table::QUANTUM_D;
 
 fn refused(label: &[u8], n: u8, float: u8) {
     io::write_all(1, label);
@@ -111,7 +118,7 @@ fn mixture() -> SaftVRQMiePars {
 // Order 0 with a mass of 0: the quantum prefactor, which nothing uses, is divided by zero.
 fn massless() -> SaftVRQMiePars {
     let mut s = fluid(0);
-    s.sheets[320] = 0.0;
+    s.sheets[MASS_IJ] = 0.0;
     s
 }
 
@@ -213,8 +220,8 @@ fn worked_energies() {
     let rho = [0.01];
     let both = [0.5, 0.5];
     let rhos = [0.01, 0.01];
-    let mut table = [0.0; 256];
-    let mut counts = [0u8; 192];
+    let mut table = [0.0; TABLE];
+    let mut counts = [0u8; COUNTS];
     saftvrqmie::temperature_dependent_properties(fluid(1), 30.0, &mut table, &mut counts);
     energies(
         b"energies, hydrogen",
@@ -259,11 +266,11 @@ fn by_hand() -> State {
 fn at_hand(label: &[u8], s: SaftVRQMiePars, c: State) {
     let x = [1.0];
     let rho = [c.rho];
-    let mut table = [0.0; 256];
+    let mut table = [0.0; TABLE];
     table[0] = c.sigma_eff;
-    table[64] = 3.0;
-    table[128] = 26.0;
-    table[192] = c.quantum_d;
+    table[HS_DIAMETER] = 3.0;
+    table[EPSILON_K_EFF] = 26.0;
+    table[QUANTUM_D] = c.quantum_d;
     energies(label, s, c.temperature, &x, &rho, &table, c.wanted);
 }
 
@@ -298,7 +305,7 @@ fn energy_states() {
     let mut below = by_hand();
     below.rho = 0.07073553026306458;
     let mut four = s;
-    four.sheets[256] = 4.0;
+    four.sheets[LAMBDA_A_IJ] = 4.0;
     at_hand(b"energies, table by hand", s, by_hand());
     at_hand(b"energies, its part unwanted", s, unwanted);
     at_hand(b"energies, density zero, so", s, empty);
@@ -317,7 +324,7 @@ fn unused_energies() {
     let mut endless = by_hand();
     endless.quantum_d = 1.0 / 0.0;
     let mut four = massless();
-    four.sheets[256] = 4.0;
+    four.sheets[LAMBDA_A_IJ] = 4.0;
     at_hand(b"energies, mass 0, order 0     ", massless(), by_hand());
     at_hand(b"energies, that, sigma_eff 10  ", massless(), wide);
     at_hand(b"energies, that, la of 4       ", four, by_hand());

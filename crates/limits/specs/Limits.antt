@@ -6,7 +6,7 @@ use mathlib.Core.List.{List}
 use mathlib.Core.Bool.{Bool, false, not, _&&_, cond}
 use Rattle.number.specs.Arith.{decimal}
 use Rattle.number.specs.Lists.{at}
-use Rattle.number.specs.Side.{side}
+use Rattle.sizes.specs.Sizes.{side}
 use Rattle.number.specs.Walk.{every}
 use Rattle.limits.specs.declared.Component.{Component}
 

@@ -3,7 +3,7 @@ ghost use mathlib.Core.Path.{_≡_};
 ghost use Prim.Native.Nat.{_*_, _<_, _≤_};
 ghost use lib.ListN.{length};
 ghost use Rattle.number.specs.Lists.{at};
-ghost use Rattle.number.specs.Side.{side};
+ghost use Rattle.sizes.specs.Sizes.{side};
 ghost use Rattle.number.specs.Walk.{every};
 ghost use Rattle.limits.specs.Limits.{square, components, within, countWithin, indexWithin, componentWithin, componentsWithin, allWithin, massesWithin, segmentsWithin, sharesWithin, temperatureWithin, sameBits, pairWithin, pairsWithin, allOne};
 
@@ -24,7 +24,7 @@ pub fn within(low: f64, high: f64, x: f64) -> bool
 pub fn count_within(n: usize) -> bool
     ensures { λ r. ⌜ r ≡ countWithin n ⌝ }
 {
-    (1 <= n) & (n <= number::SIDE)
+    (1 <= n) & (n <= sizes::SIDE)
 }
 
 // Whether the count is within its limits and both indices of a pair are below it.

@@ -6,7 +6,7 @@ use mathlib.Core.Bool.{Bool, true, false, _&&_}
 use lib.Dec.{leb, ltb}
 use borrow.Author.Tests.{leb-true, ltb-true}
 use Rattle.number.specs.Ans.{Ans, held, refused}
-use Rattle.number.specs.Side.{side, sheet}
+use Rattle.sizes.specs.Sizes.{side, sheet}
 use Rattle.number.specs.Walk.{walk}
 use Rattle.number.proofs.Walk.{via, walk-next, walk-stop}
 use Rattle.limits.specs.Limits.{countWithin, indexWithin}

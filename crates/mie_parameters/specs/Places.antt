@@ -3,7 +3,7 @@ use Prim.Native.Nat.{ℕ}
 use mathlib.Core.List.{List}
 use lib.ListN.{replicate}
 use Rattle.number.specs.Arith.{Arith, zero64}
-use Rattle.number.specs.Side.{side}
+use Rattle.sizes.specs.Sizes.{side}
 use Rattle.number.specs.Walk.{filled}
 
 -- f 0 to f (n - 1), in any run; +0 where unused

@@ -7,11 +7,12 @@ ghost use Rattle.number.specs.Arith.{floats};
 ghost use Rattle.number.specs.Functions.{calls};
 ghost use Rattle.elementary.specs.Port.{port};
 ghost use Rattle.number.specs.Lists.{at};
-ghost use Rattle.number.specs.Side.{side};
+ghost use Rattle.sizes.specs.Sizes.{side};
 ghost use Rattle.mie_parameters.specs.Combine.{epsilonKIj, lambdaIj, cIj};
 ghost use Rattle.mie_parameters.specs.Answer.{numberOf};
 ghost use Rattle.mie_parameters.specs.Places.{inPlaces};
 use number::FloatAnswer;
+use sizes::SIDE;
 
 // Held, or the refusal's number; the set stands beside it.
 pub enum ParameterAnswer {
@@ -66,11 +67,11 @@ pub fn c_ij(lr: f64, la: f64) -> FloatAnswer
 }
 
 // A list as long as the count, which is at most the places.
-pub fn in_places(n: usize, l: &[f64]) -> [f64; 8]
+pub fn in_places(n: usize, l: &[f64]) -> [f64; SIDE]
     requires { ⌜ (n ≤ side) × (length (now l) ≡ n) ⌝ }
     ensures { λ r. ⌜ r ≡ inPlaces floats n (at (now (l .entry))) ⌝ }
 {
-    let mut places = [0.0; 8];
+    let mut places = [0.0; SIDE];
     for i in 0usize..n {
         places[i] = l[i];
     }

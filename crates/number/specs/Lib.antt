@@ -6,6 +6,5 @@ pub mod Power
 pub mod Arith
 pub mod Functions
 pub mod Walk
-pub mod Side
 pub mod Lists
 pub mod Inside

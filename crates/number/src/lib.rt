@@ -7,11 +7,6 @@ ghost use Rattle.number.specs.Neighbour.{stepUp, stepDown, nextUp, nextD
 ghost use Rattle.number.specs.Arith as Arith;
 ghost use Rattle.number.specs.Arith.{floats};
 
-// The side of a sheet: the most components. A sheet holds a number for each pair, entry (i, j) at SIDE * i + j.
-pub const SIDE: usize = 8;
-
-pub const SHEET: usize = SIDE * SIDE;
-
 // What a call in floats answers: a value, or that an elementary function's argument lies outside its domain.
 pub enum FloatAnswer {
     Value(f64),

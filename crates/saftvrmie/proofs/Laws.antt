@@ -10,7 +10,7 @@ use borrow.Author.Tests.{eqb-true}
 use Rattle.number.specs.Ans.{held, refused, _>>=_, demand}
 use Rattle.number.specs.Answer.{answer}
 use Rattle.number.specs.Lists.{at}
-use Rattle.number.specs.Side.{side}
+use Rattle.sizes.specs.Sizes.{side}
 use Rattle.number.specs.Walk.{filled}
 use Rattle.number.proofs.Walk.{via}
 use Rattle.limits.specs.Limits.{countWithin, temperatureWithin}

@@ -10,7 +10,7 @@ use Rattle.number.specs.Ans.{Ans, held, refused, _>>=_, demand}
 use Rattle.number.specs.Arith.{floats}
 use Rattle.number.specs.Functions.{calls}
 use Rattle.number.specs.Lists.{at}
-use Rattle.number.specs.Side.{cell}
+use Rattle.sizes.specs.Sizes.{cell}
 use Rattle.elementary.specs.Port.{port}
 use Rattle.limits.specs.Limits.{indexWithin, temperatureWithin}
 use Rattle.saftvrmie_diameter.specs.Diameter.{cEpsT, lowerLimit, diameterFrom, hsDiameter}

@@ -10,7 +10,7 @@ use Rattle.number.specs.Ans.{Ans, held, _>>=_, demand}
 use Rattle.number.specs.Arith.{floats, zero64}
 use Rattle.number.specs.Functions.{calls}
 use Rattle.number.specs.Lists.{at}
-use Rattle.number.specs.Side.{side}
+use Rattle.sizes.specs.Sizes.{side}
 use Rattle.number.specs.Walk.{filled, every, walk}
 use Rattle.elementary.specs.Port.{port}
 use Rattle.limits.specs.Limits.{countWithin, temperatureWithin}

@@ -4,7 +4,7 @@ ghost use Prim.Native.Nat.{_+_, _*_, _<_, _≤_};
 ghost use lib.ListN.{length};
 ghost use Rattle.number.specs.Answer.{answer};
 ghost use Rattle.number.specs.Lists.{at};
-ghost use Rattle.number.specs.Side.{side, sheet, cell};
+ghost use Rattle.sizes.specs.Sizes.{side, sheet, cell};
 ghost use Rattle.number.specs.Walk.{filled, walk};
 ghost use Rattle.mie_parameters.specs.Answer.{outcome, verdict, numberAnswer, stored};
 ghost use Rattle.saftvrmie_diameter.specs.Diameter.{cEpsT};
@@ -14,18 +14,19 @@ ghost use Rattle.saftvrmie.specs.Pairs.{radiusIj, diameterIj};
 use mie_parameters::NumberAnswer;
 use mie_parameters::ParameterAnswer;
 use number::FloatAnswer;
-use number::SHEET;
-use number::SIDE;
 use saftvrmie_parameters::SaftVRMiePars;
+use sizes::SHEET;
+use sizes::SHEETS;
+use sizes::SIDE;
 
-fn diagonal(sheets: &[f64; 384], k: usize, i: usize) -> f64
+fn diagonal(sheets: &[f64; SHEETS], k: usize, i: usize) -> f64
     requires { ⌜ (k < 6) × (i < side) ⌝ }
     ensures { λ r. ⌜ r ≡ at (now (sheets .entry)) (sheet * k + cell i i) ⌝ }
 {
     sheets[SHEET * k + (SIDE * i + i)]
 }
 
-fn diameter_at(sheets: &[f64; 384], temperature: f64, i: usize) -> FloatAnswer
+fn diameter_at(sheets: &[f64; SHEETS], temperature: f64, i: usize) -> FloatAnswer
     requires { ⌜ i < side ⌝ }
     ensures { λ r. ⌜ answer r ≡ diameterAt (now (sheets .entry)) temperature i ⌝ }
 {
@@ -37,7 +38,7 @@ fn diameter_at(sheets: &[f64; 384], temperature: f64, i: usize) -> FloatAnswer
     saftvrmie_diameter::hs_diameter_ij(la, lr, c, epsilon_k, sigma, temperature)
 }
 
-fn work(n: usize, sheets: &[f64; 384], temperature: f64, d: &mut [f64; 8]) -> ParameterAnswer
+fn work(n: usize, sheets: &[f64; SHEETS], temperature: f64, d: &mut [f64; SIDE]) -> ParameterAnswer
     requires { ⌜ n ≤ side ⌝ }
     ensures { λ r. ⌜ outcome r (now (d .exit)) ≡ walk n (diameterTurn (now (sheets .entry)) temperature) (now (d .entry)) ⌝ }
 {
@@ -50,7 +51,7 @@ fn work(n: usize, sheets: &[f64; 384], temperature: f64, d: &mut [f64; 8]) -> Pa
     ParameterAnswer::Held
 }
 
-fn all_finite(n: usize, d: &[f64; 8]) -> bool
+fn all_finite(n: usize, d: &[f64; SIDE]) -> bool
     requires { ⌜ n ≤ side ⌝ }
     ensures { λ r. ⌜ r ≡ allFinite n (now (d .entry)) ⌝ }
 {
@@ -61,7 +62,7 @@ fn all_finite(n: usize, d: &[f64; 8]) -> bool
     ok
 }
 
-fn write(n: usize, d: &[f64; 8], out: &mut [f64])
+fn write(n: usize, d: &[f64; SIDE], out: &mut [f64])
     requires { ⌜ (n ≤ side) × (length (now out) ≡ n) ⌝ }
     ensures { λ _. ⌜ now (out .exit) ≡ filled n (at (now (d .entry))) (now (out .entry)) ⌝ }
 {
@@ -79,7 +80,7 @@ fn right_length(n: usize, len: usize) -> bool
 // The diameters of a set's count and sheets: it reads nothing else. 1, 2, 6, 7.
 pub fn diameters_of(
     n: usize,
-    sheets: &[f64; 384],
+    sheets: &[f64; SHEETS],
     temperature: f64,
     out: &mut [f64],
 ) -> ParameterAnswer
@@ -93,7 +94,7 @@ pub fn diameters_of(
     if !limits::temperature_within(temperature) {
         return ParameterAnswer::Refused(2);
     }
-    let mut d = [0.0; 8];
+    let mut d = [0.0; SIDE];
     let worked = work(n, sheets, temperature, &mut d);
     let ParameterAnswer::Held = worked else {
         return worked;
@@ -115,14 +116,14 @@ pub fn hs_diameter(set: SaftVRMiePars, temperature: f64, out: &mut [f64]) -> Par
     diameters_of(set.count, &sheets, temperature, out)
 }
 
-fn entry(sheets: &[f64; 384], k: usize, e: usize) -> f64
+fn entry(sheets: &[f64; SHEETS], k: usize, e: usize) -> f64
     requires { ⌜ (k < 6) × (e < sheet) ⌝ }
     ensures { λ r. ⌜ r ≡ at (now (sheets .entry)) (sheet * k + e) ⌝ }
 {
     sheets[SHEET * k + e]
 }
 
-fn c_eps_at(sheets: &[f64; 384], temperature: f64, e: usize) -> f64
+fn c_eps_at(sheets: &[f64; SHEETS], temperature: f64, e: usize) -> f64
     requires { ⌜ e < sheet ⌝ }
     ensures { λ r. ⌜ r ≡ cEpsT floats temperature (at (now (sheets .entry)) (4 * sheet + e)) (at (now (sheets .entry)) (1 * sheet + e)) ⌝ }
 {

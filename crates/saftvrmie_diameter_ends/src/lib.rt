@@ -3,7 +3,7 @@ ghost use mathlib.Core.Path.{_≡_};
 ghost use Prim.Native.Nat.{_+_, _*_, _<_};
 ghost use Rattle.number.specs.Functions.{calls, entry};
 ghost use Rattle.number.specs.Lists.{at};
-ghost use Rattle.number.specs.Side.{sheet};
+ghost use Rattle.sizes.specs.Sizes.{sheet};
 ghost use Rattle.elementary.specs.Port.{port};
 ghost use Rattle.enclosure.specs.Answer.{answer, ends};
 ghost use Rattle.enclosure.specs.Enclosure.{enclosures, point};
@@ -12,9 +12,10 @@ ghost use Rattle.saftvrmie_diameter_ends.specs.Operations.{diameterEnds}
 use enclosure::Enclosure;
 use enclosure::EnclosureAnswer;
 use enclosure::EndsAnswer;
-use number::SHEET;
-use number::SIDE;
 use saftvrmie_parameters::SaftVRMiePars;
+use sizes::SHEET;
+use sizes::SHEETS;
+use sizes::SIDE;
 
 // Entries of the rule, as points; k is the turn of a loop over its 10 nodes, and beyond them there is no entry.
 fn position(k: usize) -> Enclosure
@@ -105,14 +106,14 @@ pub fn diameter_from(
 }
 
 // A number of a set, as a point.
-fn entry_point(sheets: &[f64; 384], k: usize, e: usize) -> Enclosure
+fn entry_point(sheets: &[f64; SHEETS], k: usize, e: usize) -> Enclosure
     requires { ⌜ (k < 6) × (e < sheet) ⌝ }
     ensures { λ r. ⌜ r ≡ point (at (now (sheets .entry)) (sheet * k + e)) ⌝ }
 {
     enclosure::point(sheets[SHEET * k + e])
 }
 
-fn c_eps_at(sheets: &[f64; 384], temperature: f64, e: usize) -> Enclosure
+fn c_eps_at(sheets: &[f64; SHEETS], temperature: f64, e: usize) -> Enclosure
     requires { ⌜ e < sheet ⌝ }
     ensures { λ r. ⌜ r ≡ cEpsT enclosures (point temperature) (point (at (now (sheets .entry)) (4 * sheet + e))) (point (at (now (sheets .entry)) (1 * sheet + e))) ⌝ }
 {

@@ -13,7 +13,7 @@ use Rattle.number.specs.Ans.{Ans, held, refused, _>>=_, demand}
 use Rattle.number.proofs.Walk.{then-held}
 use Rattle.number.specs.Arith.{floats}
 use Rattle.number.specs.Functions.{calls}
-use Rattle.number.specs.Side.{side}
+use Rattle.sizes.specs.Sizes.{side}
 use Rattle.number.specs.Walk.{turns}
 use Rattle.elementary.specs.Port.{port}
 use Rattle.limits.specs.Limits.{countWithin, stateWithin}

@@ -6,7 +6,7 @@ use mathlib.Core.Bool.{Bool}
 use lib.ListN.{getD, set, replicate}
 use mathlib.Core.List.{List, [], _∷_}
 use Rattle.number.specs.Arith.{Arith, zero64}
-use Rattle.number.specs.Side.{side}
+use Rattle.sizes.specs.Sizes.{side}
 use Rattle.number.specs.Functions.{Functions}
 use Rattle.number.proofs.Rel.{Rel, FunRel, Both, both-held, then-both, cond-rel, turns-rel, walk-rel}
 use Rattle.dual.specs.Dual.{DualOf}

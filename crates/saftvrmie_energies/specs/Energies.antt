@@ -10,7 +10,7 @@ use Rattle.number.specs.Ans.{Ans, held, refused, _>>=_, demand}
 use Rattle.number.specs.Arith.{Arith, floats}
 use Rattle.number.specs.Functions.{Answers, Functions, calls}
 use Rattle.number.specs.Lists.{at}
-use Rattle.number.specs.Side.{sheet, cell}
+use Rattle.sizes.specs.Sizes.{sheet, cell}
 use Rattle.elementary.specs.Port.{port}
 use Rattle.limits.specs.Limits.{countWithin, stateWithin}
 use Rattle.saftvrmie_parameters.specs.declared.PairParameters.{PairParameters}

@@ -6,7 +6,7 @@ ghost use Rattle.number.specs.Answer.{answer};
 ghost use Rattle.number.specs.Arith.{floats};
 ghost use Rattle.number.specs.Functions.{calls};
 ghost use Rattle.number.specs.Lists.{at};
-ghost use Rattle.number.specs.Side.{side};
+ghost use Rattle.sizes.specs.Sizes.{side};
 ghost use Rattle.elementary.specs.Port.{port};
 ghost use Rattle.saftvrmie_dispersion.specs.Answer.{pairOf, fluidIn, fluidDualIn, barIn, sumsIn, kIn, linkIn, sumsAnswer};
 ghost use Rattle.mie_parameters.specs.Sums.{weighted};
@@ -16,7 +16,6 @@ ghost use Rattle.limits.specs.Limits.{stateWithin};
 ghost use Rattle.saftvrmie_parameters.specs.Parameters.{pairAt};
 ghost use Rattle.saftvrmie_energies.specs.Energies.{packingOf, energyAnswer, pureAt, stateIn, rightLists, energyRun, energy};
 use number::FloatAnswer;
-use number::SIDE;
 use saftvrmie_dispersion::Bar;
 use saftvrmie_dispersion::Fluid;
 use saftvrmie_dispersion::FluidDual;
@@ -28,6 +27,13 @@ use saftvrmie_dispersion::SumsAnswer;
 use saftvrmie_dispersion::TermsAnswer;
 use saftvrmie_parameters::PairParameters;
 use saftvrmie_parameters::SaftVRMiePars;
+use sizes::SHEETS;
+use sizes::SIDE;
+use sizes::mie_set::ALPHA_IJ;
+use sizes::mie_set::C_IJ;
+use sizes::mie_set::EPSILON_K_IJ;
+use sizes::mie_set::LA_IJ;
+use sizes::mie_set::LR_IJ;
 
 // What of `Properties::new` dispersion reads.
 pub struct Properties {
@@ -55,7 +61,7 @@ fn total(n: usize, v: &[f64]) -> f64
     s
 }
 
-fn weighted(n: usize, v: &[f64], m: &[f64; 8]) -> f64
+fn weighted(n: usize, v: &[f64], m: &[f64; SIDE]) -> f64
     requires { ⌜ (n ≤ side) × (length (now v) ≡ n) ⌝ }
     ensures { λ r. ⌜ r ≡ weighted floats n (at (now (v .entry))) (at (now (m .entry))) ⌝ }
 {
@@ -66,11 +72,11 @@ fn weighted(n: usize, v: &[f64], m: &[f64; 8]) -> f64
     s
 }
 
-fn xs_of(n: usize, x: &[f64], m: &[f64; 8], mean: f64) -> [f64; 8]
+fn xs_of(n: usize, x: &[f64], m: &[f64; SIDE], mean: f64) -> [f64; SIDE]
     requires { ⌜ (n ≤ side) × (length (now x) ≡ n) ⌝ }
     ensures { λ r. ⌜ r ≡ xsOf floats n (at (now (x .entry))) (at (now (m .entry))) mean ⌝ }
 {
-    let mut xs = [0.0; 8];
+    let mut xs = [0.0; SIDE];
     for i in 0usize..n {
         xs[i] = x[i] * m[i] / mean;
     }
@@ -92,28 +98,28 @@ fn d3_ij(d: &[f64], i: usize, j: usize) -> f64
 }
 
 // The two-ended energies read pairs too. Indexes are turns of loops over a count that was tested.
-pub fn pair_at(s: &[f64; 384], i: usize, j: usize) -> PairParameters
+pub fn pair_at(s: &[f64; SHEETS], i: usize, j: usize) -> PairParameters
     requires { ⌜ (i < side) × (j < side) ⌝ }
     ensures { λ r. ⌜ r ≡ pairAt (now (s .entry)) i j ⌝ }
 {
     let e = SIDE * i + j;
     PairParameters {
         sigma: s[e],
-        epsilon_k: s[64 + e],
-        lr: s[128 + e],
-        la: s[192 + e],
-        c: s[256 + e],
-        alpha: s[320 + e],
+        epsilon_k: s[EPSILON_K_IJ + e],
+        lr: s[LR_IJ + e],
+        la: s[LA_IJ + e],
+        c: s[C_IJ + e],
+        alpha: s[ALPHA_IJ + e],
     }
 }
 
 // sigma, epsilon_k, lr and la of the component lists; c and alpha of the sheets' diagonal. The index is such a turn.
 pub fn pure_at(
-    sigma: &[f64; 8],
-    epsilon_k: &[f64; 8],
-    lr: &[f64; 8],
-    la: &[f64; 8],
-    s: &[f64; 384],
+    sigma: &[f64; SIDE],
+    epsilon_k: &[f64; SIDE],
+    lr: &[f64; SIDE],
+    la: &[f64; SIDE],
+    s: &[f64; SHEETS],
     i: usize,
 ) -> PairParameters
     requires { ⌜ i < side ⌝ }
@@ -125,12 +131,12 @@ pub fn pure_at(
         epsilon_k: epsilon_k[i],
         lr: lr[i],
         la: la[i],
-        c: s[256 + e],
-        alpha: s[320 + e],
+        c: s[C_IJ + e],
+        alpha: s[ALPHA_IJ + e],
     }
 }
 
-fn s3_ij(s: &[f64; 384], i: usize, j: usize) -> f64
+fn s3_ij(s: &[f64; SHEETS], i: usize, j: usize) -> f64
     requires { ⌜ (i < side) × (j < side) ⌝ }
     ensures { λ r. ⌜ r ≡ s3Ij floats (λ i j. pairOf (pairAt (now (s .entry)) i j)) i j ⌝ }
 {
@@ -138,7 +144,7 @@ fn s3_ij(s: &[f64; 384], i: usize, j: usize) -> f64
 }
 
 // Row i of zeta_x's sum: d³ of the pairs.
-fn zeta_row(n: usize, xs: &[f64; 8], d: &[f64], i: usize, start: f64) -> f64
+fn zeta_row(n: usize, xs: &[f64; SIDE], d: &[f64], i: usize, start: f64) -> f64
     requires { ⌜ (n ≤ side) × (i < n) × (length (now d) ≡ n) ⌝ }
     ensures { λ r. ⌜ r ≡ zetaRow floats n (at (now (xs .entry))) (d3Ij floats (at (now (d .entry)))) i start ⌝ }
 {
@@ -151,7 +157,7 @@ fn zeta_row(n: usize, xs: &[f64; 8], d: &[f64], i: usize, start: f64) -> f64
     s
 }
 
-fn zeta_sum(n: usize, xs: &[f64; 8], d: &[f64]) -> f64
+fn zeta_sum(n: usize, xs: &[f64; SIDE], d: &[f64]) -> f64
     requires { ⌜ (n ≤ side) × (length (now d) ≡ n) ⌝ }
     ensures { λ r. ⌜ r ≡ zetaSum floats n (at (now (xs .entry))) (d3Ij floats (at (now (d .entry)))) ⌝ }
 {
@@ -163,7 +169,7 @@ fn zeta_sum(n: usize, xs: &[f64; 8], d: &[f64]) -> f64
 }
 
 // Row i of zeta_x_bar's sum: sigma³ of the pairs.
-fn zeta_bar_row(n: usize, xs: &[f64; 8], sheets: &[f64; 384], i: usize, start: f64) -> f64
+fn zeta_bar_row(n: usize, xs: &[f64; SIDE], sheets: &[f64; SHEETS], i: usize, start: f64) -> f64
     requires { ⌜ (n ≤ side) × (i < n) ⌝ }
     ensures { λ r. ⌜ r ≡ zetaRow floats n (at (now (xs .entry))) (s3Ij floats (λ i j. pairOf (pairAt (now (sheets .entry)) i j))) i start ⌝ }
 {
@@ -176,7 +182,7 @@ fn zeta_bar_row(n: usize, xs: &[f64; 8], sheets: &[f64; 384], i: usize, start: f
     s
 }
 
-fn zeta_bar_sum(n: usize, xs: &[f64; 8], sheets: &[f64; 384]) -> f64
+fn zeta_bar_sum(n: usize, xs: &[f64; SIDE], sheets: &[f64; SHEETS]) -> f64
     requires { ⌜ n ≤ side ⌝ }
     ensures { λ r. ⌜ r ≡ zetaSum floats n (at (now (xs .entry))) (s3Ij floats (λ i j. pairOf (pairAt (now (sheets .entry)) i j))) ⌝ }
 {
@@ -189,9 +195,9 @@ fn zeta_bar_sum(n: usize, xs: &[f64; 8], sheets: &[f64; 384]) -> f64
 
 fn properties_of(
     n: usize,
-    m: &[f64; 8],
-    sheets: &[f64; 384],
-    xs: &[f64; 8],
+    m: &[f64; SIDE],
+    sheets: &[f64; SHEETS],
+    xs: &[f64; SIDE],
     rho: &[f64],
     d: &[f64],
 ) -> Properties
@@ -211,8 +217,8 @@ fn properties_of(
 // ---- the sums
 
 fn pair_turn(
-    sheets: &[f64; 384],
-    xs: &[f64; 8],
+    sheets: &[f64; SHEETS],
+    xs: &[f64; SIDE],
     d: &[f64],
     w: Fluid,
     bar: Bar,
@@ -233,8 +239,8 @@ fn pair_turn(
 // The pairs (i, j) with j > i.
 fn pair_row(
     n: usize,
-    sheets: &[f64; 384],
-    xs: &[f64; 8],
+    sheets: &[f64; SHEETS],
+    xs: &[f64; SIDE],
     d: &[f64],
     w: Fluid,
     bar: Bar,
@@ -257,8 +263,8 @@ fn pair_row(
 // Component i without chain, then its pairs.
 fn disp_row(
     n: usize,
-    sheets: &[f64; 384],
-    xs: &[f64; 8],
+    sheets: &[f64; SHEETS],
+    xs: &[f64; SIDE],
     d: &[f64],
     w: Fluid,
     bar: Bar,
@@ -279,8 +285,8 @@ fn disp_row(
 // Component i with slopes and its link, then its pairs.
 fn chain_row(
     n: usize,
-    sheets: &[f64; 384],
-    xs: &[f64; 8],
+    sheets: &[f64; SHEETS],
+    xs: &[f64; SIDE],
     d: &[f64],
     w: Fluid,
     bar: Bar,
@@ -303,12 +309,12 @@ fn chain_row(
 
 fn disp_rows(
     n: usize,
-    sigma: &[f64; 8],
-    epsilon_k: &[f64; 8],
-    lr: &[f64; 8],
-    la: &[f64; 8],
-    sheets: &[f64; 384],
-    xs: &[f64; 8],
+    sigma: &[f64; SIDE],
+    epsilon_k: &[f64; SIDE],
+    lr: &[f64; SIDE],
+    la: &[f64; SIDE],
+    sheets: &[f64; SHEETS],
+    xs: &[f64; SIDE],
     d: &[f64],
     w: Fluid,
     bar: Bar,
@@ -334,14 +340,14 @@ fn disp_rows(
 
 fn chain_rows(
     n: usize,
-    m: &[f64; 8],
-    sigma: &[f64; 8],
-    epsilon_k: &[f64; 8],
-    lr: &[f64; 8],
-    la: &[f64; 8],
-    sheets: &[f64; 384],
+    m: &[f64; SIDE],
+    sigma: &[f64; SIDE],
+    epsilon_k: &[f64; SIDE],
+    lr: &[f64; SIDE],
+    la: &[f64; SIDE],
+    sheets: &[f64; SHEETS],
     x: &[f64],
-    xs: &[f64; 8],
+    xs: &[f64; SIDE],
     d: &[f64],
     w: Fluid,
     bar: Bar,
@@ -377,12 +383,12 @@ fn chain_rows(
 
 fn helmholtz_energy_density_disp(
     n: usize,
-    m: &[f64; 8],
-    sigma: &[f64; 8],
-    epsilon_k: &[f64; 8],
-    lr: &[f64; 8],
-    la: &[f64; 8],
-    sheets: &[f64; 384],
+    m: &[f64; SIDE],
+    sigma: &[f64; SIDE],
+    epsilon_k: &[f64; SIDE],
+    lr: &[f64; SIDE],
+    la: &[f64; SIDE],
+    sheets: &[f64; SHEETS],
     temperature: f64,
     x: &[f64],
     rho: &[f64],
@@ -409,12 +415,12 @@ fn helmholtz_energy_density_disp(
 
 fn helmholtz_energy_density_disp_chain(
     n: usize,
-    m: &[f64; 8],
-    sigma: &[f64; 8],
-    epsilon_k: &[f64; 8],
-    lr: &[f64; 8],
-    la: &[f64; 8],
-    sheets: &[f64; 384],
+    m: &[f64; SIDE],
+    sigma: &[f64; SIDE],
+    epsilon_k: &[f64; SIDE],
+    lr: &[f64; SIDE],
+    la: &[f64; SIDE],
+    sheets: &[f64; SHEETS],
     temperature: f64,
     x: &[f64],
     rho: &[f64],
@@ -476,12 +482,12 @@ pub fn within_limits(n: usize, temperature: f64, x: &[f64], rho: &[f64]) -> bool
 
 fn work(
     n: usize,
-    m: &[f64; 8],
-    sigma: &[f64; 8],
-    epsilon_k: &[f64; 8],
-    lr: &[f64; 8],
-    la: &[f64; 8],
-    sheets: &[f64; 384],
+    m: &[f64; SIDE],
+    sigma: &[f64; SIDE],
+    epsilon_k: &[f64; SIDE],
+    lr: &[f64; SIDE],
+    la: &[f64; SIDE],
+    sheets: &[f64; SHEETS],
     temperature: f64,
     x: &[f64],
     rho: &[f64],
@@ -524,12 +530,12 @@ fn work(
 // Dispersion of a set that is lent list by list: for the boundary, which has lists and no set.
 pub fn dispersion_of(
     n: usize,
-    m: &[f64; 8],
-    sigma: &[f64; 8],
-    epsilon_k: &[f64; 8],
-    lr: &[f64; 8],
-    la: &[f64; 8],
-    sheets: &[f64; 384],
+    m: &[f64; SIDE],
+    sigma: &[f64; SIDE],
+    epsilon_k: &[f64; SIDE],
+    lr: &[f64; SIDE],
+    la: &[f64; SIDE],
+    sheets: &[f64; SHEETS],
     temperature: f64,
     fractions: &[f64],
     densities: &[f64],

@@ -5,7 +5,7 @@ ghost use Prim.Native.Nat.{_<_, _≤_};
 ghost use lib.ListN.{length};
 ghost use Rattle.number.specs.Arith.{decimal};
 ghost use Rattle.number.specs.Functions.{calls};
-ghost use Rattle.number.specs.Side.{side};
+ghost use Rattle.sizes.specs.Sizes.{side};
 ghost use Rattle.elementary.specs.Port.{port};
 ghost use Rattle.enclosure.specs.Answer.{answer, ends};
 ghost use Rattle.enclosure.specs.Enclosure.{enclosures, divE, afterE, point};
@@ -32,12 +32,14 @@ use saftvrmie_parameters::PairParameters;
 use saftvrmie_parameters::SaftVRMiePars;
 use saftvrmie_properties_ends::KEnclosures;
 use saftvrmie_properties_ends::PropertiesEnclosuresAnswer;
+use sizes::SHEETS;
+use sizes::SIDE;
 
 // ---- the sums
 
 fn pair_turn(
-    sheets: &[f64; 384],
-    xs: [Enclosure; 8],
+    sheets: &[f64; SHEETS],
+    xs: [Enclosure; SIDE],
     d: &[f64],
     w: FluidEnclosures,
     bar: BarEnclosures,
@@ -53,16 +55,16 @@ fn pair_turn(
     let TermsEnclosuresAnswer::At(t) = saftvrmie_dispersion_ends::pair_terms(w, bar, p, e) else {
         return SumsEnclosuresAnswer::Outside;
     };
-    let xi = saftvrmie_properties_ends::at_8(xs, i);
-    let xj = saftvrmie_properties_ends::at_8(xs, j);
+    let xi = saftvrmie_properties_ends::at_component(xs, i);
+    let xj = saftvrmie_properties_ends::at_component(xs, j);
     SumsEnclosuresAnswer::At(saftvrmie_dispersion_ends::add_pair(xi, xj, t, s))
 }
 
 // The pairs (i, j) with j > i.
 fn pair_row(
     n: usize,
-    sheets: &[f64; 384],
-    xs: [Enclosure; 8],
+    sheets: &[f64; SHEETS],
+    xs: [Enclosure; SIDE],
     d: &[f64],
     w: FluidEnclosures,
     bar: BarEnclosures,
@@ -86,8 +88,8 @@ fn pair_row(
 // Component i without chain, then its pairs.
 fn disp_row(
     n: usize,
-    sheets: &[f64; 384],
-    xs: [Enclosure; 8],
+    sheets: &[f64; SHEETS],
+    xs: [Enclosure; SIDE],
     d: &[f64],
     w: FluidEnclosures,
     bar: BarEnclosures,
@@ -102,7 +104,7 @@ fn disp_row(
     let TermsEnclosuresAnswer::At(t) = saftvrmie_dispersion_ends::pair_terms(w, bar, p, e) else {
         return SumsEnclosuresAnswer::Outside;
     };
-    let xi = saftvrmie_properties_ends::at_8(xs, i);
+    let xi = saftvrmie_properties_ends::at_component(xs, i);
     let next = saftvrmie_dispersion_ends::add_pure(xi, t, s);
     pair_row(n, sheets, xs, d, w, bar, i, next)
 }
@@ -110,8 +112,8 @@ fn disp_row(
 // Component i with slopes and its link, then its pairs.
 fn chain_row(
     n: usize,
-    sheets: &[f64; 384],
-    xs: [Enclosure; 8],
+    sheets: &[f64; SHEETS],
+    xs: [Enclosure; SIDE],
     d: &[f64],
     w: FluidEnclosures,
     bar: BarEnclosures,
@@ -126,7 +128,7 @@ fn chain_row(
     ensures { λ r. ⌜ sumsAnswer r ≡ chainRow enclosures (calls enclosures port) n (nth enclosures xs) (points (now (d .entry))) (pairs (now (sheets .entry))) (fluidIn w) (barIn bar) (fluidDualIn v) (kIn k) (pairIn point p) (linkIn of) i (sumsIn s) ⌝ }
 {
     let e = enclosure::point(d[i]);
-    let xi = saftvrmie_properties_ends::at_8(xs, i);
+    let xi = saftvrmie_properties_ends::at_component(xs, i);
     let SumsEnclosuresAnswer::At(t) = saftvrmie_chain_ends::chain_pure(v, bar, k, p, e, of, xi, s)
     else {
         return SumsEnclosuresAnswer::Outside;
@@ -136,12 +138,12 @@ fn chain_row(
 
 fn disp_rows(
     n: usize,
-    sigma: &[f64; 8],
-    epsilon_k: &[f64; 8],
-    lr: &[f64; 8],
-    la: &[f64; 8],
-    sheets: &[f64; 384],
-    xs: [Enclosure; 8],
+    sigma: &[f64; SIDE],
+    epsilon_k: &[f64; SIDE],
+    lr: &[f64; SIDE],
+    la: &[f64; SIDE],
+    sheets: &[f64; SHEETS],
+    xs: [Enclosure; SIDE],
     d: &[f64],
     w: FluidEnclosures,
     bar: BarEnclosures,
@@ -167,7 +169,7 @@ fn disp_rows(
 }
 
 // What the chain reads of component i.
-fn link_at(m: &[f64; 8], x: &[f64], t_inv: Enclosure, i: usize) -> LinkEnclosures
+fn link_at(m: &[f64; SIDE], x: &[f64], t_inv: Enclosure, i: usize) -> LinkEnclosures
     requires { ⌜ (i < side) × (i < length (now x)) ⌝ }
     ensures { λ r. ⌜ linkIn r ≡ record { m = points (now (m .entry)) i; fraction = points (now (x .entry)) i; t-inv = «t_inv» } ⌝ }
 {
@@ -182,14 +184,14 @@ fn link_at(m: &[f64; 8], x: &[f64], t_inv: Enclosure, i: usize) -> LinkEnclosure
 
 fn chain_rows(
     n: usize,
-    m: &[f64; 8],
-    sigma: &[f64; 8],
-    epsilon_k: &[f64; 8],
-    lr: &[f64; 8],
-    la: &[f64; 8],
-    sheets: &[f64; 384],
+    m: &[f64; SIDE],
+    sigma: &[f64; SIDE],
+    epsilon_k: &[f64; SIDE],
+    lr: &[f64; SIDE],
+    la: &[f64; SIDE],
+    sheets: &[f64; SHEETS],
     x: &[f64],
-    xs: [Enclosure; 8],
+    xs: [Enclosure; SIDE],
     d: &[f64],
     w: FluidEnclosures,
     bar: BarEnclosures,
@@ -239,12 +241,12 @@ fn after_ks(k: KEnclosures, x: Enclosure) -> Enclosure
 
 fn helmholtz_energy_density_disp(
     n: usize,
-    m: &[f64; 8],
-    sigma: &[f64; 8],
-    epsilon_k: &[f64; 8],
-    lr: &[f64; 8],
-    la: &[f64; 8],
-    sheets: &[f64; 384],
+    m: &[f64; SIDE],
+    sigma: &[f64; SIDE],
+    epsilon_k: &[f64; SIDE],
+    lr: &[f64; SIDE],
+    la: &[f64; SIDE],
+    sheets: &[f64; SHEETS],
     temperature: f64,
     x: &[f64],
     rho: &[f64],
@@ -280,12 +282,12 @@ fn helmholtz_energy_density_disp(
 
 fn helmholtz_energy_density_disp_chain(
     n: usize,
-    m: &[f64; 8],
-    sigma: &[f64; 8],
-    epsilon_k: &[f64; 8],
-    lr: &[f64; 8],
-    la: &[f64; 8],
-    sheets: &[f64; 384],
+    m: &[f64; SIDE],
+    sigma: &[f64; SIDE],
+    epsilon_k: &[f64; SIDE],
+    lr: &[f64; SIDE],
+    la: &[f64; SIDE],
+    sheets: &[f64; SHEETS],
     temperature: f64,
     x: &[f64],
     rho: &[f64],

@@ -1,6 +1,7 @@
 // Worked cases of SAFT-VR Mie: whether diameters and energies lie within 1e-9 of those that the Rust gives with its platform's functions, energies at density zero by their bits, and each refusal of each operation.
 use saftvrmie_energies::EnergyAnswer;
 use saftvrmie_parameters::SaftVRMiePars;
+use sizes::mie_set::C_IJ;
 
 // What a case changes of ethane and methane.
 struct Case {
@@ -217,7 +218,7 @@ fn diameter_refusals() {
     let mut refused = s;
     refused.count = 0;
     let mut negative = s;
-    negative.sheets[256] = -1.0;
+    negative.sheets[C_IJ] = -1.0;
     let mut endless = s;
     endless.sheets[0] = 1.0 / 0.0;
     diameters(b"diameters                     ", s, 200.0, &mut d);

@@ -8,7 +8,7 @@ ghost use Rattle.number.specs.Functions.{calls};
 ghost use Rattle.elementary.specs.Port.{port};
 ghost use Rattle.number.specs.Arith.{floats};
 ghost use Rattle.number.specs.Lists.{at};
-ghost use Rattle.number.specs.Side.{side, sheet};
+ghost use Rattle.sizes.specs.Sizes.{side, sheet};
 ghost use Rattle.number.specs.Walk.{walk};
 ghost use Rattle.limits.specs.Limits.{square, components};
 ghost use Rattle.saftvrmie_parameters.specs.Combine.{sigmaIj, alphaIj, lrIj};
@@ -17,17 +17,22 @@ ghost use Rattle.mie_parameters.specs.Answer.{outcome};
 use limits::Component;
 use mie_parameters::ParameterAnswer;
 use number::FloatAnswer;
-use number::SHEET;
-use number::SIDE;
+use sizes::SHEETS;
+use sizes::SIDE;
+use sizes::mie_set::ALPHA_IJ;
+use sizes::mie_set::C_IJ;
+use sizes::mie_set::EPSILON_K_IJ;
+use sizes::mie_set::LA_IJ;
+use sizes::mie_set::LR_IJ;
 
 pub struct SaftVRMiePars {
     pub count: usize,
-    pub m: [f64; 8],
-    pub sigma: [f64; 8],
-    pub epsilon_k: [f64; 8],
-    pub lr: [f64; 8],
-    pub la: [f64; 8],
-    pub sheets: [f64; 384],
+    pub m: [f64; SIDE],
+    pub sigma: [f64; SIDE],
+    pub epsilon_k: [f64; SIDE],
+    pub lr: [f64; SIDE],
+    pub la: [f64; SIDE],
+    pub sheets: [f64; SHEETS],
 }
 
 pub struct ParameterSet {
@@ -53,8 +58,8 @@ pub enum PairAnswer {
 pub fn refused_with(number: u8) -> ParameterSet
     ensures { λ r. ⌜ r ≡ given (refused number) ⌝ }
 {
-    let blank = [0.0; 8];
-    let sheets = [0.0; 384];
+    let blank = [0.0; SIDE];
+    let sheets = [0.0; SHEETS];
     let set = SaftVRMiePars {
         count: 0,
         m: blank,
@@ -125,16 +130,16 @@ fn pair_parameters(a: Component, b: Component, k: f64, gamma: f64) -> PairAnswer
     })
 }
 
-fn store_pair(s: &mut [f64; 384], e: usize, p: PairParameters)
+fn store_pair(s: &mut [f64; SHEETS], e: usize, p: PairParameters)
     requires { ⌜ e < sheet ⌝ }
     ensures { λ _. ⌜ now (s .exit) ≡ storePair (now (s .entry)) e p ⌝ }
 {
     s[e] = p.sigma;
-    s[SHEET + e] = p.epsilon_k;
-    s[2 * SHEET + e] = p.lr;
-    s[3 * SHEET + e] = p.la;
-    s[4 * SHEET + e] = p.c;
-    s[5 * SHEET + e] = p.alpha;
+    s[EPSILON_K_IJ + e] = p.epsilon_k;
+    s[LR_IJ + e] = p.lr;
+    s[LA_IJ + e] = p.la;
+    s[C_IJ + e] = p.c;
+    s[ALPHA_IJ + e] = p.alpha;
 }
 
 // Row i of the six sheets.
@@ -147,7 +152,7 @@ fn sheets_row(
     k_ij: &[f64],
     gamma_ij: &[f64],
     i: usize,
-    s: &mut [f64; 384],
+    s: &mut [f64; SHEETS],
 ) -> ParameterAnswer
     requires { ⌜ (n ≤ side) × (i < n) × (length (now sigma) ≡ n) × (length (now «epsilon_k») ≡ n) × (length (now lr) ≡ n) × (length (now la) ≡ n) × (length (now «k_ij») ≡ n * n) × (length (now «gamma_ij») ≡ n * n) ⌝ }
     ensures { λ r. ⌜ outcome r (now (s .exit)) ≡ sheetsRow n (components (now (sigma .entry)) (now («epsilon_k» .entry)) (now (lr .entry)) (now (la .entry))) (square n (now («k_ij» .entry))) (square n (now («gamma_ij» .entry))) i (now (s .entry)) ⌝ }
@@ -171,7 +176,7 @@ fn fill_sheets(
     la: &[f64],
     k_ij: &[f64],
     gamma_ij: &[f64],
-    s: &mut [f64; 384],
+    s: &mut [f64; SHEETS],
 ) -> ParameterAnswer
     requires { ⌜ (n ≤ side) × (length (now sigma) ≡ n) × (length (now «epsilon_k») ≡ n) × (length (now lr) ≡ n) × (length (now la) ≡ n) × (length (now «k_ij») ≡ n * n) × (length (now «gamma_ij») ≡ n * n) ⌝ }
     ensures { λ r. ⌜ outcome r (now (s .exit)) ≡ walk n (sheetsRow n (components (now (sigma .entry)) (now («epsilon_k» .entry)) (now (lr .entry)) (now (la .entry))) (square n (now («k_ij» .entry))) (square n (now («gamma_ij» .entry)))) (now (s .entry)) ⌝ }
@@ -249,7 +254,7 @@ pub fn parameters(
     if !within_limits(count, m, sigma, epsilon_k, lr, la, k_ij, gamma_ij) {
         return refused_with(2);
     }
-    let mut sheets = [0.0; 384];
+    let mut sheets = [0.0; SHEETS];
     let filled = fill_sheets(count, sigma, epsilon_k, lr, la, k_ij, gamma_ij, &mut sheets);
     let ParameterAnswer::Held = filled else {
         return refused_with(mie_parameters::number(filled));

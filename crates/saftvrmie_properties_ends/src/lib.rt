@@ -5,7 +5,7 @@ ghost use Prim.Native.Nat.{_<_, _≤_};
 ghost use lib.ListN.{length};
 ghost use Rattle.number.specs.Arith.{decimal};
 ghost use Rattle.number.specs.Functions.{calls};
-ghost use Rattle.number.specs.Side.{side};
+ghost use Rattle.sizes.specs.Sizes.{side};
 ghost use Rattle.number.specs.Walk.{turns};
 ghost use Rattle.elementary.specs.Port.{port};
 ghost use Rattle.enclosure.specs.Enclosure.{enclosures, addE, subE, mulE, divE, negE, powE, afterE, point};
@@ -17,7 +17,8 @@ ghost use Rattle.saftvrmie_properties_ends.specs.Answer.{kAnswer, proper
 ghost use Rattle.saftvrmie_properties_ends.specs.Points.{points, pairs};
 use enclosure::Enclosure;
 use enclosure::EnclosureAnswer;
-use number::SIDE;
+use sizes::SHEETS;
+use sizes::SIDE;
 
 const FRAC_PI_6: f64 = 0.5235987755982989;
 
@@ -152,7 +153,7 @@ fn plus_product(sum: Enclosure, x: Enclosure, y: Enclosure) -> Enclosure
 }
 
 // Entry i of an array; i is a turn of a loop over the count, beyond it is not read.
-pub fn at_8(xs: [Enclosure; 8], i: usize) -> Enclosure
+pub fn at_component(xs: [Enclosure; SIDE], i: usize) -> Enclosure
     requires { ⌜ i < side ⌝ }
     ensures { λ r. ⌜ r ≡ nth enclosures xs i ⌝ }
 {
@@ -172,7 +173,7 @@ pub fn total(n: usize, v: &[f64]) -> Enclosure
     s
 }
 
-pub fn weighted(n: usize, v: &[f64], m: &[f64; 8]) -> Enclosure
+pub fn weighted(n: usize, v: &[f64], m: &[f64; SIDE]) -> Enclosure
     requires { ⌜ (n ≤ side) × (length (now v) ≡ n) ⌝ }
     ensures { λ r. ⌜ r ≡ weighted enclosures n (points (now (v .entry))) (points (now (m .entry))) ⌝ }
 {
@@ -185,12 +186,12 @@ pub fn weighted(n: usize, v: &[f64], m: &[f64; 8]) -> Enclosure
     s
 }
 
-pub fn xs_of(n: usize, x: &[f64], m: &[f64; 8], mean: Enclosure) -> [Enclosure; 8]
+pub fn xs_of(n: usize, x: &[f64], m: &[f64; SIDE], mean: Enclosure) -> [Enclosure; SIDE]
     requires { ⌜ (n ≤ side) × (length (now x) ≡ n) ⌝ }
     ensures { λ r. ⌜ r ≡ xsOf enclosures n (points (now (x .entry))) (points (now (m .entry))) mean ⌝ }
 {
     let zero = enclosure::point(0.0);
-    let mut xs = [zero; 8];
+    let mut xs = [zero; SIDE];
     for i in 0usize..n {
         let a = enclosure::point(x[i]);
         let b = enclosure::point(m[i]);
@@ -220,7 +221,7 @@ fn d3_ij(d: &[f64], i: usize, j: usize) -> Enclosure
     enclosure::pow_up(d_ij(d, i, j), 3)
 }
 
-fn s3_ij(sheets: &[f64; 384], i: usize, j: usize) -> Enclosure
+fn s3_ij(sheets: &[f64; SHEETS], i: usize, j: usize) -> Enclosure
     requires { ⌜ (i < side) × (j < side) ⌝ }
     ensures { λ r. ⌜ r ≡ s3Ij enclosures (pairs (now (sheets .entry))) i j ⌝ }
 {
@@ -244,23 +245,23 @@ fn zeta_pair(sum: Enclosure, xi: Enclosure, xj: Enclosure, cube: Enclosure) -> E
 }
 
 // Row i of zeta_x's sum: d³ of the pairs.
-fn zeta_row(n: usize, xs: [Enclosure; 8], d: &[f64], i: usize, start: Enclosure) -> Enclosure
+fn zeta_row(n: usize, xs: [Enclosure; SIDE], d: &[f64], i: usize, start: Enclosure) -> Enclosure
     requires { ⌜ (n ≤ side) × (i < n) × (length (now d) ≡ n) ⌝ }
     ensures { λ r. ⌜ r ≡ zetaRow enclosures n (nth enclosures xs) (d3Ij enclosures (points (now (d .entry)))) i start ⌝ }
 {
-    let xi = at_8(xs, i);
+    let xi = at_component(xs, i);
     let cube = d3_ij(d, i, i);
     let mut s = zeta_pure(start, xi, cube);
     for k in 0usize..n - (i + 1) {
         let j = i + 1 + k;
-        let xj = at_8(xs, j);
+        let xj = at_component(xs, j);
         let c = d3_ij(d, i, j);
         s = zeta_pair(s, xi, xj, c);
     }
     s
 }
 
-fn zeta_sum(n: usize, xs: [Enclosure; 8], d: &[f64]) -> Enclosure
+fn zeta_sum(n: usize, xs: [Enclosure; SIDE], d: &[f64]) -> Enclosure
     requires { ⌜ (n ≤ side) × (length (now d) ≡ n) ⌝ }
     ensures { λ r. ⌜ r ≡ zetaSum enclosures n (nth enclosures xs) (d3Ij enclosures (points (now (d .entry)))) ⌝ }
 {
@@ -274,27 +275,27 @@ fn zeta_sum(n: usize, xs: [Enclosure; 8], d: &[f64]) -> Enclosure
 // Row i of zeta_x_bar's sum: sigma³ of the pairs.
 fn zeta_bar_row(
     n: usize,
-    xs: [Enclosure; 8],
-    sheets: &[f64; 384],
+    xs: [Enclosure; SIDE],
+    sheets: &[f64; SHEETS],
     i: usize,
     start: Enclosure,
 ) -> Enclosure
     requires { ⌜ (n ≤ side) × (i < n) ⌝ }
     ensures { λ r. ⌜ r ≡ zetaRow enclosures n (nth enclosures xs) (s3Ij enclosures (pairs (now (sheets .entry)))) i start ⌝ }
 {
-    let xi = at_8(xs, i);
+    let xi = at_component(xs, i);
     let cube = s3_ij(sheets, i, i);
     let mut s = zeta_pure(start, xi, cube);
     for k in 0usize..n - (i + 1) {
         let j = i + 1 + k;
-        let xj = at_8(xs, j);
+        let xj = at_component(xs, j);
         let c = s3_ij(sheets, i, j);
         s = zeta_pair(s, xi, xj, c);
     }
     s
 }
 
-fn zeta_bar_sum(n: usize, xs: [Enclosure; 8], sheets: &[f64; 384]) -> Enclosure
+fn zeta_bar_sum(n: usize, xs: [Enclosure; SIDE], sheets: &[f64; SHEETS]) -> Enclosure
     requires { ⌜ n ≤ side ⌝ }
     ensures { λ r. ⌜ r ≡ zetaSum enclosures n (nth enclosures xs) (s3Ij enclosures (pairs (now (sheets .entry)))) ⌝ }
 {
@@ -342,9 +343,9 @@ fn volume(rho: Enclosure) -> Enclosure
 // Of lists as long as the count, as above.
 pub fn properties_of(
     n: usize,
-    m: &[f64; 8],
-    sheets: &[f64; 384],
-    xs: [Enclosure; 8],
+    m: &[f64; SIDE],
+    sheets: &[f64; SHEETS],
+    xs: [Enclosure; SIDE],
     rho: &[f64],
     d: &[f64],
 ) -> PropertiesEnclosuresAnswer

@@ -14,7 +14,7 @@ use Rattle.mie_parameters.specs.Answer.{verdict, stored}
 use Rattle.number.specs.Ans.{Ans, held, refused, _>>=_, demand}
 use Rattle.number.specs.Arith.{floats}
 use Rattle.number.specs.Functions.{calls}
-use Rattle.number.specs.Side.{side, sheet, cell}
+use Rattle.sizes.specs.Sizes.{side, sheet, cell}
 use Rattle.number.proofs.Walk.{via, walk-keeps, then-held, held-inj}
 use Rattle.elementary.specs.Port.{port}
 use Rattle.limits.specs.Limits.{countWithin, temperatureWithin}

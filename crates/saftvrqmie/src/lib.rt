@@ -4,7 +4,7 @@ ghost use Prim.Native.Nat.{_+_, _*_, _<_, _≤_};
 ghost use lib.ListN.{length, take, drop};
 ghost use Rattle.number.specs.Arith.{floats};
 ghost use Rattle.number.specs.Functions.{calls};
-ghost use Rattle.number.specs.Side.{side, sheet};
+ghost use Rattle.sizes.specs.Sizes.{side, sheet};
 ghost use Rattle.elementary.specs.Port.{port};
 ghost use Rattle.mie_parameters.specs.Answer.{outcome, verdict, numberAnswer, stored};
 ghost use Rattle.saftvrqmie_potential.specs.Potential.{pairIn, pairAt};
@@ -14,8 +14,6 @@ ghost use Rattle.saftvrqmie.specs.Pairs.{searchesAnswer, pairSearches, s
 use mie_parameters::NumberAnswer;
 use mie_parameters::ParameterAnswer;
 use number::FloatAnswer;
-use number::SHEET;
-use number::SIDE;
 use saftvrqmie_parameters::OrderRecord;
 use saftvrqmie_parameters::SaftVRQMiePars;
 use saftvrqmie_potential::Pair;
@@ -23,17 +21,23 @@ use saftvrqmie_properties::PairProperties;
 use saftvrqmie_properties::PropertiesAnswer;
 use saftvrqmie_searches::Search;
 use saftvrqmie_searches::SearchAnswer;
-
-// The sheets of a set after the first: epsilon_k_ij, c_ij, lambda_r_ij, lambda_a_ij, mass_ij; of a table and its counts likewise.
-const SECOND: usize = SHEET;
-
-const THIRD: usize = 2 * SHEET;
-
-const FOURTH: usize = 3 * SHEET;
-
-const FIFTH: usize = 4 * SHEET;
-
-const SIXTH: usize = 5 * SHEET;
+use sizes::COUNTS;
+use sizes::SHEET;
+use sizes::SHEETS;
+use sizes::SIDE;
+use sizes::TABLE;
+use sizes::counts::DEPTH;
+use sizes::counts::SIGMA;
+use sizes::counts::ZERO;
+use sizes::quantum_set::C_IJ;
+use sizes::quantum_set::EPSILON_K_IJ;
+use sizes::quantum_set::LAMBDA_A_IJ;
+use sizes::quantum_set::LAMBDA_R_IJ;
+use sizes::quantum_set::MASS_IJ;
+use sizes::table::EPSILON_K_EFF;
+use sizes::table::HS_DIAMETER;
+use sizes::table::QUANTUM_D;
+use sizes::table::SIGMA_EFF;
 
 // What the three searches of a pair give, each with its count.
 pub struct PairSearches {
@@ -50,7 +54,7 @@ pub enum SearchesAnswer {
     Refused(u8),
 }
 
-fn pair_at(s: &[f64; 384], orders: [OrderRecord; 64], t: f64, e: usize) -> Pair
+fn pair_at(s: &[f64; SHEETS], orders: [OrderRecord; SHEET], t: f64, e: usize) -> Pair
     requires { ⌜ e < sheet ⌝ }
     ensures { λ r. ⌜ r ≡ pairAt (now (s .entry)) orders t e ⌝ }
 {
@@ -58,37 +62,37 @@ fn pair_at(s: &[f64; 384], orders: [OrderRecord; 64], t: f64, e: usize) -> Pair
     let order = record.order;
     Pair {
         sigma: s[e],
-        epsilon_k: s[SECOND + e],
-        c: s[THIRD + e],
-        lr: s[FOURTH + e],
-        la: s[FIFTH + e],
-        mass: s[SIXTH + e],
+        epsilon_k: s[EPSILON_K_IJ + e],
+        c: s[C_IJ + e],
+        lr: s[LAMBDA_R_IJ + e],
+        la: s[LAMBDA_A_IJ + e],
+        mass: s[MASS_IJ + e],
         order,
         temperature: t,
     }
 }
 
-fn store(values: &mut [f64; 256], numbers: &mut [u8; 192], e: usize, p: PairProperties)
+fn store(values: &mut [f64; TABLE], numbers: &mut [u8; COUNTS], e: usize, p: PairProperties)
     requires { ⌜ e < sheet ⌝ }
     ensures { λ _. ⌜ record { values = now (values .exit); numbers = now (numbers .exit) } ≡ store (record { values = now (values .entry); numbers = now (numbers .entry) }) e (propertiesIn p) ⌝ }
 {
     values[e] = p.sigma_eff;
-    values[SECOND + e] = p.hs_diameter;
-    values[THIRD + e] = p.epsilon_k_eff;
-    values[FOURTH + e] = p.quantum_d;
+    values[HS_DIAMETER + e] = p.hs_diameter;
+    values[EPSILON_K_EFF + e] = p.epsilon_k_eff;
+    values[QUANTUM_D + e] = p.quantum_d;
     numbers[e] = p.sigma_count;
-    numbers[SECOND + e] = p.zero_count;
-    numbers[THIRD + e] = p.depth_count;
+    numbers[ZERO + e] = p.zero_count;
+    numbers[DEPTH + e] = p.depth_count;
 }
 
 fn work_row(
     n: usize,
-    s: &[f64; 384],
-    orders: [OrderRecord; 64],
+    s: &[f64; SHEETS],
+    orders: [OrderRecord; SHEET],
     t: f64,
     i: usize,
-    values: &mut [f64; 256],
-    numbers: &mut [u8; 192],
+    values: &mut [f64; TABLE],
+    numbers: &mut [u8; COUNTS],
 ) -> ParameterAnswer
     requires { ⌜ (n ≤ side) × (i < n) ⌝ }
     ensures { λ r. ⌜ outcome r (record { values = now (values .exit); numbers = now (numbers .exit) }) ≡ workRow n (now (s .entry)) orders t i (record { values = now (values .entry); numbers = now (numbers .entry) }) ⌝ }
@@ -105,11 +109,11 @@ fn work_row(
 
 fn work_pairs(
     n: usize,
-    s: &[f64; 384],
-    orders: [OrderRecord; 64],
+    s: &[f64; SHEETS],
+    orders: [OrderRecord; SHEET],
     t: f64,
-    values: &mut [f64; 256],
-    numbers: &mut [u8; 192],
+    values: &mut [f64; TABLE],
+    numbers: &mut [u8; COUNTS],
 ) -> ParameterAnswer
     requires { ⌜ n ≤ side ⌝ }
     ensures { λ r. ⌜ outcome r (record { values = now (values .exit); numbers = now (numbers .exit) }) ≡ workPairs n (now (s .entry)) orders t (record { values = now (values .entry); numbers = now (numbers .entry) }) ⌝ }
@@ -123,18 +127,18 @@ fn work_pairs(
     ParameterAnswer::Held
 }
 
-fn all_finite(values: &[f64; 256]) -> bool
+fn all_finite(values: &[f64; TABLE]) -> bool
     ensures { λ r. ⌜ r ≡ allFinite (now (values .entry)) ⌝ }
 {
     let mut ok = true;
-    for k in 0usize..256 {
+    for k in 0usize..TABLE {
         ok = ok & number::is_finite(values[k]);
     }
     ok
 }
 
 // A sheet of the values into its own part of the lent list.
-fn write_sheet(part: &mut [f64], values: &[f64; 256], from: usize)
+fn write_sheet(part: &mut [f64], values: &[f64; TABLE], from: usize)
     requires { ⌜ (length (now part) ≡ sheet) × (from + sheet ≤ 4 * sheet) × (length (now values) ≡ 4 * sheet) ⌝ }
     ensures { λ _. ⌜ now (part .exit) ≡ take sheet (drop from (now (values .entry))) ⌝ }
 {
@@ -143,7 +147,7 @@ fn write_sheet(part: &mut [f64], values: &[f64; 256], from: usize)
     }
 }
 
-fn write_counts(part: &mut [u8], numbers: &[u8; 192], from: usize)
+fn write_counts(part: &mut [u8], numbers: &[u8; COUNTS], from: usize)
     requires { ⌜ (length (now part) ≡ sheet) × (from + sheet ≤ 3 * sheet) × (length (now numbers) ≡ 3 * sheet) ⌝ }
     ensures { λ _. ⌜ now (part .exit) ≡ take sheet (drop from (now (numbers .entry))) ⌝ }
 {
@@ -153,37 +157,37 @@ fn write_counts(part: &mut [u8], numbers: &[u8; 192], from: usize)
 }
 
 // Each sheet through its own part of the lent list.
-fn write_table(table: &mut [f64], values: &[f64; 256])
+fn write_table(table: &mut [f64], values: &[f64; TABLE])
     requires { ⌜ (length (now table) ≡ 4 * sheet) × (length (now values) ≡ 4 * sheet) ⌝ }
     ensures { λ _. ⌜ now (table .exit) ≡ now (values .entry) ⌝ }
 {
-    write_sheet(&mut table[0..SECOND], values, 0);
-    write_sheet(&mut table[SECOND..THIRD], values, SECOND);
-    write_sheet(&mut table[THIRD..FOURTH], values, THIRD);
-    write_sheet(&mut table[FOURTH..FIFTH], values, FOURTH);
+    write_sheet(&mut table[SIGMA_EFF..HS_DIAMETER], values, SIGMA_EFF);
+    write_sheet(&mut table[HS_DIAMETER..EPSILON_K_EFF], values, HS_DIAMETER);
+    write_sheet(&mut table[EPSILON_K_EFF..QUANTUM_D], values, EPSILON_K_EFF);
+    write_sheet(&mut table[QUANTUM_D..TABLE], values, QUANTUM_D);
 }
 
-fn write_numbers(counts: &mut [u8], numbers: &[u8; 192])
+fn write_numbers(counts: &mut [u8], numbers: &[u8; COUNTS])
     requires { ⌜ (length (now counts) ≡ 3 * sheet) × (length (now numbers) ≡ 3 * sheet) ⌝ }
     ensures { λ _. ⌜ now (counts .exit) ≡ now (numbers .entry) ⌝ }
 {
-    write_counts(&mut counts[0..SECOND], numbers, 0);
-    write_counts(&mut counts[SECOND..THIRD], numbers, SECOND);
-    write_counts(&mut counts[THIRD..FOURTH], numbers, THIRD);
+    write_counts(&mut counts[SIGMA..ZERO], numbers, SIGMA);
+    write_counts(&mut counts[ZERO..DEPTH], numbers, ZERO);
+    write_counts(&mut counts[DEPTH..COUNTS], numbers, DEPTH);
 }
 
 // 1: the count, and the length of each lent list.
 pub fn right_lists(n: usize, a: usize, b: usize) -> bool
     ensures { λ r. ⌜ r ≡ rightLists n a b ⌝ }
 {
-    limits::count_within(n) & (a == FIFTH) & (b == FOURTH)
+    limits::count_within(n) & (a == TABLE) & (b == COUNTS)
 }
 
 // The table of a set's count, sheets and orders: it reads no m. 1, 2, 6, 7.
 pub fn table_of(
     n: usize,
-    sheets: &[f64; 384],
-    orders: [OrderRecord; 64],
+    sheets: &[f64; SHEETS],
+    orders: [OrderRecord; SHEET],
     temperature: f64,
     table: &mut [f64],
     counts: &mut [u8],
@@ -196,8 +200,8 @@ pub fn table_of(
     if !limits::temperature_within(temperature) {
         return ParameterAnswer::Refused(2);
     }
-    let mut values = [0.0; 256];
-    let mut numbers = [0u8; 192];
+    let mut values = [0.0; TABLE];
+    let mut numbers = [0u8; COUNTS];
     let worked = work_pairs(n, sheets, orders, temperature, &mut values, &mut numbers);
     let ParameterAnswer::Held = worked else {
         return worked;

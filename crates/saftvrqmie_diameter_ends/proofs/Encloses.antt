@@ -6,7 +6,7 @@ use mathlib.Core.Bool.{true, false}
 use Rattle.number.specs.Ans.{Ans, held, refused}
 use Rattle.number.specs.Arith.{Arith, floats}
 use Rattle.number.specs.Functions.{Functions, Answers, calls}
-use Rattle.number.specs.Side.{cell}
+use Rattle.sizes.specs.Sizes.{cell}
 use Rattle.number.proofs.Rel.{Rel, FunRel, Both, calls-rel}
 use Rattle.limits.specs.Limits.{indexWithin, temperatureWithin}
 use Rattle.enclosure.specs.declared.Enclosure.{Enclosure}

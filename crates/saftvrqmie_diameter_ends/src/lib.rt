@@ -2,7 +2,7 @@
 ghost use mathlib.Core.Path.{_≡_};
 ghost use Prim.Native.Nat.{_<_};
 ghost use Rattle.number.specs.Functions.{calls, entry};
-ghost use Rattle.number.specs.Side.{sheet};
+ghost use Rattle.sizes.specs.Sizes.{sheet};
 ghost use Rattle.elementary.specs.Port.{port};
 ghost use Rattle.enclosure.specs.Answer.{answer, ends};
 ghost use Rattle.enclosure.specs.Enclosure.{enclosures};
@@ -16,14 +16,20 @@ ghost use Rattle.saftvrqmie_diameter_ends.specs.Operations.{diameterEnds
 use enclosure::Enclosure;
 use enclosure::EnclosureAnswer;
 use enclosure::EndsAnswer;
-use number::SHEET;
-use number::SIDE;
 use saftvrqmie_alone_ends::Alone;
 use saftvrqmie_alpha_ends::PairEnclosures;
 use saftvrqmie_parameters::OrderRecord;
 use saftvrqmie_parameters::SaftVRQMiePars;
 use saftvrqmie_potential_ends::PairShared;
 use saftvrqmie_potential_ends::PairSharedAnswer;
+use sizes::SHEET;
+use sizes::SHEETS;
+use sizes::SIDE;
+use sizes::quantum_set::C_IJ;
+use sizes::quantum_set::EPSILON_K_IJ;
+use sizes::quantum_set::LAMBDA_A_IJ;
+use sizes::quantum_set::LAMBDA_R_IJ;
+use sizes::quantum_set::MASS_IJ;
 
 // Entries of the rule, as points; k is the turn of a loop over its 21 nodes, and beyond them there is no entry.
 fn abscissa(k: usize) -> Enclosure
@@ -104,7 +110,7 @@ pub fn hs_diameter(p: PairEnclosures, sigma_eff: Enclosure, r0: Enclosure) -> En
 }
 
 // A set's pair: each number is read as it is.
-fn pair_at(s: &[f64; 384], orders: [OrderRecord; 64], t: f64, e: usize) -> PairEnclosures
+fn pair_at(s: &[f64; SHEETS], orders: [OrderRecord; SHEET], t: f64, e: usize) -> PairEnclosures
     requires { ⌜ e < sheet ⌝ }
     ensures { λ r. ⌜ pairIn r ≡ pointsOf enclosures (pairAt (now (s .entry)) orders t e) ⌝ }
 {
@@ -112,11 +118,11 @@ fn pair_at(s: &[f64; 384], orders: [OrderRecord; 64], t: f64, e: usize) -> PairE
     let order = record.order;
     PairEnclosures {
         sigma: enclosure::point(s[e]),
-        epsilon_k: enclosure::point(s[SHEET + e]),
-        c: enclosure::point(s[2 * SHEET + e]),
-        lr: enclosure::point(s[3 * SHEET + e]),
-        la: enclosure::point(s[4 * SHEET + e]),
-        mass: enclosure::point(s[5 * SHEET + e]),
+        epsilon_k: enclosure::point(s[EPSILON_K_IJ + e]),
+        c: enclosure::point(s[C_IJ + e]),
+        lr: enclosure::point(s[LAMBDA_R_IJ + e]),
+        la: enclosure::point(s[LAMBDA_A_IJ + e]),
+        mass: enclosure::point(s[MASS_IJ + e]),
         order,
         temperature: enclosure::point(t),
     }

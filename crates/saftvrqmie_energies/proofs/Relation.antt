@@ -7,7 +7,7 @@ use mathlib.Core.Bool.{Bool}
 use mathlib.Core.List.{List}
 use Rattle.number.specs.Arith.{Arith}
 use Rattle.number.specs.Functions.{Functions}
-use Rattle.number.specs.Side.{side, sheet, cell}
+use Rattle.sizes.specs.Sizes.{side, sheet, cell}
 use Rattle.number.proofs.Rel.{Rel, FunRel, Both, both-held, then-both, cond-rel, turns-rel, walk-rel}
 use Rattle.saftvrqmie_parameters.specs.declared.SaftVRQMiePars.{SaftVRQMiePars}
 use Rattle.saftvrqmie_potential.specs.Potential.{recip}

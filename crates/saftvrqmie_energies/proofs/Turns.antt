@@ -8,7 +8,7 @@ use mathlib.Core.Bool.{Bool, true, false}
 use Rattle.number.specs.Ans.{Ans, held, refused, _>>=_}
 use Rattle.number.specs.Arith.{Arith, floats, decimal, whole}
 use Rattle.number.specs.Functions.{Functions, answered, calls}
-use Rattle.number.specs.Side.{cell}
+use Rattle.sizes.specs.Sizes.{cell}
 use Rattle.elementary.specs.Port.{port}
 use Rattle.saftvrqmie_potential.specs.Potential.{PairIn, recip}
 use Rattle.saftvrqmie_dispersion.specs.Alpha.{alpha, chi, thirdOrderIj}

@@ -10,7 +10,7 @@ use borrow.Author.Tests.{eqb-true}
 use Rattle.number.specs.Ans.{Ans, held, refused, _>>=_, demand}
 use Rattle.number.specs.Arith.{floats, zero64}
 use Rattle.number.specs.Functions.{Functions, calls}
-use Rattle.number.specs.Side.{side, sheet}
+use Rattle.sizes.specs.Sizes.{side, sheet}
 use Rattle.elementary.specs.Port.{port}
 use Rattle.limits.specs.Limits.{countWithin, stateWithin}
 use Rattle.mie_parameters.proofs.Laws.{and-left, and-right, count-high}

@@ -9,7 +9,7 @@ use Rattle.number.specs.Ans.{Ans, held, _>>=_}
 use Rattle.number.specs.Arith.{Arith, whole}
 use Rattle.number.specs.Functions.{Functions}
 use Rattle.number.specs.Lists.{nth}
-use Rattle.number.specs.Side.{sheet, cell}
+use Rattle.sizes.specs.Sizes.{sheet, cell}
 use Rattle.number.specs.Walk.{turns, walk}
 use Rattle.saftvrqmie_potential.specs.Potential.{recip}
 use Rattle.mie_parameters.specs.Places.{inPlaces}

@@ -9,7 +9,7 @@ use mathlib.Core.Bool.{Bool, _&&_, cond}
 use Rattle.number.specs.Ans.{Ans, held, refused, _>>=_, demand}
 use Rattle.number.specs.Arith.{Arith, floats, zero64}
 use Rattle.number.specs.Functions.{Functions, Answers, calls}
-use Rattle.number.specs.Side.{sheet}
+use Rattle.sizes.specs.Sizes.{sheet}
 use Rattle.elementary.specs.Port.{port}
 use Rattle.limits.specs.Limits.{countWithin, stateWithin}
 use Rattle.saftvrqmie_parameters.specs.declared.SaftVRQMiePars.{SaftVRQMiePars}

@@ -5,7 +5,7 @@ use mathlib.Core.List.{List}
 use Rattle.number.specs.Arith.{Arith, decimal, whole}
 use Rattle.number.specs.Functions.{Functions}
 use Rattle.number.specs.Lists.{nth}
-use Rattle.number.specs.Side.{cell}
+use Rattle.sizes.specs.Sizes.{cell}
 use Rattle.mie_parameters.specs.Places.{inPlaces}
 use Rattle.mie_parameters.specs.Sums.{weighted}
 use Rattle.number.specs.Walk.{turns}

@@ -6,7 +6,7 @@ use mathlib.Core.Bool.{Bool, true, false}
 use Rattle.number.specs.Ans.{Ans, held, refused}
 use Rattle.number.specs.Arith.{Arith}
 use Rattle.number.specs.Lists.{at}
-use Rattle.number.specs.Side.{sheet, cell}
+use Rattle.sizes.specs.Sizes.{sheet, cell}
 use Rattle.saftvrqmie_parameters.specs.declared.OrderRecord.{OrderRecord}
 use Rattle.saftvrqmie_potential.specs.Potential.{PairIn, pointsOf, pairAt}
 

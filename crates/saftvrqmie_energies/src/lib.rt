@@ -7,7 +7,7 @@ ghost use Rattle.number.specs.Arith.{floats, zero64, whole};
 ghost use mathlib.Core.Bool.{cond};
 ghost use Rattle.number.specs.Functions.{calls};
 ghost use Rattle.number.specs.Walk.{walk};
-ghost use Rattle.number.specs.Side.{side, sheet};
+ghost use Rattle.sizes.specs.Sizes.{side, sheet};
 ghost use Rattle.elementary.specs.Port.{port};
 ghost use lib.Dec.{eqb};
 ghost use Rattle.saftvrqmie_potential.specs.Potential.{pairIn, recip};
@@ -20,29 +20,27 @@ ghost use Rattle.saftvrqmie_energies.specs.Dispersion.{mixtureIn, invXsS
 ghost use Rattle.limits.specs.Limits.{stateWithin};
 ghost use Rattle.saftvrqmie_energies.specs.Energies.{energiesIn, energiesAnswer, allFinite, rightLengths, energies};
 use number::FloatAnswer;
-use number::SHEET;
-use number::SIDE;
 use saftvrqmie_dispersion::DispersionPair;
 use saftvrqmie_parameters::OrderRecord;
 use saftvrqmie_parameters::SaftVRQMiePars;
 use saftvrqmie_potential::Pair;
+use sizes::SHEET;
+use sizes::SHEETS;
+use sizes::SIDE;
+use sizes::TABLE;
+use sizes::quantum_set::C_IJ;
+use sizes::quantum_set::EPSILON_K_IJ;
+use sizes::quantum_set::LAMBDA_A_IJ;
+use sizes::quantum_set::LAMBDA_R_IJ;
+use sizes::quantum_set::MASS_IJ;
+use sizes::table::EPSILON_K_EFF;
+use sizes::table::HS_DIAMETER;
+use sizes::table::QUANTUM_D;
+use sizes::table::SIGMA_EFF;
 
 const PI: f64 = 3.141592653589793;
 
 const FRAC_PI_6: f64 = 0.5235987755982989;
-
-// Where the sheets of a set and of a table start.
-const FIRST: usize = 0;
-
-const SECOND: usize = SHEET;
-
-const THIRD: usize = 2 * SHEET;
-
-const FOURTH: usize = 3 * SHEET;
-
-const FIFTH: usize = 4 * SHEET;
-
-const SIXTH: usize = 5 * SHEET;
 
 struct Zetas {
     z0: f64,
@@ -75,7 +73,7 @@ pub enum EnergiesAnswer {
 
 // ---- what contributions share
 
-fn segment_density(n: usize, rho: &[f64], m: &[f64; 8]) -> f64
+fn segment_density(n: usize, rho: &[f64], m: &[f64; SIDE]) -> f64
     requires { ⌜ (n ≤ side) × (length (now rho) ≡ n) ⌝ }
     ensures { λ r. ⌜ r ≡ weighted floats n (points floats (now (rho .entry))) (points floats (now (m .entry))) ⌝ }
 {
@@ -91,7 +89,7 @@ fn diameter_of(table: &[f64], i: usize) -> f64
     requires { ⌜ (i < side) × (length (now table) ≡ 4 * sheet) ⌝ }
     ensures { λ r. ⌜ r ≡ diagonal (sheetOf floats (now (table .entry)) 1) i ⌝ }
 {
-    table[SECOND + (SIDE * i + i)]
+    table[HS_DIAMETER + (SIDE * i + i)]
 }
 
 // ---- hard sphere
@@ -108,7 +106,7 @@ fn zeta_added(rho: f64, d: f64, m: f64, z: Zetas) -> Zetas
     }
 }
 
-fn zeta(n: usize, rho: &[f64], table: &[f64], m: &[f64; 8]) -> Zetas
+fn zeta(n: usize, rho: &[f64], table: &[f64], m: &[f64; SIDE]) -> Zetas
     requires { ⌜ (n ≤ side) × (length (now rho) ≡ n) × (length (now table) ≡ 4 * sheet) ⌝ }
     ensures { λ r. ⌜ zetaIn r ≡ zeta floats (calls floats port) n (points floats (now (rho .entry))) (diagonal (sheetOf floats (now (table .entry)) 1)) (points floats (now (m .entry))) ⌝ }
 {
@@ -140,7 +138,7 @@ fn zeta_23_added(x: f64, d: f64, m: f64, y: Zeta23) -> Zeta23
     }
 }
 
-fn zeta_23(n: usize, x: &[f64], table: &[f64], m: &[f64; 8]) -> f64
+fn zeta_23(n: usize, x: &[f64], table: &[f64], m: &[f64; SIDE]) -> f64
     requires { ⌜ (n ≤ side) × (length (now x) ≡ n) × (length (now table) ≡ 4 * sheet) ⌝ }
     ensures { λ r. ⌜ r ≡ zeta23 floats n (points floats (now (x .entry))) (diagonal (sheetOf floats (now (table .entry)) 1)) (points floats (now (m .entry))) ⌝ }
 {
@@ -163,7 +161,7 @@ fn hard_sphere_of(z: Zetas, z23: f64, l: f64) -> f64
         / PI
 }
 
-fn hard_sphere(n: usize, x: &[f64], rho: &[f64], table: &[f64], m: &[f64; 8]) -> FloatAnswer
+fn hard_sphere(n: usize, x: &[f64], rho: &[f64], table: &[f64], m: &[f64; SIDE]) -> FloatAnswer
     requires { ⌜ (n ≤ side) × (length (now x) ≡ n) × (length (now rho) ≡ n) × (length (now table) ≡ 4 * sheet) ⌝ }
     ensures { λ r. ⌜ answer r ≡ hardSphere floats (calls floats port) n (points floats (now (x .entry))) (points floats (now (rho .entry))) (diagonal (sheetOf floats (now (table .entry)) 1)) (points floats (now (m .entry))) ⌝ }
 {
@@ -195,11 +193,11 @@ fn non_additive_ij(rho_s: f64, xi: f64, xj: f64, di: f64, dj: f64, dij: f64, z2:
 }
 
 // x_s of the non-additive part.
-fn density_shares(n: usize, rho_s: f64, rho: &[f64], m: &[f64; 8]) -> [f64; 8]
+fn density_shares(n: usize, rho_s: f64, rho: &[f64], m: &[f64; SIDE]) -> [f64; SIDE]
     requires { ⌜ (n ≤ side) × (length (now rho) ≡ n) ⌝ }
     ensures { λ r. ⌜ r ≡ densityShares floats (calls floats port) n «rho_s» (points floats (now (rho .entry))) (points floats (now (m .entry))) ⌝ }
 {
-    let mut x = [0.0; 8];
+    let mut x = [0.0; SIDE];
     for i in 0usize..n {
         x[i] = rho[i] * m[i] / rho_s;
     }
@@ -208,7 +206,7 @@ fn density_shares(n: usize, rho_s: f64, rho: &[f64], m: &[f64; 8]) -> [f64; 8]
 
 fn non_additive_column(
     n: usize,
-    xs: &[f64; 8],
+    xs: &[f64; SIDE],
     table: &[f64],
     rho_s: f64,
     z2: f64,
@@ -223,13 +221,13 @@ fn non_additive_column(
     for i in 0usize..n {
         let di = diameter_of(table, i);
         let dj = diameter_of(table, j);
-        let dij = table[SECOND + (SIDE * i + j)];
+        let dij = table[HS_DIAMETER + (SIDE * i + j)];
         r = r + non_additive_ij(rho_s, xs[i], xs[j], di, dj, dij, z2, f);
     }
     r
 }
 
-fn non_additive_sum(n: usize, xs: &[f64; 8], table: &[f64], rho_s: f64, z2: f64, f: f64) -> f64
+fn non_additive_sum(n: usize, xs: &[f64; SIDE], table: &[f64], rho_s: f64, z2: f64, f: f64) -> f64
     requires { ⌜ (n ≤ side) × (length (now table) ≡ 4 * sheet) ⌝ }
     ensures { λ r. ⌜ r ≡ nonAdditiveSum floats (calls floats port) n (points floats (now (xs .entry))) (sheetOf floats (now (table .entry)) 1) «rho_s» z2 f ⌝ }
 {
@@ -240,7 +238,7 @@ fn non_additive_sum(n: usize, xs: &[f64; 8], table: &[f64], rho_s: f64, z2: f64,
     r
 }
 
-fn non_additive(n: usize, rho: &[f64], m: &[f64; 8], table: &[f64]) -> f64
+fn non_additive(n: usize, rho: &[f64], m: &[f64; SIDE], table: &[f64]) -> f64
     requires { ⌜ (n ≤ side) × (length (now table) ≡ 4 * sheet) × (length (now rho) ≡ n) ⌝ }
     ensures { λ r. ⌜ r ≡ nonAdditive floats (calls floats port) n (points floats (now (rho .entry))) (points floats (now (m .entry))) (sheetOf floats (now (table .entry)) 1) ⌝ }
 {
@@ -254,7 +252,7 @@ fn non_additive(n: usize, rho: &[f64], m: &[f64; 8], table: &[f64]) -> f64
 // ---- dispersion
 
 // x_s.sum().recip()
-fn inv_x_s_sum(n: usize, x: &[f64], m: &[f64; 8]) -> f64
+fn inv_x_s_sum(n: usize, x: &[f64], m: &[f64; SIDE]) -> f64
     requires { ⌜ (n ≤ side) × (length (now x) ≡ n) ⌝ }
     ensures { λ r. ⌜ r ≡ invXsSum floats n (points floats (now (x .entry))) (points floats (now (m .entry))) ⌝ }
 {
@@ -266,19 +264,19 @@ fn inv_x_s_sum(n: usize, x: &[f64], m: &[f64; 8]) -> f64
 }
 
 // x_s of the dispersion.
-fn segment_fractions(n: usize, x: &[f64], m: &[f64; 8]) -> [f64; 8]
+fn segment_fractions(n: usize, x: &[f64], m: &[f64; SIDE]) -> [f64; SIDE]
     requires { ⌜ (n ≤ side) × (length (now x) ≡ n) ⌝ }
     ensures { λ r. ⌜ r ≡ segmentFractions floats n (points floats (now (x .entry))) (points floats (now (m .entry))) ⌝ }
 {
     let inv = inv_x_s_sum(n, x, m);
-    let mut xs = [0.0; 8];
+    let mut xs = [0.0; SIDE];
     for i in 0usize..n {
         xs[i] = x[i] * m[i] * inv;
     }
     xs
 }
 
-fn packing_row(n: usize, xs: &[f64; 8], table: &[f64], k: usize, i: usize, sum: f64) -> f64
+fn packing_row(n: usize, xs: &[f64; SIDE], table: &[f64], k: usize, i: usize, sum: f64) -> f64
     requires { ⌜ (n ≤ side) × (length (now table) ≡ 4 * sheet) × (k < 2) × (i < n) ⌝ }
     ensures { λ r. ⌜ r ≡ packingRow floats (calls floats port) n (points floats (now (xs .entry))) (sheetOf floats (now (table .entry)) k) i sum ⌝ }
 {
@@ -291,7 +289,7 @@ fn packing_row(n: usize, xs: &[f64; 8], table: &[f64], k: usize, i: usize, sum: 
 }
 
 // `zeta_saft_vrq_mie` of sheet k.
-fn packing(n: usize, xs: &[f64; 8], table: &[f64], k: usize, rho_s: f64) -> f64
+fn packing(n: usize, xs: &[f64; SIDE], table: &[f64], k: usize, rho_s: f64) -> f64
     requires { ⌜ (n ≤ side) × (length (now table) ≡ 4 * sheet) × (k < 2) ⌝ }
     ensures { λ r. ⌜ r ≡ packing floats (calls floats port) n (points floats (now (xs .entry))) (sheetOf floats (now (table .entry)) k) «rho_s» ⌝ }
 {
@@ -303,7 +301,7 @@ fn packing(n: usize, xs: &[f64; 8], table: &[f64], k: usize, rho_s: f64) -> f64
 }
 
 // The pair at entry e of a set's sheets.
-fn pair_at(sheets: &[f64; 384], orders: [OrderRecord; 64], t: f64, e: usize) -> Pair
+fn pair_at(sheets: &[f64; SHEETS], orders: [OrderRecord; SHEET], t: f64, e: usize) -> Pair
     requires { ⌜ e < sheet ⌝ }
     ensures { λ r. ⌜ pairIn r ≡ pairOf floats (now (sheets .entry)) orders t e ⌝ }
 {
@@ -311,11 +309,11 @@ fn pair_at(sheets: &[f64; 384], orders: [OrderRecord; 64], t: f64, e: usize) -> 
     let order = record.order;
     Pair {
         sigma: sheets[e],
-        epsilon_k: sheets[SECOND + e],
-        c: sheets[THIRD + e],
-        lr: sheets[FOURTH + e],
-        la: sheets[FIFTH + e],
-        mass: sheets[SIXTH + e],
+        epsilon_k: sheets[EPSILON_K_IJ + e],
+        c: sheets[C_IJ + e],
+        lr: sheets[LAMBDA_R_IJ + e],
+        la: sheets[LAMBDA_A_IJ + e],
+        mass: sheets[MASS_IJ + e],
         order,
         temperature: t,
     }
@@ -324,12 +322,12 @@ fn pair_at(sheets: &[f64; 384], orders: [OrderRecord; 64], t: f64, e: usize) -> 
 // `Alpha::new` of a row; whether each power was inside.
 fn alpha_row(
     n: usize,
-    sheets: &[f64; 384],
-    orders: [OrderRecord; 64],
+    sheets: &[f64; SHEETS],
+    orders: [OrderRecord; SHEET],
     t: f64,
     table: &[f64],
     i: usize,
-    alphas: &mut [f64; 64],
+    alphas: &mut [f64; SHEET],
 ) -> bool
     requires { ⌜ (n ≤ side) × (length (now table) ≡ 4 * sheet) × (i < n) ⌝ }
     ensures { λ r. ⌜ heldOr6 r (now (alphas .exit)) ≡ alphaRow floats (calls floats port) (sheetsOf floats n (now (sheets .entry)) orders t (now (table .entry))) i (now (alphas .entry)) ⌝ }
@@ -337,8 +335,8 @@ fn alpha_row(
     for k in 0usize..n - i {
         let e = SIDE * i + (i + k);
         let pair = pair_at(sheets, orders, t, e);
-        let s = table[FIRST + e];
-        let depth = table[THIRD + e];
+        let s = table[SIGMA_EFF + e];
+        let depth = table[EPSILON_K_EFF + e];
         let FloatAnswer::Value(a) = saftvrqmie_dispersion::alpha_ij(pair, s, depth) else {
             return false;
         };
@@ -350,11 +348,11 @@ fn alpha_row(
 
 fn alphas_of(
     n: usize,
-    sheets: &[f64; 384],
-    orders: [OrderRecord; 64],
+    sheets: &[f64; SHEETS],
+    orders: [OrderRecord; SHEET],
     t: f64,
     table: &[f64],
-    alphas: &mut [f64; 64],
+    alphas: &mut [f64; SHEET],
 ) -> bool
     requires { ⌜ (n ≤ side) × (length (now table) ≡ 4 * sheet) ⌝ }
     ensures { λ r. ⌜ heldOr6 r (now (alphas .exit)) ≡ walk n (alphaRow floats (calls floats port) (sheetsOf floats n (now (sheets .entry)) orders t (now (table .entry)))) (now (alphas .entry)) ⌝ }
@@ -369,8 +367,8 @@ fn alphas_of(
 
 // What both perturbations of the pair at entry e take.
 fn perturbed_pair(
-    sheets: &[f64; 384],
-    orders: [OrderRecord; 64],
+    sheets: &[f64; SHEETS],
+    orders: [OrderRecord; SHEET],
     t: f64,
     table: &[f64],
     w: SegmentState,
@@ -380,9 +378,9 @@ fn perturbed_pair(
     ensures { λ r. ⌜ dispersionIn r ≡ dispersionPair floats (pairOf floats (now (sheets .entry)) orders t e) (sheetOf floats (now (table .entry)) 1 e) (sheetOf floats (now (table .entry)) 0 e) (sheetOf floats (now (table .entry)) 3 e) (w .zeta) ⌝ }
 {
     let pair = pair_at(sheets, orders, t, e);
-    let d = table[SECOND + e];
-    let s = table[FIRST + e];
-    let q = table[FOURTH + e];
+    let d = table[HS_DIAMETER + e];
+    let s = table[SIGMA_EFF + e];
+    let q = table[QUANTUM_D + e];
     saftvrqmie_dispersion::dispersion_pair(pair, d, s, q, w.zeta)
 }
 
@@ -404,11 +402,11 @@ fn lead(i: usize, j: usize, xi: f64, xj: f64, rho_s: f64, d: f64) -> f64
 
 fn first_row(
     n: usize,
-    sheets: &[f64; 384],
-    orders: [OrderRecord; 64],
+    sheets: &[f64; SHEETS],
+    orders: [OrderRecord; SHEET],
     t: f64,
     table: &[f64],
-    xs: &[f64; 8],
+    xs: &[f64; SIDE],
     w: SegmentState,
     i: usize,
     sum: f64,
@@ -423,7 +421,7 @@ fn first_row(
         let FloatAnswer::Value(v) = saftvrqmie_dispersion::first_order_perturbation_ij(pair) else {
             return FloatAnswer::Outside;
         };
-        let d = table[SECOND + e];
+        let d = table[HS_DIAMETER + e];
         a1 = a1 + lead(i, i + k, xs[i], xs[i + k], w.rho_s, d) * v;
     }
     FloatAnswer::Value(a1)
@@ -431,11 +429,11 @@ fn first_row(
 
 fn first(
     n: usize,
-    sheets: &[f64; 384],
-    orders: [OrderRecord; 64],
+    sheets: &[f64; SHEETS],
+    orders: [OrderRecord; SHEET],
     t: f64,
     table: &[f64],
-    xs: &[f64; 8],
+    xs: &[f64; SIDE],
     w: SegmentState,
 ) -> FloatAnswer
     requires { ⌜ (n ≤ side) × (length (now table) ≡ 4 * sheet) ⌝ }
@@ -453,13 +451,13 @@ fn first(
 
 fn second_row(
     n: usize,
-    sheets: &[f64; 384],
-    orders: [OrderRecord; 64],
+    sheets: &[f64; SHEETS],
+    orders: [OrderRecord; SHEET],
     t: f64,
     table: &[f64],
-    xs: &[f64; 8],
+    xs: &[f64; SIDE],
     w: SegmentState,
-    alphas: &[f64; 64],
+    alphas: &[f64; SHEET],
     i: usize,
     sum: f64,
 ) -> FloatAnswer
@@ -473,7 +471,7 @@ fn second_row(
         let FloatAnswer::Value(v) = saftvrqmie_dispersion::second_order_perturbation_ij(pair) else {
             return FloatAnswer::Outside;
         };
-        let d = table[SECOND + e];
+        let d = table[HS_DIAMETER + e];
         let chi = saftvrqmie_dispersion::chi(alphas[e], w.zeta_bar);
         a2 = a2 + lead(i, i + k, xs[i], xs[i + k], w.rho_s, d) * (chi + 1.0) * v;
     }
@@ -482,13 +480,13 @@ fn second_row(
 
 fn second(
     n: usize,
-    sheets: &[f64; 384],
-    orders: [OrderRecord; 64],
+    sheets: &[f64; SHEETS],
+    orders: [OrderRecord; SHEET],
     t: f64,
     table: &[f64],
-    xs: &[f64; 8],
+    xs: &[f64; SIDE],
     w: SegmentState,
-    alphas: &[f64; 64],
+    alphas: &[f64; SHEET],
 ) -> FloatAnswer
     requires { ⌜ (n ≤ side) × (length (now table) ≡ 4 * sheet) ⌝ }
     ensures { λ r. ⌜ answer r ≡ second floats (calls floats port) (sheetsOf floats n (now (sheets .entry)) orders t (now (table .entry))) (points floats (now (xs .entry))) (mixtureIn w) (points floats (now (alphas .entry))) ⌝ }
@@ -508,9 +506,9 @@ fn second(
 fn third_row(
     n: usize,
     table: &[f64],
-    xs: &[f64; 8],
+    xs: &[f64; SIDE],
     w: SegmentState,
-    alphas: &[f64; 64],
+    alphas: &[f64; SHEET],
     i: usize,
     sum: f64,
 ) -> FloatAnswer
@@ -520,7 +518,7 @@ fn third_row(
     let mut a3 = sum;
     for j in 0usize..n {
         let e = SIDE * i + j;
-        let depth = table[THIRD + e];
+        let depth = table[EPSILON_K_EFF + e];
         let FloatAnswer::Value(v) = saftvrqmie_dispersion::third_order_perturbation_ij(
             depth,
             alphas[e],
@@ -533,7 +531,13 @@ fn third_row(
     FloatAnswer::Value(a3)
 }
 
-fn third(n: usize, table: &[f64], xs: &[f64; 8], w: SegmentState, alphas: &[f64; 64]) -> FloatAnswer
+fn third(
+    n: usize,
+    table: &[f64],
+    xs: &[f64; SIDE],
+    w: SegmentState,
+    alphas: &[f64; SHEET],
+) -> FloatAnswer
     requires { ⌜ (n ≤ side) × (length (now table) ≡ 4 * sheet) ⌝ }
     ensures { λ r. ⌜ answer r ≡ third floats (calls floats port) n (sheetOf floats (now (table .entry)) 2) (points floats (now (xs .entry))) (w .«zeta_bar») (points floats (now (alphas .entry))) ⌝ }
 {
@@ -547,7 +551,7 @@ fn third(n: usize, table: &[f64], xs: &[f64; 8], w: SegmentState, alphas: &[f64;
     FloatAnswer::Value(a3)
 }
 
-fn mixture(n: usize, xs: &[f64; 8], rho: &[f64], m: &[f64; 8], table: &[f64]) -> SegmentState
+fn mixture(n: usize, xs: &[f64; SIDE], rho: &[f64], m: &[f64; SIDE], table: &[f64]) -> SegmentState
     requires { ⌜ (n ≤ side) × (length (now table) ≡ 4 * sheet) × (length (now rho) ≡ n) ⌝ }
     ensures { λ r. ⌜ mixtureIn r ≡ mixture floats (calls floats port) n (sheetOf floats (now (table .entry)) 0) (sheetOf floats (now (table .entry)) 1) (points floats (now (xs .entry))) (points floats (now (rho .entry))) (points floats (now (m .entry))) ⌝ }
 {
@@ -570,9 +574,9 @@ fn perturbation(temperature: f64, a1: f64, a2: f64, a3: f64) -> f64
 
 fn dispersion(
     n: usize,
-    m: &[f64; 8],
-    sheets: &[f64; 384],
-    orders: [OrderRecord; 64],
+    m: &[f64; SIDE],
+    sheets: &[f64; SHEETS],
+    orders: [OrderRecord; SHEET],
     t: f64,
     x: &[f64],
     rho: &[f64],
@@ -583,7 +587,7 @@ fn dispersion(
 {
     let xs = segment_fractions(n, x, m);
     let w = mixture(n, &xs, rho, m, table);
-    let mut alphas = [0.0; 64];
+    let mut alphas = [0.0; SHEET];
     if !alphas_of(n, sheets, orders, t, table, &mut alphas) {
         return FloatAnswer::Outside;
     }
@@ -613,7 +617,7 @@ fn all_finite(e: QuantumEnergies) -> bool
 pub fn right_lengths(n: usize, x: &[f64], rho: &[f64], table: &[f64]) -> bool
     ensures { λ r. ⌜ r ≡ rightLengths n (now (x .entry)) (now (rho .entry)) (now (table .entry)) ⌝ }
 {
-    limits::count_within(n) & (x.len() == n) & (rho.len() == n) & (table.len() == FIFTH)
+    limits::count_within(n) & (x.len() == n) & (rho.len() == n) & (table.len() == TABLE)
 }
 
 // The lists are as long as the count: both operations refuse others with 1 before they ask.
@@ -625,7 +629,7 @@ pub fn within_limits(n: usize, t: f64, x: &[f64], rho: &[f64]) -> bool
 }
 
 // Not wanted: +0, and nothing of it is worked.
-fn wanted_part(n: usize, rho: &[f64], m: &[f64; 8], table: &[f64], wanted: bool) -> f64
+fn wanted_part(n: usize, rho: &[f64], m: &[f64; SIDE], table: &[f64], wanted: bool) -> f64
     requires { ⌜ (n ≤ side) × (length (now table) ≡ 4 * sheet) × (length (now rho) ≡ n) ⌝ }
     ensures { λ r. ⌜ r ≡ cond wanted (nonAdditive floats (calls floats port) n (points floats (now (rho .entry))) (points floats (now (m .entry))) (sheetOf floats (now (table .entry)) 1)) zero64 ⌝ }
 {
@@ -638,9 +642,9 @@ fn wanted_part(n: usize, rho: &[f64], m: &[f64; 8], table: &[f64], wanted: bool)
 // Hard sphere, dispersion and, if wanted, non-additive, over a set's parts. 1, 2, 6, 7.
 pub fn energies_of(
     n: usize,
-    m: &[f64; 8],
-    sheets: &[f64; 384],
-    orders: [OrderRecord; 64],
+    m: &[f64; SIDE],
+    sheets: &[f64; SHEETS],
+    orders: [OrderRecord; SHEET],
     temperature: f64,
     fractions: &[f64],
     densities: &[f64],

@@ -6,7 +6,7 @@ ghost use lib.ListN.{length};
 ghost use mathlib.Core.Bool.{cond};
 ghost use Rattle.number.specs.Arith.{zero64, whole};
 ghost use Rattle.number.specs.Functions.{calls};
-ghost use Rattle.number.specs.Side.{side, sheet};
+ghost use Rattle.sizes.specs.Sizes.{side, sheet};
 ghost use Rattle.elementary.specs.Port.{port};
 ghost use Rattle.enclosure.specs.Answer.{answer};
 ghost use Rattle.enclosure.specs.Enclosure.{enclosures, addE, mulE, divE, point};
@@ -27,27 +27,22 @@ ghost use Rattle.saftvrqmie_energies_ends.specs.Parts.{zetaIn, zeta23In,
 use enclosure::Enclosure;
 use enclosure::EnclosureAnswer;
 use enclosure::Ends;
-use number::SHEET;
-use number::SIDE;
 use saftvrqmie_alpha_ends::PairEnclosures;
 use saftvrqmie_dispersion_ends::DispersionEnclosures;
 use saftvrqmie_parameters::OrderRecord;
 use saftvrqmie_parameters::SaftVRQMiePars;
+use sizes::SHEET;
+use sizes::SHEETS;
+use sizes::SIDE;
+use sizes::quantum_set::C_IJ;
+use sizes::quantum_set::EPSILON_K_IJ;
+use sizes::quantum_set::LAMBDA_A_IJ;
+use sizes::quantum_set::LAMBDA_R_IJ;
+use sizes::quantum_set::MASS_IJ;
 
 const PI: f64 = 3.141592653589793;
 
 const FRAC_PI_6: f64 = 0.5235987755982989;
-
-// Where the sheets of a set start.
-const SECOND: usize = SHEET;
-
-const THIRD: usize = 2 * SHEET;
-
-const FOURTH: usize = 3 * SHEET;
-
-const FIFTH: usize = 4 * SHEET;
-
-const SIXTH: usize = 5 * SHEET;
 
 struct ZetaEnclosures {
     z0: Enclosure,
@@ -82,7 +77,7 @@ pub enum EnergiesEndsAnswer {
 // Alphas of the pairs, and whether each power was inside.
 struct AlphaSheet {
     inside: bool,
-    values: [Enclosure; 64],
+    values: [Enclosure; SHEET],
 }
 
 // ---- what contributions share
@@ -103,21 +98,21 @@ fn entry_of(table: &[f64], k: usize, e: usize) -> Enclosure
 }
 
 // Entry i of an array; beyond it is not read.
-fn at_8(xs: [Enclosure; 8], i: usize) -> Enclosure
+fn at_component(xs: [Enclosure; SIDE], i: usize) -> Enclosure
     requires { ⌜ i < side ⌝ }
     ensures { λ r. ⌜ r ≡ nth enclosures xs i ⌝ }
 {
     xs[i]
 }
 
-fn at_64(xs: [Enclosure; 64], e: usize) -> Enclosure
+fn at_pair(xs: [Enclosure; SHEET], e: usize) -> Enclosure
     requires { ⌜ e < sheet ⌝ }
     ensures { λ r. ⌜ r ≡ nth enclosures xs e ⌝ }
 {
     xs[e]
 }
 
-fn segment_density(n: usize, rho: &[f64], m: &[f64; 8]) -> Enclosure
+fn segment_density(n: usize, rho: &[f64], m: &[f64; SIDE]) -> Enclosure
     requires { ⌜ (n ≤ side) × (length (now rho) ≡ n) ⌝ }
     ensures { λ r. ⌜ r ≡ weighted enclosures n (points enclosures (now (rho .entry))) (points enclosures (now (m .entry))) ⌝ }
 {
@@ -157,7 +152,7 @@ fn zeta_added(rho: Enclosure, d: Enclosure, m: Enclosure, z: ZetaEnclosures) -> 
     }
 }
 
-fn zeta(n: usize, rho: &[f64], table: &[f64], m: &[f64; 8]) -> ZetaEnclosures
+fn zeta(n: usize, rho: &[f64], table: &[f64], m: &[f64; SIDE]) -> ZetaEnclosures
     requires { ⌜ (n ≤ side) × (length (now rho) ≡ n) × (length (now table) ≡ 4 * sheet) ⌝ }
     ensures { λ r. ⌜ zetaIn r ≡ zeta enclosures (calls enclosures port) n (points enclosures (now (rho .entry))) (diagonal (sheetOf enclosures (now (table .entry)) 1)) (points enclosures (now (m .entry))) ⌝ }
 {
@@ -195,7 +190,7 @@ fn zeta_23_added(x: Enclosure, d: Enclosure, m: Enclosure, y: Zeta23Enclosures) 
     }
 }
 
-fn zeta_23(n: usize, x: &[f64], table: &[f64], m: &[f64; 8]) -> Enclosure
+fn zeta_23(n: usize, x: &[f64], table: &[f64], m: &[f64; SIDE]) -> Enclosure
     requires { ⌜ (n ≤ side) × (length (now x) ≡ n) × (length (now table) ≡ 4 * sheet) ⌝ }
     ensures { λ r. ⌜ r ≡ zeta23 enclosures n (points enclosures (now (x .entry))) (diagonal (sheetOf enclosures (now (table .entry)) 1)) (points enclosures (now (m .entry))) ⌝ }
 {
@@ -229,7 +224,7 @@ fn hard_sphere(
     n: usize,
     x: &[f64],
     table: &[f64],
-    m: &[f64; 8],
+    m: &[f64; SIDE],
     z: ZetaEnclosures,
 ) -> EnclosureAnswer
     requires { ⌜ (n ≤ side) × (length (now x) ≡ n) × (length (now table) ≡ 4 * sheet) ⌝ }
@@ -283,12 +278,12 @@ fn non_additive_ij(
 }
 
 // x_s of the non-additive part.
-fn density_shares(n: usize, rho_s: Enclosure, rho: &[f64], m: &[f64; 8]) -> [Enclosure; 8]
+fn density_shares(n: usize, rho_s: Enclosure, rho: &[f64], m: &[f64; SIDE]) -> [Enclosure; SIDE]
     requires { ⌜ (n ≤ side) × (length (now rho) ≡ n) ⌝ }
     ensures { λ r. ⌜ r ≡ densityShares enclosures (calls enclosures port) n «rho_s» (points enclosures (now (rho .entry))) (points enclosures (now (m .entry))) ⌝ }
 {
     let zero = enclosure::point(0.0);
-    let mut x = [zero; 8];
+    let mut x = [zero; SIDE];
     for i in 0usize..n {
         let a = enclosure::point(rho[i]);
         let b = enclosure::point(m[i]);
@@ -300,7 +295,7 @@ fn density_shares(n: usize, rho_s: Enclosure, rho: &[f64], m: &[f64; 8]) -> [Enc
 
 fn non_additive_column(
     n: usize,
-    xs: [Enclosure; 8],
+    xs: [Enclosure; SIDE],
     table: &[f64],
     rho_s: Enclosure,
     z2: Enclosure,
@@ -316,8 +311,8 @@ fn non_additive_column(
         let di = entry_of(table, 1, SIDE * i + i);
         let dj = entry_of(table, 1, SIDE * j + j);
         let dij = entry_of(table, 1, SIDE * i + j);
-        let xi = at_8(xs, i);
-        let xj = at_8(xs, j);
+        let xi = at_component(xs, i);
+        let xj = at_component(xs, j);
         let v = non_additive_ij(rho_s, xi, xj, di, dj, dij, z2, f);
         r = enclosure::add(r, v);
     }
@@ -326,7 +321,7 @@ fn non_additive_column(
 
 fn non_additive_sum(
     n: usize,
-    xs: [Enclosure; 8],
+    xs: [Enclosure; SIDE],
     table: &[f64],
     rho_s: Enclosure,
     z2: Enclosure,
@@ -342,7 +337,13 @@ fn non_additive_sum(
     r
 }
 
-fn non_additive(n: usize, rho: &[f64], m: &[f64; 8], table: &[f64], z: ZetaEnclosures) -> Enclosure
+fn non_additive(
+    n: usize,
+    rho: &[f64],
+    m: &[f64; SIDE],
+    table: &[f64],
+    z: ZetaEnclosures,
+) -> Enclosure
     requires { ⌜ (n ≤ side) × (length (now table) ≡ 4 * sheet) × (length (now rho) ≡ n) × (zetaIn z ≡ zeta enclosures (calls enclosures port) n (points enclosures (now rho)) (diagonal (sheetOf enclosures (now table) 1)) (points enclosures (now m))) ⌝ }
     ensures { λ r. ⌜ r ≡ nonAdditive enclosures (calls enclosures port) n (points enclosures (now (rho .entry))) (points enclosures (now (m .entry))) (sheetOf enclosures (now (table .entry)) 1) ⌝ }
 {
@@ -356,7 +357,7 @@ fn non_additive(n: usize, rho: &[f64], m: &[f64; 8], table: &[f64], z: ZetaEnclo
 // ---- dispersion
 
 // x_s.sum().recip()
-fn inv_x_s_sum(n: usize, x: &[f64], m: &[f64; 8]) -> Enclosure
+fn inv_x_s_sum(n: usize, x: &[f64], m: &[f64; SIDE]) -> Enclosure
     requires { ⌜ (n ≤ side) × (length (now x) ≡ n) ⌝ }
     ensures { λ r. ⌜ r ≡ invXsSum enclosures n (points enclosures (now (x .entry))) (points enclosures (now (m .entry))) ⌝ }
 {
@@ -371,13 +372,13 @@ fn inv_x_s_sum(n: usize, x: &[f64], m: &[f64; 8]) -> Enclosure
 }
 
 // x_s of the dispersion.
-fn segment_fractions(n: usize, x: &[f64], m: &[f64; 8]) -> [Enclosure; 8]
+fn segment_fractions(n: usize, x: &[f64], m: &[f64; SIDE]) -> [Enclosure; SIDE]
     requires { ⌜ (n ≤ side) × (length (now x) ≡ n) ⌝ }
     ensures { λ r. ⌜ r ≡ segmentFractions enclosures n (points enclosures (now (x .entry))) (points enclosures (now (m .entry))) ⌝ }
 {
     let inv = inv_x_s_sum(n, x, m);
     let zero = enclosure::point(0.0);
-    let mut xs = [zero; 8];
+    let mut xs = [zero; SIDE];
     for i in 0usize..n {
         let a = enclosure::point(x[i]);
         let b = enclosure::point(m[i]);
@@ -389,7 +390,7 @@ fn segment_fractions(n: usize, x: &[f64], m: &[f64; 8]) -> [Enclosure; 8]
 
 fn packing_row(
     n: usize,
-    xs: [Enclosure; 8],
+    xs: [Enclosure; SIDE],
     table: &[f64],
     k: usize,
     i: usize,
@@ -401,8 +402,8 @@ fn packing_row(
     let mut r = sum;
     for j in 0usize..n {
         let d = entry_of(table, k, SIDE * i + j);
-        let xi = at_8(xs, i);
-        let xj = at_8(xs, j);
+        let xi = at_component(xs, i);
+        let xj = at_component(xs, j);
         let x = enclosure::mul(xi, xj);
         r = plus_product(r, x, enclosure::pow_up(d, 3));
     }
@@ -410,7 +411,7 @@ fn packing_row(
 }
 
 // `zeta_saft_vrq_mie` of sheet k.
-fn packing(n: usize, xs: [Enclosure; 8], table: &[f64], k: usize, rho_s: Enclosure) -> Enclosure
+fn packing(n: usize, xs: [Enclosure; SIDE], table: &[f64], k: usize, rho_s: Enclosure) -> Enclosure
     requires { ⌜ (n ≤ side) × (length (now table) ≡ 4 * sheet) × (k < 2) ⌝ }
     ensures { λ r. ⌜ r ≡ packing enclosures (calls enclosures port) n (nth enclosures xs) (sheetOf enclosures (now (table .entry)) k) «rho_s» ⌝ }
 {
@@ -424,9 +425,9 @@ fn packing(n: usize, xs: [Enclosure; 8], table: &[f64], k: usize, rho_s: Enclosu
 
 fn mixture(
     n: usize,
-    xs: [Enclosure; 8],
+    xs: [Enclosure; SIDE],
     rho: &[f64],
-    m: &[f64; 8],
+    m: &[f64; SIDE],
     table: &[f64],
 ) -> MixtureEnclosures
     requires { ⌜ (n ≤ side) × (length (now table) ≡ 4 * sheet) × (length (now rho) ≡ n) ⌝ }
@@ -481,7 +482,7 @@ fn lead(
 }
 
 // The pair at entry e of a set's sheets.
-fn pair_at(sheets: &[f64; 384], orders: [OrderRecord; 64], t: f64, e: usize) -> PairEnclosures
+fn pair_at(sheets: &[f64; SHEETS], orders: [OrderRecord; SHEET], t: f64, e: usize) -> PairEnclosures
     requires { ⌜ e < sheet ⌝ }
     ensures { λ r. ⌜ pairIn r ≡ pairOf enclosures (now (sheets .entry)) orders t e ⌝ }
 {
@@ -489,11 +490,11 @@ fn pair_at(sheets: &[f64; 384], orders: [OrderRecord; 64], t: f64, e: usize) -> 
     let order = record.order;
     PairEnclosures {
         sigma: enclosure::point(sheets[e]),
-        epsilon_k: enclosure::point(sheets[SECOND + e]),
-        c: enclosure::point(sheets[THIRD + e]),
-        lr: enclosure::point(sheets[FOURTH + e]),
-        la: enclosure::point(sheets[FIFTH + e]),
-        mass: enclosure::point(sheets[SIXTH + e]),
+        epsilon_k: enclosure::point(sheets[EPSILON_K_IJ + e]),
+        c: enclosure::point(sheets[C_IJ + e]),
+        lr: enclosure::point(sheets[LAMBDA_R_IJ + e]),
+        la: enclosure::point(sheets[LAMBDA_A_IJ + e]),
+        mass: enclosure::point(sheets[MASS_IJ + e]),
         order: order,
         temperature: enclosure::point(t),
     }
@@ -501,8 +502,8 @@ fn pair_at(sheets: &[f64; 384], orders: [OrderRecord; 64], t: f64, e: usize) -> 
 
 // What both perturbations of the pair at entry e take.
 fn perturbed_pair(
-    sheets: &[f64; 384],
-    orders: [OrderRecord; 64],
+    sheets: &[f64; SHEETS],
+    orders: [OrderRecord; SHEET],
     t: f64,
     table: &[f64],
     w: MixtureEnclosures,
@@ -521,12 +522,12 @@ fn perturbed_pair(
 // `Alpha::new` of a row, written into what stands.
 fn alpha_row(
     n: usize,
-    sheets: &[f64; 384],
-    orders: [OrderRecord; 64],
+    sheets: &[f64; SHEETS],
+    orders: [OrderRecord; SHEET],
     t: f64,
     table: &[f64],
     i: usize,
-    old: [Enclosure; 64],
+    old: [Enclosure; SHEET],
 ) -> AlphaSheet
     requires { ⌜ (n ≤ side) × (length (now table) ≡ 4 * sheet) × (i < n) ⌝ }
     ensures { λ r. ⌜ heldOr6 (r .inside) (r .values) ≡ alphaRow enclosures (calls enclosures port) (sheetsOf enclosures n (now (sheets .entry)) orders t (now (table .entry))) i old ⌝ }
@@ -555,8 +556,8 @@ fn alpha_row(
 // The first row apart: of two callers alpha_row is not inlined, which would take the sheet apart entry by entry.
 fn alphas_of(
     n: usize,
-    sheets: &[f64; 384],
-    orders: [OrderRecord; 64],
+    sheets: &[f64; SHEETS],
+    orders: [OrderRecord; SHEET],
     t: f64,
     table: &[f64],
 ) -> AlphaSheet
@@ -564,7 +565,7 @@ fn alphas_of(
     ensures { λ r. ⌜ heldOr6 (r .inside) (r .values) ≡ alphas enclosures (calls enclosures port) (sheetsOf enclosures n (now (sheets .entry)) orders t (now (table .entry))) ⌝ }
 {
     let zero = enclosure::point(0.0);
-    let blank = [zero; 64];
+    let blank = [zero; SHEET];
     if n == 0 {
         return AlphaSheet {
             inside: true,
@@ -591,11 +592,11 @@ fn alphas_of(
 
 fn first_row(
     n: usize,
-    sheets: &[f64; 384],
-    orders: [OrderRecord; 64],
+    sheets: &[f64; SHEETS],
+    orders: [OrderRecord; SHEET],
     t: f64,
     table: &[f64],
-    xs: [Enclosure; 8],
+    xs: [Enclosure; SIDE],
     w: MixtureEnclosures,
     i: usize,
     sum: Enclosure,
@@ -613,8 +614,8 @@ fn first_row(
             return EnclosureAnswer::Outside;
         };
         let d = entry_of(table, 1, e);
-        let xi = at_8(xs, i);
-        let xj = at_8(xs, i + k);
+        let xi = at_component(xs, i);
+        let xj = at_component(xs, i + k);
         let c = lead(i, i + k, xi, xj, w.rho_s, d);
         a1 = plus_product(a1, c, v);
     }
@@ -623,11 +624,11 @@ fn first_row(
 
 fn first(
     n: usize,
-    sheets: &[f64; 384],
-    orders: [OrderRecord; 64],
+    sheets: &[f64; SHEETS],
+    orders: [OrderRecord; SHEET],
     t: f64,
     table: &[f64],
-    xs: [Enclosure; 8],
+    xs: [Enclosure; SIDE],
     w: MixtureEnclosures,
 ) -> EnclosureAnswer
     requires { ⌜ (n ≤ side) × (length (now table) ≡ 4 * sheet) ⌝ }
@@ -646,13 +647,13 @@ fn first(
 
 fn second_row(
     n: usize,
-    sheets: &[f64; 384],
-    orders: [OrderRecord; 64],
+    sheets: &[f64; SHEETS],
+    orders: [OrderRecord; SHEET],
     t: f64,
     table: &[f64],
-    xs: [Enclosure; 8],
+    xs: [Enclosure; SIDE],
     w: MixtureEnclosures,
-    alphas: [Enclosure; 64],
+    alphas: [Enclosure; SHEET],
     i: usize,
     sum: Enclosure,
 ) -> EnclosureAnswer
@@ -670,10 +671,10 @@ fn second_row(
             return EnclosureAnswer::Outside;
         };
         let d = entry_of(table, 1, e);
-        let a = at_64(alphas, e);
+        let a = at_pair(alphas, e);
         let chi = saftvrqmie_alpha_ends::chi(a, w.zeta_bar);
-        let xi = at_8(xs, i);
-        let xj = at_8(xs, i + k);
+        let xi = at_component(xs, i);
+        let xj = at_component(xs, i + k);
         let c = lead(i, i + k, xi, xj, w.rho_s, d);
         let f = enclosure::mul(c, enclosure::add(chi, one));
         a2 = plus_product(a2, f, v);
@@ -683,13 +684,13 @@ fn second_row(
 
 fn second(
     n: usize,
-    sheets: &[f64; 384],
-    orders: [OrderRecord; 64],
+    sheets: &[f64; SHEETS],
+    orders: [OrderRecord; SHEET],
     t: f64,
     table: &[f64],
-    xs: [Enclosure; 8],
+    xs: [Enclosure; SIDE],
     w: MixtureEnclosures,
-    alphas: [Enclosure; 64],
+    alphas: [Enclosure; SHEET],
 ) -> EnclosureAnswer
     requires { ⌜ (n ≤ side) × (length (now table) ≡ 4 * sheet) ⌝ }
     ensures { λ r. ⌜ answer r ≡ second enclosures (calls enclosures port) (sheetsOf enclosures n (now (sheets .entry)) orders t (now (table .entry))) (nth enclosures xs) (mixtureIn w) (nth enclosures alphas) ⌝ }
@@ -719,9 +720,9 @@ fn second(
 fn third_row(
     n: usize,
     table: &[f64],
-    xs: [Enclosure; 8],
+    xs: [Enclosure; SIDE],
     zeta_bar: Enclosure,
-    alphas: [Enclosure; 64],
+    alphas: [Enclosure; SHEET],
     i: usize,
     sum: Enclosure,
 ) -> EnclosureAnswer
@@ -732,7 +733,7 @@ fn third_row(
     for j in 0usize..n {
         let e = SIDE * i + j;
         let depth = entry_of(table, 2, e);
-        let a = at_64(alphas, e);
+        let a = at_pair(alphas, e);
         let EnclosureAnswer::Value(v) = saftvrqmie_alpha_ends::third_order_perturbation_ij(
             depth,
             a,
@@ -740,8 +741,8 @@ fn third_row(
         ) else {
             return EnclosureAnswer::Outside;
         };
-        let xi = at_8(xs, i);
-        let xj = at_8(xs, j);
+        let xi = at_component(xs, i);
+        let xj = at_component(xs, j);
         let c = enclosure::mul(xi, xj);
         a3 = plus_product(a3, c, v);
     }
@@ -751,9 +752,9 @@ fn third_row(
 fn third(
     n: usize,
     table: &[f64],
-    xs: [Enclosure; 8],
+    xs: [Enclosure; SIDE],
     zeta_bar: Enclosure,
-    alphas: [Enclosure; 64],
+    alphas: [Enclosure; SHEET],
 ) -> EnclosureAnswer
     requires { ⌜ (n ≤ side) × (length (now table) ≡ 4 * sheet) ⌝ }
     ensures { λ r. ⌜ answer r ≡ third enclosures (calls enclosures port) n (sheetOf enclosures (now (table .entry)) 2) (nth enclosures xs) «zeta_bar» (nth enclosures alphas) ⌝ }
@@ -770,9 +771,9 @@ fn third(
 
 fn dispersion(
     n: usize,
-    m: &[f64; 8],
-    sheets: &[f64; 384],
-    orders: [OrderRecord; 64],
+    m: &[f64; SIDE],
+    sheets: &[f64; SHEETS],
+    orders: [OrderRecord; SHEET],
     t: f64,
     x: &[f64],
     rho: &[f64],
@@ -806,7 +807,7 @@ fn dispersion(
 fn wanted_part(
     n: usize,
     rho: &[f64],
-    m: &[f64; 8],
+    m: &[f64; SIDE],
     table: &[f64],
     z: ZetaEnclosures,
     wanted: bool,
@@ -850,9 +851,9 @@ fn all_sound(h: Enclosure, d: Enclosure, a: Enclosure) -> bool
 // The two ends of hard sphere, dispersion and, if wanted, non-additive, over a set's parts. 1, 2, 6, 7, 8.
 pub fn energies_ends_of(
     n: usize,
-    m: &[f64; 8],
-    sheets: &[f64; 384],
-    orders: [OrderRecord; 64],
+    m: &[f64; SIDE],
+    sheets: &[f64; SHEETS],
+    orders: [OrderRecord; SHEET],
     temperature: f64,
     fractions: &[f64],
     densities: &[f64],

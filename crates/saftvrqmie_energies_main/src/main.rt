@@ -4,6 +4,15 @@ use saftvrqmie::SearchesAnswer;
 use saftvrqmie_energies::EnergiesAnswer;
 use saftvrqmie_energies::QuantumEnergies;
 use saftvrqmie_parameters::SaftVRQMiePars;
+use sizes::COUNTS;
+use sizes::TABLE;
+use sizes::counts::DEPTH;
+use sizes::counts::ZERO;
+use sizes::quantum_set::LAMBDA_A_IJ;
+use sizes::quantum_set::MASS_IJ;
+use sizes::table::EPSILON_K_EFF;
+use sizes::table::HS_DIAMETER;
+use sizes::table::QUANTUM_D;
 
 // What a case changes of a fluid like hydrogen.
 struct Case {
@@ -145,22 +154,22 @@ fn parameter_cases() {
 
 // A refused table leaves both lists as they were: their first entries are shown.
 fn table(label: &[u8], s: SaftVRQMiePars, t: f64) {
-    let mut values = [0.5; 256];
-    let mut counts = [200u8; 192];
+    let mut values = [0.5; TABLE];
+    let mut counts = [200u8; COUNTS];
     io::write_all(1, label);
     let answer = saftvrqmie::temperature_dependent_properties(s, t, &mut values, &mut counts);
     count(mie_parameters::number(answer));
     count(counts[0]);
-    count(counts[64]);
-    count(counts[128]);
+    count(counts[ZERO]);
+    count(counts[DEPTH]);
     bits(b"", values[0]);
     io::write_all(1, b"\n");
 }
 
 fn table_lengths() {
     let s = pure(hydrogen());
-    let mut values = [0.5; 256];
-    let mut counts = [200u8; 192];
+    let mut values = [0.5; TABLE];
+    let mut counts = [200u8; COUNTS];
     let mut few = [0.5; 255];
     let mut less = [200u8; 191];
     let a = saftvrqmie::temperature_dependent_properties(s, 30.0, &mut few, &mut counts);
@@ -171,15 +180,15 @@ fn table_lengths() {
 
 fn table_values() {
     let s = pure(hydrogen());
-    let mut values = [0.0; 256];
-    let mut counts = [0u8; 192];
+    let mut values = [0.0; TABLE];
+    let mut counts = [0u8; COUNTS];
     saftvrqmie::temperature_dependent_properties(s, 30.0, &mut values, &mut counts);
     io::write_all(1, b"its four values               ");
     say(
         within(values[0], 3.2359708712681146, 1.0e-9)
-            & within(values[64], 3.115043760920277, 1.0e-9)
-            & within(values[128], 21.98013066836959, 1.0e-9)
-            & within(values[192], 0.06684251823196656, 1.0e-9),
+            & within(values[HS_DIAMETER], 3.115043760920277, 1.0e-9)
+            & within(values[EPSILON_K_EFF], 21.98013066836959, 1.0e-9)
+            & within(values[QUANTUM_D], 0.06684251823196656, 1.0e-9),
     );
 }
 
@@ -193,11 +202,11 @@ fn table_cases() {
     let mut wide = s;
     wide.sheets[0] = 40.0;
     let mut first = s;
-    first.sheets[320] = 0.0;
+    first.sheets[MASS_IJ] = 0.0;
     let mut c = hydrogen();
     c.order = 0;
     let mut zeroth = pure(c);
-    zeroth.sheets[320] = 0.0;
+    zeroth.sheets[MASS_IJ] = 0.0;
     let mut small = hydrogen();
     small.sigma = 0.5;
     small.mass = 1.0e-27;
@@ -306,11 +315,11 @@ fn shown(label: &[u8], a: EnergiesAnswer) {
 fn energies(label: &[u8], s: SaftVRQMiePars, c: State, wanted: bool) {
     let x = [c.x];
     let rho = [c.rho];
-    let mut table = [0.0; 256];
+    let mut table = [0.0; TABLE];
     table[0] = c.sigma_eff;
-    table[64] = c.diameter;
-    table[128] = c.epsilon_k_eff;
-    table[192] = c.quantum_d;
+    table[HS_DIAMETER] = c.diameter;
+    table[EPSILON_K_EFF] = c.epsilon_k_eff;
+    table[QUANTUM_D] = c.quantum_d;
     let t = c.temperature;
     shown(
         label,
@@ -335,8 +344,8 @@ fn one_near() {
     let s = pure(hydrogen());
     let x = [1.0];
     let rho = [0.01];
-    let mut values = [0.0; 256];
-    let mut counts = [0u8; 192];
+    let mut values = [0.0; TABLE];
+    let mut counts = [0u8; COUNTS];
     saftvrqmie::temperature_dependent_properties(s, 30.0, &mut values, &mut counts);
     near(
         b"energies, hydrogen            ",
@@ -353,8 +362,8 @@ fn two_near() {
     let s = mixture();
     let x = [0.5, 0.5];
     let rho = [0.01, 0.01];
-    let mut values = [0.0; 256];
-    let mut counts = [0u8; 192];
+    let mut values = [0.0; TABLE];
+    let mut counts = [0u8; COUNTS];
     saftvrqmie::temperature_dependent_properties(s, 30.0, &mut values, &mut counts);
     near(
         b"energies, mixture             ",
@@ -371,7 +380,7 @@ fn path_cases() {
     let s = pure(hydrogen());
     let c = by_hand();
     let mut four = s;
-    four.sheets[256] = 4.0;
+    four.sheets[LAMBDA_A_IJ] = 4.0;
     let mut empty = c;
     empty.rho = 0.0;
     let mut unshared = c;
@@ -440,7 +449,7 @@ fn lengths(label: &[u8], x: &[f64], rho: &[f64], table: &[f64]) {
 }
 
 fn length_cases() {
-    let table = [3.0; 256];
+    let table = [3.0; TABLE];
     let few = [3.0; 255];
     let one = [0.01];
     let two = [0.01, 0.01];

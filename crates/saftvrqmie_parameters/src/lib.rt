@@ -6,7 +6,7 @@ ghost use lib.ListN.{length};
 ghost use Rattle.number.specs.Ans.{refused};
 ghost use Rattle.number.specs.Arith.{floats};
 ghost use Rattle.number.specs.Lists.{at};
-ghost use Rattle.number.specs.Side.{side, sheet};
+ghost use Rattle.sizes.specs.Sizes.{side, sheet};
 ghost use Rattle.number.specs.Walk.{walk};
 ghost use Rattle.limits.specs.Limits.{square, components};
 ghost use Rattle.saftvrqmie_parameters.specs.Combine.{sigmaIj, massIj};
@@ -15,8 +15,14 @@ ghost use Rattle.mie_parameters.specs.Answer.{outcome};
 use limits::Component;
 use mie_parameters::ParameterAnswer;
 use number::FloatAnswer;
-use number::SHEET;
-use number::SIDE;
+use sizes::SHEET;
+use sizes::SHEETS;
+use sizes::SIDE;
+use sizes::quantum_set::C_IJ;
+use sizes::quantum_set::EPSILON_K_IJ;
+use sizes::quantum_set::LAMBDA_A_IJ;
+use sizes::quantum_set::LAMBDA_R_IJ;
+use sizes::quantum_set::MASS_IJ;
 
 pub enum FeynmanHibbsOrder {
     FH0,
@@ -30,9 +36,9 @@ pub struct OrderRecord {
 
 pub struct SaftVRQMiePars {
     pub count: usize,
-    pub m: [f64; 8],
-    pub sheets: [f64; 384],
-    pub orders: [OrderRecord; 64],
+    pub m: [f64; SIDE],
+    pub sheets: [f64; SHEETS],
+    pub orders: [OrderRecord; SHEET],
 }
 
 pub struct ParameterSet {
@@ -58,11 +64,11 @@ pub enum PairAnswer {
 pub fn refused_with(number: u8) -> ParameterSet
     ensures { λ r. ⌜ r ≡ given (refused number) ⌝ }
 {
-    let m = [0.0; 8];
-    let sheets = [0.0; 384];
+    let m = [0.0; SIDE];
+    let sheets = [0.0; SHEETS];
     let orders = [OrderRecord {
         order: FeynmanHibbsOrder::FH0,
-    }; 64];
+    }; SHEET];
     let set = SaftVRQMiePars {
         count: 0,
         m,
@@ -162,16 +168,16 @@ fn pair_parameters(a: Component, b: Component, ma: f64, mb: f64, k: f64, l: f64)
     })
 }
 
-fn store_pair(s: &mut [f64; 384], e: usize, p: PairParameters)
+fn store_pair(s: &mut [f64; SHEETS], e: usize, p: PairParameters)
     requires { ⌜ e < sheet ⌝ }
     ensures { λ _. ⌜ now (s .exit) ≡ storePair (now (s .entry)) e p ⌝ }
 {
     s[e] = p.sigma;
-    s[SHEET + e] = p.epsilon_k;
-    s[2 * SHEET + e] = p.c;
-    s[3 * SHEET + e] = p.lr;
-    s[4 * SHEET + e] = p.la;
-    s[5 * SHEET + e] = p.mass;
+    s[EPSILON_K_IJ + e] = p.epsilon_k;
+    s[C_IJ + e] = p.c;
+    s[LAMBDA_R_IJ + e] = p.lr;
+    s[LAMBDA_A_IJ + e] = p.la;
+    s[MASS_IJ + e] = p.mass;
 }
 
 // Row i of the six sheets.
@@ -185,7 +191,7 @@ fn sheets_row(
     k_ij: &[f64],
     l_ij: &[f64],
     i: usize,
-    s: &mut [f64; 384],
+    s: &mut [f64; SHEETS],
 ) -> ParameterAnswer
     requires { ⌜ (n ≤ side) × (i < n) × (length (now sigma) ≡ n) × (length (now «epsilon_k») ≡ n) × (length (now lr) ≡ n) × (length (now la) ≡ n) × (length (now mass) ≡ n) × (length (now «k_ij») ≡ n * n) × (length (now «l_ij») ≡ n * n) ⌝ }
     ensures { λ r. ⌜ outcome r (now (s .exit)) ≡ sheetsRow n (components (now (sigma .entry)) (now («epsilon_k» .entry)) (now (lr .entry)) (now (la .entry))) (at (now (mass .entry))) (square n (now («k_ij» .entry))) (square n (now («l_ij» .entry))) i (now (s .entry)) ⌝ }
@@ -217,7 +223,7 @@ fn fill_sheets(
     mass: &[f64],
     k_ij: &[f64],
     l_ij: &[f64],
-    s: &mut [f64; 384],
+    s: &mut [f64; SHEETS],
 ) -> ParameterAnswer
     requires { ⌜ (n ≤ side) × (length (now sigma) ≡ n) × (length (now «epsilon_k») ≡ n) × (length (now lr) ≡ n) × (length (now la) ≡ n) × (length (now mass) ≡ n) × (length (now «k_ij») ≡ n * n) × (length (now «l_ij») ≡ n * n) ⌝ }
     ensures { λ r. ⌜ outcome r (now (s .exit)) ≡ walk n (sheetsRow n (components (now (sigma .entry)) (now («epsilon_k» .entry)) (now (lr .entry)) (now (la .entry))) (at (now (mass .entry))) (square n (now («k_ij» .entry))) (square n (now («l_ij» .entry)))) (now (s .entry)) ⌝ }
@@ -250,7 +256,7 @@ pub fn order_of(n: u8) -> FeynmanHibbsOrder
     FeynmanHibbsOrder::FH2
 }
 
-fn orders_row(s: [OrderRecord; 64], n: usize, fh: &[u8], i: usize) -> [OrderRecord; 64]
+fn orders_row(s: [OrderRecord; SHEET], n: usize, fh: &[u8], i: usize) -> [OrderRecord; SHEET]
     requires { ⌜ (n ≤ side) × (i < n) × (length (now fh) ≡ n) ⌝ }
     ensures { λ r. ⌜ r ≡ ordersRow n (now (fh .entry)) i s ⌝ }
 {
@@ -262,13 +268,13 @@ fn orders_row(s: [OrderRecord; 64], n: usize, fh: &[u8], i: usize) -> [OrderReco
     orders
 }
 
-fn orders_of(n: usize, fh: &[u8]) -> [OrderRecord; 64]
+fn orders_of(n: usize, fh: &[u8]) -> [OrderRecord; SHEET]
     requires { ⌜ (n ≤ side) × (length (now fh) ≡ n) ⌝ }
     ensures { λ r. ⌜ r ≡ ordersOf n (now (fh .entry)) ⌝ }
 {
     let mut orders = [OrderRecord {
         order: FeynmanHibbsOrder::FH0,
-    }; 64];
+    }; SHEET];
     for i in 0usize..n {
         let next = orders_row(orders, n, fh, i);
         orders = next;
@@ -364,7 +370,7 @@ pub fn parameters(
     let ParameterAnswer::Held = walked else {
         return refused_with(mie_parameters::number(walked));
     };
-    let mut sheets = [0.0; 384];
+    let mut sheets = [0.0; SHEETS];
     let filled = fill_sheets(
         count,
         sigma,

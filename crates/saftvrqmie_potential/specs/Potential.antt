@@ -9,7 +9,7 @@ use Rattle.number.specs.Ans.{Ans, held, refused, _>>=_}
 use Rattle.number.specs.Arith.{Arith, decimal, floats, whole}
 use Rattle.number.specs.Functions.{Functions}
 use Rattle.number.specs.Lists.{at}
-use Rattle.number.specs.Side.{sheet}
+use Rattle.sizes.specs.Sizes.{sheet}
 use Rattle.saftvrqmie_parameters.specs.Parameters.{unused}
 use Rattle.saftvrqmie_parameters.specs.declared.OrderRecord.{OrderRecord}
 use Rattle.saftvrqmie_parameters.specs.declared.FeynmanHibbsOrder.{FeynmanHibbsOrder}

@@ -8,7 +8,7 @@ use mathlib.Core.Path.{_≡_, refl, sym, ap, _∙_}
 use mathlib.Core.Bool.{Bool, true, false, _&&_}
 use borrow.Author.Tests.{eqb-true, leb-true}
 use Rattle.number.specs.Ans.{Ans, held, refused, _>>=_, demand}
-use Rattle.number.specs.Side.{side, sheet}
+use Rattle.sizes.specs.Sizes.{side, sheet}
 use Rattle.limits.specs.Limits.{countWithin}
 use Rattle.mie_parameters.specs.declared.ParameterAnswer.{ParameterAnswer}
 use Rattle.mie_parameters.specs.declared.ParameterAnswer.the-variants.{Held, Refused}

@@ -8,7 +8,7 @@ use mathlib.Core.Bool.{Bool, _&&_}
 use Rattle.number.specs.Ans.{Ans, held, _>>=_, demand}
 use Rattle.number.specs.Arith.{zero64}
 use Rattle.number.specs.Lists.{at}
-use Rattle.number.specs.Side.{side, sheet, cell}
+use Rattle.sizes.specs.Sizes.{side, sheet, cell}
 use Rattle.number.specs.Walk.{filled, every}
 use Rattle.limits.specs.Limits.{countWithin}
 use Rattle.saftvrqmie_parameters.specs.Parameters.{orderOf, unused}

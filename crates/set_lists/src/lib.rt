@@ -3,16 +3,18 @@ ghost use mathlib.Core.Path.{_≡_};
 ghost use mathlib.Core.Bool.{true};
 ghost use Prim.Native.Nat.{_+_, _*_, _<_, _≤_};
 ghost use lib.ListN.{length};
-ghost use Rattle.number.specs.Side.{side, sheet};
+ghost use Rattle.sizes.specs.Sizes.{side, sheet};
 ghost use Rattle.mie_parameters.specs.Answer.{verdict};
 ghost use Rattle.set_lists.specs.Sets.{QuantumLists, copied, taken, rowWithin, ordersWithin, ordersRead, quantumLengths, quantumRead, quantumSet, mieLengths, mieRead};
 use mie_parameters::ParameterAnswer;
-use number::SHEET;
-use number::SIDE;
 use saftvrmie_parameters::SaftVRMiePars;
 use saftvrqmie_parameters::FeynmanHibbsOrder;
 use saftvrqmie_parameters::OrderRecord;
 use saftvrqmie_parameters::SaftVRQMiePars;
+use sizes::LISTS;
+use sizes::SHEET;
+use sizes::SHEETS;
+use sizes::SIDE;
 
 // Numbers of a list into an array that is lent; both are long enough, which the boundary has tested.
 pub fn copy(n: usize, d: &[f64], from: usize, l: &mut [f64])
@@ -25,22 +27,22 @@ pub fn copy(n: usize, d: &[f64], from: usize, l: &mut [f64])
 }
 
 // Eight places of a list, which has them.
-pub fn places(list: &[f64], from: usize) -> [f64; 8]
+pub fn places(list: &[f64], from: usize) -> [f64; SIDE]
     requires { ⌜ from + side ≤ length (now list) ⌝ }
     ensures { λ r. ⌜ r ≡ taken side (now (list .entry)) from ⌝ }
 {
-    let mut read = [0.0; 8];
+    let mut read = [0.0; SIDE];
     copy(SIDE, list, from, &mut read);
     read
 }
 
 // The six sheets of a set from a list of their length.
-pub fn flat(sheets: &[f64]) -> [f64; 384]
+pub fn flat(sheets: &[f64]) -> [f64; SHEETS]
     requires { ⌜ length (now sheets) ≡ 6 * sheet ⌝ }
     ensures { λ r. ⌜ r ≡ taken (6 * sheet) (now (sheets .entry)) 0 ⌝ }
 {
-    let mut read = [0.0; 384];
-    copy(6 * SHEET, sheets, 0, &mut read);
+    let mut read = [0.0; SHEETS];
+    copy(SHEETS, sheets, 0, &mut read);
     read
 }
 
@@ -66,15 +68,15 @@ fn orders_within(n: usize, l: &[u8]) -> bool
     ok
 }
 
-// Orders from 64 bytes.
-pub fn order_records(l: &[u8]) -> [OrderRecord; 64]
+// Orders from the bytes of a sheet.
+pub fn order_records(l: &[u8]) -> [OrderRecord; SHEET]
     requires { ⌜ length (now l) ≡ sheet ⌝ }
     ensures { λ r. ⌜ r ≡ ordersRead (now (l .entry)) ⌝ }
 {
     let unused = OrderRecord {
         order: FeynmanHibbsOrder::FH0,
     };
-    let mut read = [unused; 64];
+    let mut read = [unused; SHEET];
     for e in 0usize..SHEET {
         let order = saftvrqmie_parameters::order_of(l[e]);
         read[e] = OrderRecord { order };
@@ -85,7 +87,7 @@ pub fn order_records(l: &[u8]) -> [OrderRecord; 64]
 pub fn quantum_lengths(m: &[f64], sheets: &[f64], orders: &[u8]) -> bool
     ensures { λ r. ⌜ r ≡ quantumLengths (now (m .entry)) (now (sheets .entry)) (now (orders .entry)) ⌝ }
 {
-    (m.len() == SIDE) & (sheets.len() == 6 * SHEET) & (orders.len() == SHEET)
+    (m.len() == SIDE) & (sheets.len() == SHEETS) & (orders.len() == SHEET)
 }
 
 // Whether a quantum set can be read: 1 where it cannot or the rest of the call is not `right`, then 4.
@@ -136,7 +138,7 @@ pub fn quantum_set(count: usize, m: &[f64], sheets: &[f64], orders: &[u8]) -> Sa
 pub fn mie_lengths(lists: &[f64], sheets: &[f64]) -> bool
     ensures { λ r. ⌜ r ≡ mieLengths (now (lists .entry)) (now (sheets .entry)) ⌝ }
 {
-    (lists.len() == 5 * SIDE) & (sheets.len() == 6 * SHEET)
+    (lists.len() == LISTS) & (sheets.len() == SHEETS)
 }
 
 // The set of SAFT-VR Mie of lists whose lengths were tested.

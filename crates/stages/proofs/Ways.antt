@@ -7,7 +7,7 @@ use mathlib.Core.Path.{_≡_, refl, ap, subst}
 use mathlib.Core.Bool.{Bool, true, false}
 use lib.ListN.{take, drop}
 use Rattle.number.specs.Ans.{Ans, held, refused, _>>=_, demand}
-use Rattle.number.specs.Side.{side}
+use Rattle.sizes.specs.Sizes.{side}
 use Rattle.number.proofs.Walk.{then-held, held-inj}
 use Rattle.saftvrqmie_parameters.specs.Parameters as Quantum
 use Rattle.saftvrqmie_parameters.specs.declared.SaftVRQMiePars.{SaftVRQMiePars}

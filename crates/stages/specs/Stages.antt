@@ -6,7 +6,7 @@ use mathlib.Core.List.{List}
 use mathlib.Core.Bool.{Bool}
 use Rattle.number.specs.Ans.{Ans, _>>=_}
 use Rattle.number.specs.Arith.{zero64}
-use Rattle.number.specs.Side.{side}
+use Rattle.sizes.specs.Sizes.{side}
 use Rattle.saftvrqmie_parameters.specs.Parameters as Quantum
 use Rattle.saftvrqmie.specs.Table.{blank, temperatureTable}
 use Rattle.saftvrqmie_energies.specs.Energies.{EnergiesIn, energies}

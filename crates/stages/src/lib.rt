@@ -7,6 +7,9 @@ use mie_parameters::ParameterAnswer;
 use saftvrmie_energies::EnergyAnswer;
 use saftvrmie_parameters::SaftVRMiePars;
 use saftvrqmie_energies::EnergiesAnswer;
+use sizes::COUNTS;
+use sizes::SIDE;
+use sizes::TABLE;
 
 // Quantum: parameters (1 to 6), a table of its own (2, 6, 7), energies (1, 2, 6, 7); the first refusal on the way.
 pub fn quantum_stage(
@@ -44,8 +47,8 @@ pub fn quantum_stage(
         return EnergiesAnswer::Refused(mie_parameters::number(answer));
     };
     let set = given.set;
-    let mut table = [0.0; 256];
-    let mut counts = [0u8; 192];
+    let mut table = [0.0; TABLE];
+    let mut counts = [0u8; COUNTS];
     let worked = saftvrqmie::temperature_dependent_properties(
         set,
         temperature,
@@ -115,7 +118,7 @@ pub fn mie_stage(
         return EnergyAnswer::Refused(mie_parameters::number(answer));
     };
     let set = given.set;
-    let mut own = [0.0; 8];
+    let mut own = [0.0; SIDE];
     let n = set.count;
     mie_energy(
         set,

@@ -2,7 +2,7 @@
 use Rattle.domthelv.specs.Sets.{ordersWritten}
 use Rattle.saftvrqmie_parameters.specs.Parameters.{unused}
 use Rattle.saftvrqmie_potential.specs.Potential.{orderNumber}
-use Rattle.number.specs.Side.{sheet}
+use Rattle.sizes.specs.Sizes.{sheet}
 use Prim.Native.Nat.{_≤_, _-_}
 use mathlib.Core.Path.{_≡_}
 use Rattle.number.specs.Walk.{turns}

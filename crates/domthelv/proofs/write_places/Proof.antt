@@ -1,7 +1,7 @@
 -- `domthelv::write_places` meets its contract. Assumes nothing.
 use Rattle.domthelv.specs.Sets.{placed}
 use Rattle.number.specs.Lists.{at}
-use Rattle.number.specs.Side.{side}
+use Rattle.sizes.specs.Sizes.{side}
 use Prim.Native.Nat.{_+_, _≤_, _-_}
 use mathlib.Core.Path.{_≡_, refl}
 use Rattle.number.specs.Walk.{turns}

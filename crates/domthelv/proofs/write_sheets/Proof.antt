@@ -1,7 +1,7 @@
 -- `domthelv::write_sheets` meets its contract. Assumes nothing.
 use Rattle.domthelv.specs.Sets.{placed}
 use Rattle.number.specs.Lists.{at}
-use Rattle.number.specs.Side.{sheet}
+use Rattle.sizes.specs.Sizes.{sheet}
 use Prim.Native.Nat.{_*_}
 use Prim.Native.Nat.{_+_, _≤_, _-_}
 use mathlib.Core.Path.{_≡_, refl}

@@ -1,7 +1,7 @@
 -- `limits::pair_within` meets its contract. Assumes nothing.
 use Rattle.limits.specs.Limits.{pairWithin}
 use native.Mathlib.Omega.{arith}
-use Rattle.number.specs.Side.{side}
+use Rattle.sizes.specs.Sizes.{side}
 use Rattle.limits.proofs.Square.{cell-below, cell-small}
 use borrow.Author.Tests.{eq-eqb, ne-eqb}
 use lib.Ieee.{ofBits}

@@ -5,7 +5,7 @@ use mathlib.Core.Path.{_≡_, refl}
 use Rattle.number.proofs.Walk.{turns-none, turns-next, turns-end}
 use Rattle.number.specs.Walk.{turns}
 use lib.ListN.{replicate, set}
-use Rattle.number.specs.Side.{side}
+use Rattle.sizes.specs.Sizes.{side}
 use Rattle.number.specs.Lists.{at}
 use Rattle.number.specs.Arith.{zero64}
 use borrow.Author.Needs.{needs}

@@ -17,8 +17,8 @@ shared-slice-read-point c = search needs
 point-requires : tie.Need-point-requires
 point-requires c κs = search needs
 
-at-8-requires : tie.Need-at-8-requires
-at-8-requires c κs = search needs
+at-component-requires : tie.Need-at-component-requires
+at-component-requires c κs = search needs
 
 chain-pure-requires : tie.Need-chain-pure-requires
 chain-pure-requires c κs = search needs
@@ -31,14 +31,14 @@ enum-told c = search needs
 
 returns : tie.Need-returns
 unfolding chainRow _>>=_
-returns c = rw (via sumsAnswer (rw ((c .before .before .before .before .point) .ensures, (c .before .before .before .at-8) .ensures) at ((c .before .before .chain-pure) .ensures)) ((c .enum-told) .given .1))
+returns c = rw (via sumsAnswer (rw ((c .before .before .before .before .point) .ensures, (c .before .before .before .at-component) .ensures) at ((c .before .before .chain-pure) .ensures)) ((c .enum-told) .given .1))
 
 pair-row-requires : tie.Need-pair-row-requires
 pair-row-requires c κs = search needs
 
 returns-2 : tie.Need-returns-2
 unfolding chainRow _>>=_
-returns-2 c = rw (via sumsAnswer (rw ((c .before .before .before .before .before .before .point) .ensures, (c .before .before .before .before .before .at-8) .ensures) at ((c .before .before .before .before .chain-pure) .ensures)) ((c .before .before .t) .given .1)) ((c .pair-row) .ensures)
+returns-2 c = rw (via sumsAnswer (rw ((c .before .before .before .before .before .before .point) .ensures, (c .before .before .before .before .before .at-component) .ensures) at ((c .before .before .before .before .chain-pure) .ensures)) ((c .before .before .t) .given .1)) ((c .pair-row) .ensures)
 
 pub chain-row-spec : {M : Type 1} → statement M
 chain-row-spec =
@@ -47,7 +47,7 @@ chain-row-spec =
     mul-point
     shared-slice-read-point
     point-requires
-    at-8-requires
+    at-component-requires
     chain-pure-requires
     enum-known-t
     enum-told

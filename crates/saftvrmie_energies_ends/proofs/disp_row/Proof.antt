@@ -30,8 +30,8 @@ returns : tie.Need-returns
 unfolding dispRow _>>=_
 returns c = rw (via termsAnswer (rw ((c .before .before .before .point) .ensures) at ((c .before .before .pair-terms) .ensures)) ((c .enum-told) .given .1))
 
-at-8-requires : tie.Need-at-8-requires
-at-8-requires c κs = search needs
+at-component-requires : tie.Need-at-component-requires
+at-component-requires c κs = search needs
 
 add-pure-requires : tie.Need-add-pure-requires
 add-pure-requires c κs = search needs
@@ -41,7 +41,7 @@ pair-row-requires c κs = search needs
 
 returns-2 : tie.Need-returns-2
 unfolding dispRow _>>=_
-returns-2 c = rw ((c .pair-row) .ensures, (c .before .add-pure) .ensures, (c .before .before .at-8) .ensures, via termsAnswer (rw ((c .before .before .before .before .before .before .before .point) .ensures) at ((c .before .before .before .before .before .before .pair-terms) .ensures)) ((c .before .before .before .before .t) .given .1))
+returns-2 c = rw ((c .pair-row) .ensures, (c .before .add-pure) .ensures, (c .before .before .at-component) .ensures, via termsAnswer (rw ((c .before .before .before .before .before .before .before .point) .ensures) at ((c .before .before .before .before .before .before .pair-terms) .ensures)) ((c .before .before .before .before .t) .given .1))
 
 pub disp-row-spec : {M : Type 1} → statement M
 disp-row-spec =
@@ -54,7 +54,7 @@ disp-row-spec =
     enum-known-t
     enum-told
     returns
-    at-8-requires
+    at-component-requires
     add-pure-requires
     pair-row-requires
     returns-2)

@@ -26,18 +26,18 @@ returns : tie.Need-returns
 unfolding pairTurn _>>=_
 returns c = rw (via termsAnswer (rw ((c .before .before .before .before .pair-at) .ensures, (c .before .before .before .d-ij) .ensures) at ((c .before .before .pair-terms) .ensures)) ((c .enum-told) .given .1))
 
-at-8-requires : tie.Need-at-8-requires
-at-8-requires c κs = search needs
+at-component-requires : tie.Need-at-component-requires
+at-component-requires c κs = search needs
 
-at-8-requires-2 : tie.Need-at-8-requires-2
-at-8-requires-2 c κs = search needs
+at-component-requires-2 : tie.Need-at-component-requires-2
+at-component-requires-2 c κs = search needs
 
 add-pair-requires : tie.Need-add-pair-requires
 add-pair-requires c κs = search needs
 
 returns-2 : tie.Need-returns-2
 unfolding pairTurn _>>=_
-returns-2 c = rw (via termsAnswer (rw ((c .before .before .before .before .before .before .before .before .pair-at) .ensures, (c .before .before .before .before .before .before .before .d-ij) .ensures) at ((c .before .before .before .before .before .before .pair-terms) .ensures)) ((c .before .before .before .before .t) .given .1), (c .add-pair) .ensures, (c .before .before .at-8) .ensures, (c .before .at-82) .ensures)
+returns-2 c = rw (via termsAnswer (rw ((c .before .before .before .before .before .before .before .before .pair-at) .ensures, (c .before .before .before .before .before .before .before .d-ij) .ensures) at ((c .before .before .before .before .before .before .pair-terms) .ensures)) ((c .before .before .before .before .t) .given .1), (c .add-pair) .ensures, (c .before .before .at-component) .ensures, (c .before .at-component2) .ensures)
 
 pub pair-turn-spec : {M : Type 1} → statement M
 pair-turn-spec =
@@ -49,7 +49,7 @@ pair-turn-spec =
     enum-known-t
     enum-told
     returns
-    at-8-requires
-    at-8-requires-2
+    at-component-requires
+    at-component-requires-2
     add-pair-requires
     returns-2)

@@ -20,50 +20,38 @@ mul-s-2 c = search needs
 element-write-s-2 : tie.Need-element-write-s-2
 element-write-s-2 c = search needs
 
-mul-s-3 : tie.Need-mul-s-3
-mul-s-3 c = search needs
-
 add-s-2 : tie.Need-add-s-2
 add-s-2 c = search needs
 
-mul-s-4 : tie.Need-mul-s-4
-mul-s-4 c = search needs
+mul-s-3 : tie.Need-mul-s-3
+mul-s-3 c = search needs
 
 element-write-s-3 : tie.Need-element-write-s-3
 element-write-s-3 c = search needs
 
-mul-s-5 : tie.Need-mul-s-5
-mul-s-5 c = search needs
-
 add-s-3 : tie.Need-add-s-3
 add-s-3 c = search needs
 
-mul-s-6 : tie.Need-mul-s-6
-mul-s-6 c = search needs
+mul-s-4 : tie.Need-mul-s-4
+mul-s-4 c = search needs
 
 element-write-s-4 : tie.Need-element-write-s-4
 element-write-s-4 c = search needs
 
-mul-s-7 : tie.Need-mul-s-7
-mul-s-7 c = search needs
-
 add-s-4 : tie.Need-add-s-4
 add-s-4 c = search needs
 
-mul-s-8 : tie.Need-mul-s-8
-mul-s-8 c = search needs
+mul-s-5 : tie.Need-mul-s-5
+mul-s-5 c = search needs
 
 element-write-s-5 : tie.Need-element-write-s-5
 element-write-s-5 c = search needs
 
-mul-s-9 : tie.Need-mul-s-9
-mul-s-9 c = search needs
-
 add-s-5 : tie.Need-add-s-5
 add-s-5 c = search needs
 
-mul-s-10 : tie.Need-mul-s-10
-mul-s-10 c = search needs
+mul-s-6 : tie.Need-mul-s-6
+mul-s-6 c = search needs
 
 element-write-s-6 : tie.Need-element-write-s-6
 element-write-s-6 c = search needs
@@ -81,20 +69,16 @@ store-pair-spec =
     add-s
     mul-s-2
     element-write-s-2
-    mul-s-3
     add-s-2
-    mul-s-4
+    mul-s-3
     element-write-s-3
-    mul-s-5
     add-s-3
-    mul-s-6
+    mul-s-4
     element-write-s-4
-    mul-s-7
     add-s-4
-    mul-s-8
+    mul-s-5
     element-write-s-5
-    mul-s-9
     add-s-5
-    mul-s-10
+    mul-s-6
     element-write-s-6
     returns)

@@ -5,7 +5,7 @@ use Rattle.enclosure.specs.Enclosure.{mulE, divE, point}
 use Rattle.number.specs.Walk.{turns}
 use Rattle.number.proofs.Walk.{turns-none, turns-next, turns-end}
 use Rattle.number.specs.Arith.{zero64}
-use Rattle.number.specs.Side.{side}
+use Rattle.sizes.specs.Sizes.{side}
 use lib.ListN.{set, replicate}
 use Rattle.saftvrmie_properties_ends.specs.Points.{points}
 use Rattle.mie_parameters.specs.Places.{inPlaces}

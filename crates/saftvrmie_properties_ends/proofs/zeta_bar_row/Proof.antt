@@ -17,8 +17,8 @@ Inv-loop n xs sheets i xi s₀ k₀ k-end s k = (k ≤ k-end) × (s ≡ turns k 
 abbrev μ-loop : tie.MeasureT-loop
 μ-loop n xs sheets i xi s₀ k₀ k-end s k = k-end - k
 
-at-8-requires : tie.Need-at-8-requires Inv-loop μ-loop
-at-8-requires c κs = search needs
+at-component-requires : tie.Need-at-component-requires Inv-loop μ-loop
+at-component-requires c κs = search needs
 
 s3-ij-requires : tie.Need-s3-ij-requires Inv-loop μ-loop
 s3-ij-requires c κs = search needs
@@ -41,8 +41,8 @@ add-j c = search needs
 add-j-2 : tie.Need-add-j-2 Inv-loop μ-loop
 add-j-2 c = search needs
 
-at-8-requires-2 : tie.Need-at-8-requires-2 Inv-loop μ-loop
-at-8-requires-2 c κs = search needs
+at-component-requires-2 : tie.Need-at-component-requires-2 Inv-loop μ-loop
+at-component-requires-2 c κs = search needs
 
 s3-ij-requires-2 : tie.Need-s3-ij-requires-2 Inv-loop μ-loop
 s3-ij-requires-2 c κs = search needs
@@ -58,11 +58,11 @@ loop-less c = search needs
 
 loop-again : tie.Need-loop-again Inv-loop μ-loop
 unfolding zetaTurn
-loop-again c = (search needs, turns-next _ _ _ _ _ ((c .before .before .before .before .loop) .inv .1) (rw ((c .zeta-pair) .ensures, (c .before .before .before .before .before .before .before .at-8) .ensures, (c .before .before .at-82) .ensures, (c .before .s3-ij2) .ensures)))
+loop-again c = (search needs, turns-next _ _ _ _ _ ((c .before .before .before .before .loop) .inv .1) (rw ((c .zeta-pair) .ensures, (c .before .before .before .before .before .before .before .at-component) .ensures, (c .before .before .at-component2) .ensures, (c .before .s3-ij2) .ensures)))
 
 returns : tie.Need-returns Inv-loop μ-loop
 unfolding zetaRow
-returns c = rw (turns-end _ _ _ _ _ ((c .before .loop) .inv .0) ((c .loop-test) .left) ((c .before .loop) .inv .1), (c .before .before .zeta-pure) .ensures, (c .before .before .before .before .at-8) .ensures, (c .before .before .before .s3-ij) .ensures)
+returns c = rw (turns-end _ _ _ _ _ ((c .before .loop) .inv .0) ((c .loop-test) .left) ((c .before .loop) .inv .1), (c .before .before .zeta-pure) .ensures, (c .before .before .before .before .at-component) .ensures, (c .before .before .before .s3-ij) .ensures)
 
 pub zeta-bar-row-spec : {M : Type 1} → statement M
 zeta-bar-row-spec =
@@ -70,7 +70,7 @@ zeta-bar-row-spec =
     (tie.spec
     Inv-loop
     μ-loop
-    at-8-requires
+    at-component-requires
     s3-ij-requires
     zeta-pure-requires
     add-k-end
@@ -78,7 +78,7 @@ zeta-bar-row-spec =
     loop-holds
     add-j
     add-j-2
-    at-8-requires-2
+    at-component-requires-2
     s3-ij-requires-2
     zeta-pair-requires
     add-k

@@ -2,7 +2,7 @@
 use Rattle.saftvrqmie.specs.Table.{allFinite}
 use mathlib.Core.Path.{_≡_}
 use Prim.Native.Nat.{_≤_, _-_, _*_}
-use Rattle.number.specs.Side.{sheet}
+use Rattle.sizes.specs.Sizes.{sheet}
 use Rattle.number.specs.Walk.{every}
 use Rattle.number.proofs.Walk.{every-none, every-next, every-end}
 use Rattle.number.specs.Lists.{at}

@@ -1,5 +1,4 @@
 -- `saftvrqmie_diameter_ends::pair_at` meets its contract. Assumes nothing.
-use Rattle.enclosure.specs.Enclosure.{point}
 use borrow.Author.Needs.{needs}
 use Rattle.saftvrqmie_diameter_ends.proofs.pair_at.Statement.{statement}
 use Rattle.saftvrqmie_diameter_ends.proofs.pair_at.Tie as tie
@@ -28,14 +27,11 @@ element-copy-out-point-2 c = search needs
 point-requires-2 : tie.Need-point-requires-2
 point-requires-2 c κs = search needs
 
-mul-point-3 : tie.Need-mul-point-3
-mul-point-3 c = search needs
-
 add-point-2 : tie.Need-add-point-2
 add-point-2 c = search needs
 
-mul-point-4 : tie.Need-mul-point-4
-mul-point-4 c = search needs
+mul-point-3 : tie.Need-mul-point-3
+mul-point-3 c = search needs
 
 element-copy-out-point-3 : tie.Need-element-copy-out-point-3
 element-copy-out-point-3 c = search needs
@@ -43,14 +39,11 @@ element-copy-out-point-3 c = search needs
 point-requires-3 : tie.Need-point-requires-3
 point-requires-3 c κs = search needs
 
-mul-point-5 : tie.Need-mul-point-5
-mul-point-5 c = search needs
-
 add-point-3 : tie.Need-add-point-3
 add-point-3 c = search needs
 
-mul-point-6 : tie.Need-mul-point-6
-mul-point-6 c = search needs
+mul-point-4 : tie.Need-mul-point-4
+mul-point-4 c = search needs
 
 element-copy-out-point-4 : tie.Need-element-copy-out-point-4
 element-copy-out-point-4 c = search needs
@@ -58,14 +51,11 @@ element-copy-out-point-4 c = search needs
 point-requires-4 : tie.Need-point-requires-4
 point-requires-4 c κs = search needs
 
-mul-point-7 : tie.Need-mul-point-7
-mul-point-7 c = search needs
-
 add-point-4 : tie.Need-add-point-4
 add-point-4 c = search needs
 
-mul-point-8 : tie.Need-mul-point-8
-mul-point-8 c = search needs
+mul-point-5 : tie.Need-mul-point-5
+mul-point-5 c = search needs
 
 element-copy-out-point-5 : tie.Need-element-copy-out-point-5
 element-copy-out-point-5 c = search needs
@@ -73,14 +63,11 @@ element-copy-out-point-5 c = search needs
 point-requires-5 : tie.Need-point-requires-5
 point-requires-5 c κs = search needs
 
-mul-point-9 : tie.Need-mul-point-9
-mul-point-9 c = search needs
-
 add-point-5 : tie.Need-add-point-5
 add-point-5 c = search needs
 
-mul-point-10 : tie.Need-mul-point-10
-mul-point-10 c = search needs
+mul-point-6 : tie.Need-mul-point-6
+mul-point-6 c = search needs
 
 element-copy-out-point-6 : tie.Need-element-copy-out-point-6
 element-copy-out-point-6 c = search needs
@@ -106,24 +93,20 @@ pair-at-spec =
     mul-point-2
     element-copy-out-point-2
     point-requires-2
-    mul-point-3
     add-point-2
-    mul-point-4
+    mul-point-3
     element-copy-out-point-3
     point-requires-3
-    mul-point-5
     add-point-3
-    mul-point-6
+    mul-point-4
     element-copy-out-point-4
     point-requires-4
-    mul-point-7
     add-point-4
-    mul-point-8
+    mul-point-5
     element-copy-out-point-5
     point-requires-5
-    mul-point-9
     add-point-5
-    mul-point-10
+    mul-point-6
     element-copy-out-point-6
     point-requires-6
     point-requires-7

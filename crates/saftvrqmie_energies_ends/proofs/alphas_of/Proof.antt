@@ -12,7 +12,7 @@ use Rattle.number.specs.Functions.{calls}
 use native.Mathlib.Omega.{arith}
 use Rattle.saftvrqmie_energies.specs.State.{sheetsOf, heldOr6}
 use Rattle.saftvrqmie_energies.specs.Dispersion.{alphaRow, alphas}
-use Rattle.number.specs.Side.{sheet}
+use Rattle.sizes.specs.Sizes.{sheet}
 use lib.ListN.{replicate}
 use borrow.Author.Tests.{not-true, not-false}
 use Rattle.saftvrqmie_energies.proofs.Turns.{left-refused, was-held, was-refused}

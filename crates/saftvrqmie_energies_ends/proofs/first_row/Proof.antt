@@ -59,14 +59,14 @@ returns c = rw (← ((c .before .before .before .before .before .loop) .inv .0))
 entry-of-requires : tie.Need-entry-of-requires Inv-loop μ-loop
 entry-of-requires c κs = search needs
 
-at-8-requires : tie.Need-at-8-requires Inv-loop μ-loop
-at-8-requires c κs = omega (arith, (c .before .before .before .before .before .before .loop-test) .taken, (c .before .before .before .before .before .before .before .loop) .inv .0, (c .before .before .before .before .before .before .before .before .before .pre) .0, (c .before .before .before .before .before .before .before .before .before .pre) .2)
+at-component-requires : tie.Need-at-component-requires Inv-loop μ-loop
+at-component-requires c κs = omega (arith, (c .before .before .before .before .before .before .loop-test) .taken, (c .before .before .before .before .before .before .before .loop) .inv .0, (c .before .before .before .before .before .before .before .before .before .pre) .0, (c .before .before .before .before .before .before .before .before .before .pre) .2)
 
-add-at-8 : tie.Need-add-at-8 Inv-loop μ-loop
-add-at-8 c = omega (arith, (c .before .before .before .before .before .before .before .loop-test) .taken, (c .before .before .before .before .before .before .before .before .loop) .inv .0, (c .before .before .before .before .before .before .before .before .before .before .pre) .0, (c .before .before .before .before .before .before .before .before .before .before .pre) .2)
+add-at-component : tie.Need-add-at-component Inv-loop μ-loop
+add-at-component c = omega (arith, (c .before .before .before .before .before .before .before .loop-test) .taken, (c .before .before .before .before .before .before .before .before .loop) .inv .0, (c .before .before .before .before .before .before .before .before .before .before .pre) .0, (c .before .before .before .before .before .before .before .before .before .before .pre) .2)
 
-at-8-requires-2 : tie.Need-at-8-requires-2 Inv-loop μ-loop
-at-8-requires-2 c κs = omega (arith, (c .before .before .before .before .before .before .before .loop-test) .taken, (c .before .before .before .before .before .before .before .before .loop) .inv .0, (c .before .before .before .before .before .before .before .before .before .before .pre) .0, (c .before .before .before .before .before .before .before .before .before .before .pre) .2)
+at-component-requires-2 : tie.Need-at-component-requires-2 Inv-loop μ-loop
+at-component-requires-2 c κs = omega (arith, (c .before .before .before .before .before .before .before .loop-test) .taken, (c .before .before .before .before .before .before .before .before .loop) .inv .0, (c .before .before .before .before .before .before .before .before .before .before .pre) .0, (c .before .before .before .before .before .before .before .before .before .before .pre) .2)
 
 add-lead : tie.Need-add-lead Inv-loop μ-loop
 add-lead c = omega (arith, (c .before .before .before .before .before .before .before .before .loop-test) .taken, (c .before .before .before .before .before .before .before .before .before .loop) .inv .0, (c .before .before .before .before .before .before .before .before .before .before .before .pre) .0, (c .before .before .before .before .before .before .before .before .before .before .before .pre) .2)
@@ -84,7 +84,7 @@ loop-less : tie.Need-loop-less Inv-loop μ-loop
 loop-less c = omega (arith, (c .before .before .before .before .before .before .before .before .before .before .loop-test) .taken)
 
 loop-again : tie.Need-loop-again Inv-loop μ-loop
-loop-again c = ((c .before .before .before .before .before .before .before .before .before .before .before .loop) .inv .0, omega (arith, (c .before .before .before .before .before .before .before .before .before .before .loop-test) .taken), walk-next _ _ _ _ _ ((c .before .before .before .before .before .before .before .before .before .before .before .loop) .inv .2) (first-held enclosures _ _ _ _ _ _ _ _ _ ((c .before .before .before .before .before .before .before .before .before .perturbed-pair) .ensures) ((c .before .before .before .before .before .before .before .before .first-order-perturbation-ij) .ensures) _ _ _ (ap answer ((c .before .before .before .before .before .before .v) .given .1)) (rw ((c .before .before .before .before .entry-of) .ensures, (c .before .before .before .at-8) .ensures, (c .before .before .at-82) .ensures) at ((c .before .lead) .ensures)) ((c .plus-product) .ensures)))
+loop-again c = ((c .before .before .before .before .before .before .before .before .before .before .before .loop) .inv .0, omega (arith, (c .before .before .before .before .before .before .before .before .before .before .loop-test) .taken), walk-next _ _ _ _ _ ((c .before .before .before .before .before .before .before .before .before .before .before .loop) .inv .2) (first-held enclosures _ _ _ _ _ _ _ _ _ ((c .before .before .before .before .before .before .before .before .before .perturbed-pair) .ensures) ((c .before .before .before .before .before .before .before .before .first-order-perturbation-ij) .ensures) _ _ _ (ap answer ((c .before .before .before .before .before .before .v) .given .1)) (rw ((c .before .before .before .before .entry-of) .ensures, (c .before .before .before .at-component) .ensures, (c .before .before .at-component2) .ensures) at ((c .before .lead) .ensures)) ((c .plus-product) .ensures)))
 
 returns-2 : tie.Need-returns-2 Inv-loop μ-loop
 unfolding firstRow
@@ -107,9 +107,9 @@ first-row-spec =
     enum-told
     returns
     entry-of-requires
-    at-8-requires
-    add-at-8
-    at-8-requires-2
+    at-component-requires
+    add-at-component
+    at-component-requires-2
     add-lead
     lead-requires
     plus-product-requires

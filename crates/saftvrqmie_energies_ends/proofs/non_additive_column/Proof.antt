@@ -50,11 +50,11 @@ add-entry-of-3 c = search needs
 entry-of-requires-3 : tie.Need-entry-of-requires-3 Inv-loop μ-loop
 entry-of-requires-3 c κs = search needs
 
-at-8-requires : tie.Need-at-8-requires Inv-loop μ-loop
-at-8-requires c κs = search needs
+at-component-requires : tie.Need-at-component-requires Inv-loop μ-loop
+at-component-requires c κs = search needs
 
-at-8-requires-2 : tie.Need-at-8-requires-2 Inv-loop μ-loop
-at-8-requires-2 c κs = search needs
+at-component-requires-2 : tie.Need-at-component-requires-2 Inv-loop μ-loop
+at-component-requires-2 c κs = search needs
 
 non-additive-ij-requires : tie.Need-non-additive-ij-requires Inv-loop μ-loop
 non-additive-ij-requires c κs = search needs
@@ -70,7 +70,7 @@ loop-less c = omega (arith, (c .before .before .before .before .before .before .
 
 loop-again : tie.Need-loop-again Inv-loop μ-loop
 unfolding nonAdditiveTurn
-loop-again c = (omega (arith, (c .before .before .before .before .before .before .before .loop-test) .taken), turns-next _ _ _ _ _ ((c .before .before .before .before .before .before .before .before .loop) .inv .1) (rw ((c .add) .ensures, (c .before .non-additive-ij) .ensures, (c .before .before .before .at-8) .ensures, (c .before .before .at-82) .ensures, (c .before .before .before .before .before .before .entry-of) .ensures, (c .before .before .before .before .before .entry-of2) .ensures, (c .before .before .before .before .entry-of3) .ensures)))
+loop-again c = (omega (arith, (c .before .before .before .before .before .before .before .loop-test) .taken), turns-next _ _ _ _ _ ((c .before .before .before .before .before .before .before .before .loop) .inv .1) (rw ((c .add) .ensures, (c .before .non-additive-ij) .ensures, (c .before .before .before .at-component) .ensures, (c .before .before .at-component2) .ensures, (c .before .before .before .before .before .before .entry-of) .ensures, (c .before .before .before .before .before .entry-of2) .ensures, (c .before .before .before .before .entry-of3) .ensures)))
 
 returns : tie.Need-returns Inv-loop μ-loop
 unfolding nonAdditiveColumn
@@ -92,8 +92,8 @@ non-additive-column-spec =
     mul-entry-of-3
     add-entry-of-3
     entry-of-requires-3
-    at-8-requires
-    at-8-requires-2
+    at-component-requires
+    at-component-requires-2
     non-additive-ij-requires
     add-requires
     add-i

@@ -32,11 +32,11 @@ add-entry-of c = search needs
 entry-of-requires : tie.Need-entry-of-requires Inv-loop μ-loop
 entry-of-requires c κs = search needs
 
-at-8-requires : tie.Need-at-8-requires Inv-loop μ-loop
-at-8-requires c κs = search needs
+at-component-requires : tie.Need-at-component-requires Inv-loop μ-loop
+at-component-requires c κs = search needs
 
-at-8-requires-2 : tie.Need-at-8-requires-2 Inv-loop μ-loop
-at-8-requires-2 c κs = search needs
+at-component-requires-2 : tie.Need-at-component-requires-2 Inv-loop μ-loop
+at-component-requires-2 c κs = search needs
 
 mul-requires : tie.Need-mul-requires Inv-loop μ-loop
 mul-requires c κs = search needs
@@ -55,7 +55,7 @@ loop-less c = omega (arith, (c .before .before .before .before .before .before .
 
 loop-again : tie.Need-loop-again Inv-loop μ-loop
 unfolding packingTurn
-loop-again c = (omega (arith, (c .before .before .before .before .before .before .loop-test) .taken), turns-next _ _ _ _ _ ((c .before .before .before .before .before .before .before .loop) .inv .1) (rw ((c .plus-product) .ensures, (c .before .pow-up) .ensures, (c .before .before .mul) .ensures, (c .before .before .before .before .at-8) .ensures, (c .before .before .before .at-82) .ensures, (c .before .before .before .before .before .entry-of) .ensures)))
+loop-again c = (omega (arith, (c .before .before .before .before .before .before .loop-test) .taken), turns-next _ _ _ _ _ ((c .before .before .before .before .before .before .before .loop) .inv .1) (rw ((c .plus-product) .ensures, (c .before .pow-up) .ensures, (c .before .before .mul) .ensures, (c .before .before .before .before .at-component) .ensures, (c .before .before .before .at-component2) .ensures, (c .before .before .before .before .before .entry-of) .ensures)))
 
 returns : tie.Need-returns Inv-loop μ-loop
 unfolding packingRow
@@ -71,8 +71,8 @@ packing-row-spec =
     mul-entry-of
     add-entry-of
     entry-of-requires
-    at-8-requires
-    at-8-requires-2
+    at-component-requires
+    at-component-requires-2
     mul-requires
     pow-up-requires
     plus-product-requires

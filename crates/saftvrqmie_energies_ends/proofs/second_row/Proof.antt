@@ -64,20 +64,20 @@ returns c = rw (← ((c .before .before .before .before .before .loop) .inv .0))
 entry-of-requires : tie.Need-entry-of-requires Inv-loop μ-loop
 entry-of-requires c κs = search needs
 
-at-64-requires : tie.Need-at-64-requires Inv-loop μ-loop
-at-64-requires c κs = search needs
+at-pair-requires : tie.Need-at-pair-requires Inv-loop μ-loop
+at-pair-requires c κs = search needs
 
 chi-requires : tie.Need-chi-requires Inv-loop μ-loop
 chi-requires c κs = search needs
 
-at-8-requires : tie.Need-at-8-requires Inv-loop μ-loop
-at-8-requires c κs = omega (arith, (c .before .before .before .before .before .before .before .before .loop-test) .taken, (c .before .before .before .before .before .before .before .before .before .loop) .inv .0, (c .before .before .before .before .before .before .before .before .before .before .before .before .pre) .0, (c .before .before .before .before .before .before .before .before .before .before .before .before .pre) .2)
+at-component-requires : tie.Need-at-component-requires Inv-loop μ-loop
+at-component-requires c κs = omega (arith, (c .before .before .before .before .before .before .before .before .loop-test) .taken, (c .before .before .before .before .before .before .before .before .before .loop) .inv .0, (c .before .before .before .before .before .before .before .before .before .before .before .before .pre) .0, (c .before .before .before .before .before .before .before .before .before .before .before .before .pre) .2)
 
-add-at-8 : tie.Need-add-at-8 Inv-loop μ-loop
-add-at-8 c = omega (arith, (c .before .before .before .before .before .before .before .before .before .loop-test) .taken, (c .before .before .before .before .before .before .before .before .before .before .loop) .inv .0, (c .before .before .before .before .before .before .before .before .before .before .before .before .before .pre) .0, (c .before .before .before .before .before .before .before .before .before .before .before .before .before .pre) .2)
+add-at-component : tie.Need-add-at-component Inv-loop μ-loop
+add-at-component c = omega (arith, (c .before .before .before .before .before .before .before .before .before .loop-test) .taken, (c .before .before .before .before .before .before .before .before .before .before .loop) .inv .0, (c .before .before .before .before .before .before .before .before .before .before .before .before .before .pre) .0, (c .before .before .before .before .before .before .before .before .before .before .before .before .before .pre) .2)
 
-at-8-requires-2 : tie.Need-at-8-requires-2 Inv-loop μ-loop
-at-8-requires-2 c κs = omega (arith, (c .before .before .before .before .before .before .before .before .before .loop-test) .taken, (c .before .before .before .before .before .before .before .before .before .before .loop) .inv .0, (c .before .before .before .before .before .before .before .before .before .before .before .before .before .pre) .0, (c .before .before .before .before .before .before .before .before .before .before .before .before .before .pre) .2)
+at-component-requires-2 : tie.Need-at-component-requires-2 Inv-loop μ-loop
+at-component-requires-2 c κs = omega (arith, (c .before .before .before .before .before .before .before .before .before .loop-test) .taken, (c .before .before .before .before .before .before .before .before .before .before .loop) .inv .0, (c .before .before .before .before .before .before .before .before .before .before .before .before .before .pre) .0, (c .before .before .before .before .before .before .before .before .before .before .before .before .before .pre) .2)
 
 add-lead : tie.Need-add-lead Inv-loop μ-loop
 add-lead c = omega (arith, (c .before .before .before .before .before .before .before .before .before .before .loop-test) .taken, (c .before .before .before .before .before .before .before .before .before .before .before .loop) .inv .0, (c .before .before .before .before .before .before .before .before .before .before .before .before .before .before .pre) .0, (c .before .before .before .before .before .before .before .before .before .before .before .before .before .before .pre) .2)
@@ -102,7 +102,7 @@ loop-less c = omega (arith, (c .before .before .before .before .before .before .
 
 loop-again : tie.Need-loop-again Inv-loop μ-loop
 unfolding decimal ofBits
-loop-again c = ((c .before .before .before .before .before .before .before .before .before .before .before .before .before .before .before .loop) .inv .0, omega (arith, (c .before .before .before .before .before .before .before .before .before .before .before .before .before .before .loop-test) .taken), walk-next _ _ _ _ _ ((c .before .before .before .before .before .before .before .before .before .before .before .before .before .before .before .loop) .inv .2) (second-held enclosures _ _ _ _ _ _ _ _ _ ((c .before .before .before .before .before .before .before .before .before .before .before .before .before .perturbed-pair) .ensures) _ ((c .before .before .before .before .before .before .before .before .before .before .before .before .second-order-perturbation-ij) .ensures) _ _ _ _ _ (ap answer ((c .before .before .before .before .before .before .before .before .before .before .v) .given .1)) (rw ((c .before .before .before .before .before .before .before .before .entry-of) .ensures, (c .before .before .before .before .before .at-8) .ensures, (c .before .before .before .before .at-82) .ensures) at ((c .before .before .before .lead) .ensures)) (rw ((c .before .before .before .before .before .before .before .at-64) .ensures) at ((c .before .before .before .before .before .before .chi) .ensures)) (rw ((c .before .before .add) .ensures, (c .before .before .before .before .before .before .before .before .before .before .before .before .before .before .before .before .point) .ensures) at ((c .before .mul) .ensures)) ((c .plus-product) .ensures)))
+loop-again c = ((c .before .before .before .before .before .before .before .before .before .before .before .before .before .before .before .loop) .inv .0, omega (arith, (c .before .before .before .before .before .before .before .before .before .before .before .before .before .before .loop-test) .taken), walk-next _ _ _ _ _ ((c .before .before .before .before .before .before .before .before .before .before .before .before .before .before .before .loop) .inv .2) (second-held enclosures _ _ _ _ _ _ _ _ _ ((c .before .before .before .before .before .before .before .before .before .before .before .before .before .perturbed-pair) .ensures) _ ((c .before .before .before .before .before .before .before .before .before .before .before .before .second-order-perturbation-ij) .ensures) _ _ _ _ _ (ap answer ((c .before .before .before .before .before .before .before .before .before .before .v) .given .1)) (rw ((c .before .before .before .before .before .before .before .before .entry-of) .ensures, (c .before .before .before .before .before .at-component) .ensures, (c .before .before .before .before .at-component2) .ensures) at ((c .before .before .before .lead) .ensures)) (rw ((c .before .before .before .before .before .before .before .at-pair) .ensures) at ((c .before .before .before .before .before .before .chi) .ensures)) (rw ((c .before .before .add) .ensures, (c .before .before .before .before .before .before .before .before .before .before .before .before .before .before .before .before .point) .ensures) at ((c .before .mul) .ensures)) ((c .plus-product) .ensures)))
 
 returns-2 : tie.Need-returns-2 Inv-loop μ-loop
 unfolding secondRow
@@ -126,11 +126,11 @@ second-row-spec =
     enum-told
     returns
     entry-of-requires
-    at-64-requires
+    at-pair-requires
     chi-requires
-    at-8-requires
-    add-at-8
-    at-8-requires-2
+    at-component-requires
+    add-at-component
+    at-component-requires-2
     add-lead
     lead-requires
     add-requires

@@ -35,8 +35,8 @@ add-e c = search needs
 entry-of-requires : tie.Need-entry-of-requires Inv-loop μ-loop
 entry-of-requires c κs = search needs
 
-at-64-requires : tie.Need-at-64-requires Inv-loop μ-loop
-at-64-requires c κs = search needs
+at-pair-requires : tie.Need-at-pair-requires Inv-loop μ-loop
+at-pair-requires c κs = search needs
 
 third-order-perturbation-ij-requires :
     tie.Need-third-order-perturbation-ij-requires Inv-loop μ-loop
@@ -50,13 +50,13 @@ enum-told c = search needs
 
 returns : tie.Need-returns Inv-loop μ-loop
 unfolding thirdRow
-returns c = walk-stop _ _ _ _ _ _ ((c .before .before .before .before .before .loop-test) .taken) ((c .before .before .before .before .before .before .loop) .inv .1) (third-outside enclosures _ _ _ _ _ _ _ _ _ _ _ ((c .before .before .before .before .entry-of) .ensures) (rw ((c .before .before .before .at-64) .ensures) at ((c .before .before .third-order-perturbation-ij) .ensures)) _ (ap answer ((c .enum-told) .given .1)))
+returns c = walk-stop _ _ _ _ _ _ ((c .before .before .before .before .before .loop-test) .taken) ((c .before .before .before .before .before .before .loop) .inv .1) (third-outside enclosures _ _ _ _ _ _ _ _ _ _ _ ((c .before .before .before .before .entry-of) .ensures) (rw ((c .before .before .before .at-pair) .ensures) at ((c .before .before .third-order-perturbation-ij) .ensures)) _ (ap answer ((c .enum-told) .given .1)))
 
-at-8-requires : tie.Need-at-8-requires Inv-loop μ-loop
-at-8-requires c κs = search needs
+at-component-requires : tie.Need-at-component-requires Inv-loop μ-loop
+at-component-requires c κs = search needs
 
-at-8-requires-2 : tie.Need-at-8-requires-2 Inv-loop μ-loop
-at-8-requires-2 c κs = search needs
+at-component-requires-2 : tie.Need-at-component-requires-2 Inv-loop μ-loop
+at-component-requires-2 c κs = search needs
 
 mul-requires : tie.Need-mul-requires Inv-loop μ-loop
 mul-requires c κs = search needs
@@ -71,7 +71,7 @@ loop-less : tie.Need-loop-less Inv-loop μ-loop
 loop-less c = omega (arith, (c .before .before .before .before .before .before .before .before .before .before .loop-test) .taken)
 
 loop-again : tie.Need-loop-again Inv-loop μ-loop
-loop-again c = (omega (arith, (c .before .before .before .before .before .before .before .before .before .before .loop-test) .taken), walk-next _ _ _ _ _ ((c .before .before .before .before .before .before .before .before .before .before .before .loop) .inv .1) (third-held enclosures _ _ _ _ _ _ _ _ _ _ _ ((c .before .before .before .before .before .before .before .before .before .entry-of) .ensures) (rw ((c .before .before .before .before .before .before .before .before .at-64) .ensures) at ((c .before .before .before .before .before .before .before .third-order-perturbation-ij) .ensures)) _ _ _ (ap answer ((c .before .before .before .before .before .v) .given .1)) (rw ((c .before .before .before .at-8) .ensures, (c .before .before .at-82) .ensures) at ((c .before .mul) .ensures)) ((c .plus-product) .ensures)))
+loop-again c = (omega (arith, (c .before .before .before .before .before .before .before .before .before .before .loop-test) .taken), walk-next _ _ _ _ _ ((c .before .before .before .before .before .before .before .before .before .before .before .loop) .inv .1) (third-held enclosures _ _ _ _ _ _ _ _ _ _ _ ((c .before .before .before .before .before .before .before .before .before .entry-of) .ensures) (rw ((c .before .before .before .before .before .before .before .before .at-pair) .ensures) at ((c .before .before .before .before .before .before .before .third-order-perturbation-ij) .ensures)) _ _ _ (ap answer ((c .before .before .before .before .before .v) .given .1)) (rw ((c .before .before .before .at-component) .ensures, (c .before .before .at-component2) .ensures) at ((c .before .mul) .ensures)) ((c .plus-product) .ensures)))
 
 returns-2 : tie.Need-returns-2 Inv-loop μ-loop
 unfolding thirdRow
@@ -87,13 +87,13 @@ third-row-spec =
     mul-e
     add-e
     entry-of-requires
-    at-64-requires
+    at-pair-requires
     third-order-perturbation-ij-requires
     enum-known-v
     enum-told
     returns
-    at-8-requires
-    at-8-requires-2
+    at-component-requires
+    at-component-requires-2
     mul-requires
     plus-product-requires
     add-j

@@ -5,7 +5,7 @@ use mathlib.Core.Path.{_≡_}
 use Rattle.number.proofs.Walk.{turns-none, turns-next, turns-end}
 use Rattle.number.specs.Walk.{turns}
 use lib.ListN.{replicate}
-use Rattle.number.specs.Side.{sheet}
+use Rattle.sizes.specs.Sizes.{sheet}
 use borrow.Author.Needs.{needs}
 use Rattle.saftvrqmie_parameters.proofs.orders_of.Statement.{statement}
 use Rattle.saftvrqmie_parameters.proofs.orders_of.Tie as tie

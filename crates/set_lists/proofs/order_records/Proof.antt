@@ -1,7 +1,7 @@
 -- `set_lists::order_records` meets its contract. Assumes nothing.
 use Rattle.set_lists.specs.Sets.{ordersRead}
 use Rattle.saftvrqmie_parameters.specs.Parameters.{orderOf}
-use Rattle.number.specs.Side.{sheet}
+use Rattle.sizes.specs.Sizes.{sheet}
 use Prim.Native.Nat.{_≤_, _-_}
 use mathlib.Core.Path.{_≡_}
 use Rattle.number.specs.Walk.{turns}

@@ -5,7 +5,7 @@ use Rattle.set_lists.specs.Sets.{rowWithin}
 use lib.Dec.{leb}
 use lib.ListN.{getD}
 use Prim.Native.Nat.{_≤_, _-_}
-use Rattle.number.specs.Side.{cell}
+use Rattle.sizes.specs.Sizes.{cell}
 use Rattle.number.specs.Walk.{every}
 use borrow.Author.Needs.{needs}
 use Rattle.set_lists.proofs.row_within.Statement.{statement}

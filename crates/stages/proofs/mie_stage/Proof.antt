@@ -1,7 +1,7 @@
 -- `stages::mie_stage` meets its contract. Assumes nothing.
 use lib.ListN.{replicate}
 use Rattle.number.specs.Arith.{zero64}
-use Rattle.number.specs.Side.{side}
+use Rattle.sizes.specs.Sizes.{side}
 use Rattle.stages.proofs.Ways.{mie-parameters, mie-energy, mie-count, first-part}
 use Rattle.stages.proofs.Given.{mie-held, mie-refused}
 use mathlib.Core.Path.{ap, _∙_}

@@ -1,10 +1,10 @@
--- `saftvrqmie_energies_ends::at_64` meets its contract. Assumes nothing.
+-- `saftvrqmie_energies_ends::at_pair` meets its contract. Assumes nothing.
 use Rattle.enclosure.specs.Enclosure.{point}
 use Rattle.interval.specs.Interval as Interval
 use mathlib.Core.Path.{refl}
 use borrow.Author.Needs.{needs}
-use Rattle.saftvrqmie_energies_ends.proofs.at_64.Statement.{statement}
-use Rattle.saftvrqmie_energies_ends.proofs.at_64.Tie as tie
+use Rattle.saftvrqmie_energies_ends.proofs.at_pair.Statement.{statement}
+use Rattle.saftvrqmie_energies_ends.proofs.at_pair.Tie as tie
 
 mul-result : tie.Need-mul-result
 mul-result c = search needs
@@ -16,5 +16,5 @@ returns : tie.Need-returns
 unfolding point Interval.point
 returns c = refl
 
-pub at-64-spec : {M : Type 1} → statement M
-at-64-spec = tie.close (tie.spec mul-result array-copy-out-result returns)
+pub at-pair-spec : {M : Type 1} → statement M
+at-pair-spec = tie.close (tie.spec mul-result array-copy-out-result returns)
