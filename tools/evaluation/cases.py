@@ -173,7 +173,7 @@ class Cases:
                 for call in chain:
                     if call.what in (11, 12):
                         m.changed(call)
-                    elif call.what in (7, 8, 9, 13) and m.count == 1 and call.number == 0 and (self.whole or small(call, m)):
+                    elif call.what in (7, 8, 9, 13) and m.count <= (2 if self.whole else 1) and call.number == 0:
                         bad = Exact(self.c, m, call).fails()
                         yield "exact run", f"{path}, chain {k}: {chains.NAMES[call.what]} do not enclose: {bad}" if bad else None
                     elif call.what in (1, 2, 4, 5):
@@ -225,15 +225,15 @@ class Cases:
                 yield "slopes", None if said == wanted[name] else f"{name} of {x}, {dx} and {y}, {dy}: {said}, and not {wanted[name]}"
 
     # statements about all values of a bracket, made of `Keeps`; `promises` works what they say at the vectors
-    STATEMENTS = {f"elementary.Promised.{name}At" for name in ("Ln", "Ln1p", "Exp", "ExpM1", "Tanh")}
+    STATEMENTS = {f"elementary.Promised.{name}" for name in ("LnAt", "Ln1pAt", "ExpAt", "ExpM1At", "TanhAt", "one")}
 
     # ---- that nothing was left out: what the boundary, demand 3, the table and the promises use was evaluated, but for statements about all values
     def believed(self):
         c = self.c
-        files = [c.file(*f) for f in (("domthelv", "Operations"), ("domthelv", "Sets"), ("demand_three", "Demand"), ("proved_table", "Table"), ("elementary", "Promised"), ("elementary", "Port"))]
+        files = [c.file(*f) for f in (("domthelv", "Operations"), ("domthelv", "Sets"), ("domthelv", "Elementary"), ("demand_three", "Demand"), ("demand_three", "ByHistory"), ("proved_table", "Table"), ("elementary", "Promised"), ("elementary", "Port"))]
         for d in sorted((d for d in c.used_by(files) if isinstance(d, Definition)), key=lambda d: d.python):
             name = f"{d.file.name}.{d.name}"
-            if not (d.is_type and d.clauses[0][2][0] == "→") and name not in self.STATEMENTS:
+            if not (d.is_type and d.clauses[0].body[0] == "→") and name not in self.STATEMENTS:
                 yield "believed", None if name in c.reached else f"{name} is not evaluated"
 
     # ---- the quadrature rules: a rule of 10 nodes sums x^k as far as k = 19, the one of 21 as far as 31
@@ -245,11 +245,6 @@ class Cases:
             for k in range(degree + 1):
                 error = abs(sum(b * a**k for a, b in zip(x, w)) - Fraction(2 * (k % 2 == 0), k + 1))
                 yield "quadrature", f"{crate}: the sum of x^{k} is {float(error)} away" if error > Fraction(1, 10**15) else None
-
-
-# an order above 0, and a chain, make the fractions large: these are left to --all
-def small(call, m):
-    return call.what in (8, 13) or call.flag == 0 if call.what != 7 else m.orders[0] == 0
 
 
 def neighbour(x, towards):
@@ -280,7 +275,7 @@ class Exact:
         self.c, self.call = c, call
         port, calls = c.get("elementary", "Port", "port")(), c.get("number", "Functions", "calls")
         runs = [c.get("enclosure", "Enclosure", "enclosures")(), c.get("enclosure", "Exact", "exacts")()]
-        s = c.get("domthelv", "Sets", "mieSet" if call.what in (9, 13) else "quantumSet")(*m.set)[1]
+        s = m.record()
         if call.what in (8, 13):
             crate = "saftvrmie" if call.what == 13 else "saftvrqmie"
             handed = (s, *call.lengths[:2], chains.number(call.value), *chains.floats(call.listed))

@@ -67,7 +67,6 @@ class Quantum:
 
     def __init__(self, c):
         self.c = c
-        self.at = lambda name: c.get("domthelv", "Operations", name)
         self.number = c.get("saftvrqmie_potential", "Potential", "orderNumber")
         self.stored = c.get("mie_parameters", "Answer", "stored")
         self.keep(c.get("saftvrqmie_parameters", "Parameters", "emptySet")())
@@ -76,9 +75,14 @@ class Quantum:
     def keep(self, s):
         self.count, self.m, self.sheets, self.orders = s.count, s.m, s.sheets, tuple(self.number(o.order) for o in s.orders)
 
-    @property
-    def set(self):
-        return self.count, self.m, self.sheets, self.orders
+    # the set as the definitions have it
+    def record(self):
+        of = self.c.get("saftvrqmie_parameters", "Parameters", "orderOf")
+        return self.c.record(count=self.count, m=self.m, sheets=self.sheets, orders=tuple(self.c.record(order=of(o)) for o in self.orders))
+
+    # a call of the boundary on the set
+    def at(self, name, *more):
+        return boundary(self.c, name, {"count": self.count, "m": self.m, "sheets": self.sheets, "orders": self.orders}, more)
 
     def lists(self, call):
         names = ["m", "sigma", "epsilon-k", "lr", "la", "mass", "k-ij", "l-ij"]
@@ -107,30 +111,30 @@ class Quantum:
             return self.parameters(self.lists(call))
         if call.what == 2:
             before = self.c.record(values=self.table[:call.lengths[0]], numbers=self.counts[:call.lengths[1]])
-            a = self.at("vrqTable")(*self.set, t, before)
+            a = self.at("vrqTable", t, before)
             after = self.stored(before, a)
             self.table = after.values + self.table[call.lengths[0]:]
             self.counts = after.numbers + self.counts[call.lengths[1]:]
             return refusal(a), [hashed(patterns(self.table)), hashed(self.counts)]
         if call.what == 8:
-            return told(self.at("vrqDiameterEnds")(*self.set, *call.lengths[:2], t, *floats(call.listed), OUT[:2]))
+            return told(self.at("vrqDiameterEnds", *call.lengths[:2], t, *floats(call.listed), OUT[:2]))
         if call.what == 14:
-            a = self.at("vrqRadii")(*self.set, *call.lengths[:2], t, self.c.record(values=OUT[:6], numbers=(7,) * 3))
+            a = self.at("vrqRadii", *call.lengths[:2], t, self.c.record(values=OUT[:6], numbers=(7,) * 3))
             return refusal(a), patterns(a[1].values) + list(a[1].numbers) if a[0] == "held" else []
         name, out = {3: ("vrqEnergies", OUT[:3]), 7: ("vrqEnergiesEnds", OUT[:6])}[call.what]
-        return told(self.at(name)(*self.set, t, *map(floats, call.cut(2)), self.table[:call.lengths[2]], call.flag == 1, out))
+        return told(self.at(name, t, *map(floats, call.cut(2)), self.table[:call.lengths[2]], call.flag == 1, out))
 
     def parameters(self, lists):
         a = self.c.get("saftvrqmie_parameters", "Parameters", "saftVRQMiePars")(lists)
         self.keep(self.c.get("saftvrqmie_parameters", "Parameters", "given")(a).set)
-        written = self.at("vrqParameters")(lists, self.c.record(m=OUT[:8], sheets=OUT[:1] * 384, orders=(7,) * 64))
-        if refusal(written) != refusal(a) or (a[0] == "held" and not same((written[1].m, written[1].sheets, written[1].orders), self.set[1:])):
+        written = operation(self.c, "vrqParameters")(lists, self.c.record(m=OUT[:8], sheets=OUT[:1] * 384, orders=(7,) * 64))
+        if refusal(written) != refusal(a) or (a[0] == "held" and not same((written[1].m, written[1].sheets, written[1].orders), (self.m, self.sheets, self.orders))):
             return None, []
         return refusal(a), [hashed(patterns(self.m), patterns(self.sheets), self.orders)]
 
     # parameters, a table and energies in one, for the lists, state and part of two calls
     def stage(self, first, last):
-        return told(self.at("vrqStage")(self.lists(first), number(last.value), *map(floats, last.cut(2)), last.flag == 1, OUT[:3]))
+        return told(operation(self.c, "vrqStage")(self.lists(first), number(last.value), *map(floats, last.cut(2)), last.flag == 1, OUT[:3]))
 
 
 class Mie:
@@ -140,7 +144,6 @@ class Mie:
 
     def __init__(self, c):
         self.c = c
-        self.at = lambda name: c.get("domthelv", "Operations", name)
         self.stored = c.get("mie_parameters", "Answer", "stored")
         self.keep(c.get("saftvrmie_parameters", "Parameters", "emptySet")())
         self.diameters = (0.0,) * 8
@@ -148,9 +151,12 @@ class Mie:
     def keep(self, s):
         self.count, self.lists, self.sheets = s.count, s.m + s.sigma + s.epsilon_5f_k + s.lr + s.la, s.sheets
 
-    @property
-    def set(self):
-        return self.count, self.lists, self.sheets
+    def record(self):
+        five = {n: self.lists[8 * k:8 * k + 8] for k, n in enumerate(self.FIVE)}
+        return self.c.record(count=self.count, sheets=self.sheets, **five)
+
+    def at(self, name, *more):
+        return boundary(self.c, name, {"count": self.count, "lists": self.lists, "sheets": self.sheets}, more)
 
     def changed(self, call):
         lists, sheets, d = list(self.lists), list(self.sheets), list(self.diameters)
@@ -175,28 +181,38 @@ class Mie:
             return self.parameters(self.handed(call))
         if call.what == 5:
             before = self.diameters[:call.lengths[0]]
-            a = self.at("vrDiameters")(*self.set, t, before)
+            a = self.at("vrDiameters", t, before)
             self.diameters = self.stored(before, a) + self.diameters[call.lengths[0]:]
             return refusal(a), patterns(self.diameters)
         if call.what == 13:
-            return told(self.at("vrDiameterEnds")(*self.set, *call.lengths[:2], t, *floats(call.listed), OUT[:2]))
+            return told(self.at("vrDiameterEnds", *call.lengths[:2], t, *floats(call.listed), OUT[:2]))
         if call.what == 15:
-            return told(self.at("vrRadius")(*self.set, *call.lengths[:2], t))
+            return told(self.at("vrRadius", *call.lengths[:2], t))
         state = (t, *map(floats, call.cut(2)), self.diameters[:call.lengths[2]], call.flag == 1)
         if call.what == 6:
-            return told(self.at("vrDispersion")(*self.set, *state))
-        return told(self.at("vrDispersionEnds")(*self.set, *state, OUT[:2])) if call.what == 9 else None
+            return told(self.at("vrDispersion", *state))
+        return told(self.at("vrDispersionEnds", *state, OUT[:2])) if call.what == 9 else None
 
     def parameters(self, lists):
         a = self.c.get("saftvrmie_parameters", "Parameters", "saftVRMiePars")(lists)
         self.keep(self.c.get("saftvrmie_parameters", "Parameters", "given")(a).set)
-        written = self.at("vrParameters")(lists, self.c.record(lists=OUT[:1] * 40, sheets=OUT[:1] * 384))
-        if refusal(written) != refusal(a) or (a[0] == "held" and not same((written[1].lists, written[1].sheets), self.set[1:])):
+        written = operation(self.c, "vrParameters")(lists, self.c.record(lists=OUT[:1] * 40, sheets=OUT[:1] * 384))
+        if refusal(written) != refusal(a) or (a[0] == "held" and not same((written[1].lists, written[1].sheets), (self.lists, self.sheets))):
             return None, []
         return refusal(a), [hashed(patterns(self.lists), patterns(self.sheets))]
 
     def stage(self, first, last):
         return told(self.c.get("stages", "Stages", "mieStage")(self.handed(first), number(last.value), *map(floats, last.cut(2)), last.flag == 1))
+
+
+def operation(c, name):
+    return c.get("domthelv", "Operations", name)
+
+
+# an operation of the boundary on a set, which it takes as its lists or as one record of them, and on more
+def boundary(c, name, lists, more):
+    takes = len(c.definition_of("domthelv", "Operations", name).domains) - len(more)
+    return operation(c, name)(*([c.record(**lists)] if takes == 1 else lists.values()), *more)
 
 
 def refusal(a):

@@ -1,7 +1,7 @@
 """The definitions of specs/ as Python functions."""
 from . import library
 from .reader import NotUnderstood
-from .scopes import Definition, Names
+from .scopes import Clause, Definition, Names
 from .terms import spell
 from .writer import Function, late
 
@@ -36,12 +36,15 @@ class Compiler(Names):
         keys = sorted(fields)
         return self.space[self.constructor_of_record([k for k in keys])](*[fields[k] for k in keys])
 
-    # a definition by crate, module and name, as a Python function of all its explicit arguments
-    def get(self, crate, module, name):
-        kind = self.file(crate, module).block.names[name]
+    def definition_of(self, crate, module, name):
+        kind = self.file(crate, module).block.names.get(name, ("none",))
         if kind[0] != "definition":
             raise NotUnderstood(f"{crate}.{module}.{name} is no definition")
-        return self.space[kind[1].python]
+        return kind[1]
+
+    # a definition as a Python function of all its explicit arguments
+    def get(self, crate, module, name):
+        return self.space[self.definition_of(crate, module, name).python]
 
     # ---- statements: the fields of a record's type
     def statements(self, crate, module, name):
@@ -54,7 +57,7 @@ class Compiler(Names):
             for field, e in r.types.items():
                 d = Definition(field, r.block, self.fresh(f"{r.name}.{field}"), True, True)
                 d.file, d.line, d.arity = r.file, 0, len(r.checks)
-                d.clauses = [(r.fields[field], [("name", n) for n in r.checks], e)]
+                d.clauses = [Clause(r.fields[field], [("name", n) for n in r.checks], e, r.block)]
                 Function(self, d).write()
                 r.checks[field] = d.python
             exec(compile("\n".join(self.source[before:]), "<specs>", "exec"), self.space)

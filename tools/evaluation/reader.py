@@ -59,8 +59,8 @@ def statements(path, lines):
         while k < len(lines) and lines[k][1] > depth:
             below.append(lines[k])
             k += 1
-        if below and not any(w in ("module", "record", "data") for w in words[:2]):
-            raise NotUnderstood(f"{path}:{number}: `where` below what has none")
+        if below and words[-1] != "where":
+            raise NotUnderstood(f"{path}:{number}: lines below what has no `where`")
         found.append(Statement(path, number, words, statements(path, below) if below else []))
     return found
 

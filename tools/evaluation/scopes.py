@@ -12,8 +12,8 @@ TYPE = ("type",)
 class Block:
     """A file, or a `module _ (..) where` in it: what it takes and what it names so far."""
 
-    def __init__(self, outer, parameters):
-        self.outer, self.parameters = outer, parameters
+    def __init__(self, outer, parameters, is_local=False):
+        self.outer, self.parameters, self.is_local = outer, parameters, is_local
         self.names, self.fixities, self.opened = {}, {}, {}
 
     def chain(self):
@@ -24,6 +24,11 @@ class Definition:
     def __init__(self, name, block, python, is_public, is_type):
         self.name, self.block, self.python, self.is_public, self.is_type = name, block, python, is_public, is_type
         self.arity, self.clauses, self.domains, self.late = None, [], [], set()
+
+
+class Clause:
+    def __init__(self, statement, patterns, body, scope):
+        self.statement, self.patterns, self.body, self.scope = statement, patterns, body, scope
 
 
 class File:
@@ -138,7 +143,7 @@ class Names:
         b = block
         while b:
             found = b.names.get(name)
-            if found and not (found[0] == "definition" and found[1].file is file and found[1].line > s.line):
+            if found and not (found[0] == "definition" and found[1].file is file and found[1].line > s.line and not found[1].block.is_local):
                 return found
             if name in b.opened:
                 return ("opened", *b.opened[name])
@@ -167,10 +172,13 @@ class Names:
             if x in found:
                 continue
             found.add(x)
-            parts = [(s, body) for s, _, body in x.clauses] if isinstance(x, Definition) else [(x.fields[f], e) for f, e in x.types.items()]
-            for s, e in parts:
+            if isinstance(x, Definition):
+                parts = [(c.statement, c.body, c.scope) for c in x.clauses]
+            else:
+                parts = [(x.fields[f], e, x.block) for f, e in x.types.items()]
+            for s, e, scope in parts:
                 for name in mentioned(e, set()):
-                    kind = self.known(x.file, x.block, name, s)
+                    kind = self.known(x.file, scope, name, s)
                     waiting += [y for y in kind[1:3] if isinstance(y, (Definition, RecordType))]
         return found
 
@@ -308,7 +316,7 @@ class Names:
         marks = []
         while w[0] in ("pub", "abbrev", "unfoldable"):
             marks.append(w.pop(0))
-        if len(w) > 1 and w[1] == ":":
+        if len(w) > 1 and w[1] == ":" and not s.below:
             reader = Expressions(s, w[2:], self.fixity(block))
             t, domains = reader.whole(reader.type), []
             while t[0] == "→":
@@ -326,6 +334,8 @@ class Names:
         if marks or not kind or kind[0] != "definition" or kind[1].block is not block or "=" not in w:
             s.refuse("a statement that is not known")
         d = kind[1]
+        if w[-1] == "where":
+            w.pop()
         reader = Expressions(s, w[1:w.index("=")], lambda _: None)
         patterns = []
         while reader.peek() is not None:
@@ -333,5 +343,16 @@ class Names:
         if d.arity not in (None, len(patterns)):
             s.refuse("clauses with different numbers of arguments")
         d.arity = len(patterns)
-        reader = Expressions(s, w[w.index("=") + 1:], self.fixity(block))
-        d.clauses.append((s, patterns, reader.whole(reader.type if d.is_type else reader.expression)))
+        scope = self.locals_of(file, block, s, patterns)
+        reader = Expressions(s, w[w.index("=") + 1:], self.fixity(scope))
+        d.clauses.append(Clause(s, patterns, reader.whole(reader.type if d.is_type else reader.expression), scope))
+
+    # the scope of a clause: its block, or one more with what stands below its `where`, which takes the clause's arguments
+    def locals_of(self, file, block, s, patterns):
+        if not s.below:
+            return block
+        if any(p[0] != "name" for p in patterns):
+            s.refuse("`where` below a clause whose arguments are not all names")
+        inner = Block(block, [("explicit", bare(p[1]), self.fresh(p[1])) for p in patterns], True)
+        self.declarations(file, inner, s.below)
+        return inner

@@ -8,7 +8,7 @@ from .terms import bare, mentioned, needed, replaced, spell, spine
 def late(d):
     if len(d.clauses) != 1:
         return set()
-    _, patterns, body = d.clauses[0]
+    patterns, body = d.clauses[0].patterns, d.clauses[0].body
     return {k for k, p in enumerate(patterns[:len(d.domains)]) if p[0] == "name" and spine(d.domains[k])[0] == ("name", "Ans") and not needed(p[1], body)}
 
 
@@ -17,7 +17,7 @@ class Function:
 
     def __init__(self, compiler, d):
         self.c, self.d = compiler, d
-        self.file, self.s = d.file, d.clauses[0][0]
+        self.file, self.s, self.scope = d.file, d.clauses[0].statement, d.block
 
     def write(self):
         d = self.d
@@ -27,9 +27,11 @@ class Function:
         lines = [f"def {d.python}({', '.join(taken + names)}):"]
         lines.append(f"    reached({d.file.name + '.' + d.name!r})")
         lines += [f"    {p} = Stated('a type')" for p in hidden]
-        for s, patterns, body in d.clauses:
-            self.s = s
-            self.clause(lines, names, patterns, body)
+        for c in d.clauses:
+            self.s, self.scope = c.statement, c.scope
+            if c.scope is not d.block:  # a `where`
+                lines += [f"    {p} = {name}" for (_, _, p), name in zip(c.scope.parameters, names)]
+            self.clause(lines, names, c.patterns, c.body)
         if not lines[-1].startswith("    return"):
             lines.append(f"    raise Refused('no clause of {d.name}')")
         if not taken and not names:
@@ -86,7 +88,7 @@ class Function:
     # a constructor in scope, or None for a new name
     def constructor(self, name):
         try:
-            kind = self.c.find(self.file, self.d.block, {}, name, self.s)
+            kind = self.c.find(self.file, self.scope, {}, name, self.s)
         except NotUnderstood:
             if "." in name:
                 raise
@@ -124,7 +126,7 @@ class Function:
         return fresh
 
     def kind(self, local, name):
-        return self.c.find(self.file, self.d.block, local, name, self.s)
+        return self.c.find(self.file, self.scope, local, name, self.s)
 
     # no local name and no parameter in it
     def closed(self, local, e):
@@ -138,7 +140,7 @@ class Function:
 
     # the parameters of the blocks that this definition and another one stand in
     def shared(self, d):
-        own = self.d.block.chain()
+        own = self.scope.chain()
         return [p for b in d.block.chain() if any(b is x for x in own) for kind, _, p in b.parameters if kind == "explicit"]
 
     # ---- an expression as Python text; what it needs is written before it
@@ -190,7 +192,7 @@ class Function:
 
     # a closed expression is worked once
     def constant(self, e):
-        key = (self.file.path, id(self.d.block), repr(e))
+        key = (self.file.path, id(self.scope), repr(e))
         if key not in self.c.constants:
             fresh = self.c.constants[key] = self.c.fresh("k")
             lines = ["@cache", f"def {fresh}():"]
