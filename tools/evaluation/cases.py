@@ -94,7 +94,7 @@ class Cases:
 
     # their exact values and distances, as they are promised
     def promises(self):
-        return promises.run(self.c, self.records(), 20 if self.whole else 200, self.whole)
+        return promises.run(self.c, self.records(), 20 if self.whole else 200)
 
     def elementary(self):
         port = self.c.get("elementary", "Port", "port")()
@@ -230,7 +230,7 @@ class Cases:
         files = [c.file(*f) for f in (("domthelv", "Operations"), ("domthelv", "Sets"), ("demand_three", "Demand"), ("proved_table", "Table"), ("elementary", "Promised"), ("elementary", "Port"))]
         for d in sorted((d for d in c.used_by(files) if isinstance(d, Definition)), key=lambda d: d.python):
             name = f"{d.file.name}.{d.name}"
-            if not (d.is_type and d.clauses[0].body[0] == "→"):
+            if not (d.is_type and c.states_of_all(d)):
                 yield "believed", None if name in c.reached else f"{name} is not evaluated"
 
     # ---- the quadrature rules: a rule of 10 nodes sums x^k as far as k = 19, the one of 21 as far as 31
@@ -270,22 +270,26 @@ class Exact:
 
     def __init__(self, c, m, call):
         self.c, self.call = c, call
-        port = c.get("elementary", "Port", "port")()
+        port, calls = c.get("elementary", "Port", "port")(), c.get("number", "Functions", "calls")
+
+        # a run takes the answers, or the functions that are made of them
+        def worked_in(a, *place):
+            takes = port if c.definition_of(*place).domains[1] == ("name", "Answers") else calls(a, port)
+            return c.get(*place)(a, takes, *handed)
         runs = [c.get("enclosure", "Enclosure", "enclosures")(), c.get("enclosure", "Exact", "exacts")()]
         s = m.record()
         if call.what in (8, 13):
             crate = "saftvrmie" if call.what == 13 else "saftvrqmie"
             handed = (s, *call.lengths[:2], chains.number(call.value), *chains.floats(call.listed))
             self.ends, self.float = c.get(crate + "_diameter_ends", "Operations", "diameterEnds")(port, *handed), c.get(crate, "Pairs", "diameterIj")()
-            self.run, self.exact = (c.get(crate, "Pairs", "diameterRun")(a, port, *handed) for a in runs)
+            self.run, self.exact = (worked_in(a, crate, "Pairs", "diameterRun") for a in runs)
         else:
             lent = m.diameters if call.what == 9 else m.table
             handed = (s, chains.number(call.value), *map(chains.floats, call.cut(2)), lent[:call.lengths[2]], call.flag == 1)
             crate, ends, run = ("saftvrmie_energies", "dispersionEnds", "energyRun") if call.what == 9 else ("saftvrqmie_energies", "energiesEnds", "contributionsOf")
             self.ends = c.get(crate + "_ends", "Operation", ends)(port, *handed)
             self.float = c.get(crate, "Energies", "energy" if call.what == 9 else "energies")()
-            calls = c.get("number", "Functions", "calls")
-            self.run, self.exact = (c.get(crate, "Energies", run)(a, calls(a, port), *handed) for a in runs)
+            self.run, self.exact = (worked_in(a, crate, "Energies", run) for a in runs)
         for x in handed:
             self.float = self.float(x)
 
