@@ -94,7 +94,7 @@ class Cases:
 
     # their exact values and distances, as they are promised
     def promises(self):
-        return promises.run(self.c, self.records(), 20 if self.whole else 200, self.whole)
+        return promises.run(self.c, self.records(), 20 if self.whole else 200)
 
     def elementary(self):
         port = self.c.get("elementary", "Port", "port")()
@@ -224,16 +224,13 @@ class Cases:
                 said = tuple(Fraction(q.exact[1][1] - q.exact[1][2], q.exact[1][3]) for q in (d.re, d.eps))
                 yield "slopes", None if said == wanted[name] else f"{name} of {x}, {dx} and {y}, {dy}: {said}, and not {wanted[name]}"
 
-    # statements about all values of a bracket, made of `Keeps`; `promises` works what they say at the vectors
-    STATEMENTS = {f"elementary.Promised.{name}" for name in ("LnAt", "Ln1pAt", "ExpAt", "ExpM1At", "TanhAt", "one")}
-
     # ---- that nothing was left out: what the boundary, demand 3, the table and the promises use was evaluated, but for statements about all values
     def believed(self):
         c = self.c
-        files = [c.file(*f) for f in (("domthelv", "Operations"), ("domthelv", "Sets"), ("domthelv", "Elementary"), ("demand_three", "Demand"), ("demand_three", "ByHistory"), ("proved_table", "Table"), ("elementary", "Promised"), ("elementary", "Port"))]
+        files = [c.file(*f) for f in (("domthelv", "Operations"), ("domthelv", "Sets"), ("demand_three", "Demand"), ("proved_table", "Table"), ("elementary", "Promised"), ("elementary", "Port"))]
         for d in sorted((d for d in c.used_by(files) if isinstance(d, Definition)), key=lambda d: d.python):
             name = f"{d.file.name}.{d.name}"
-            if not (d.is_type and d.clauses[0].body[0] == "→") and name not in self.STATEMENTS:
+            if not (d.is_type and c.states_of_all(d)):
                 yield "believed", None if name in c.reached else f"{name} is not evaluated"
 
     # ---- the quadrature rules: a rule of 10 nodes sums x^k as far as k = 19, the one of 21 as far as 31

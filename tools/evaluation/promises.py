@@ -116,12 +116,12 @@ class Promises:
         return said + ([] if r == 0.0 or less(square(midpoint(below, r)), self.value(x)) else [f"{below!r} is as near"])
 
 
-# of the accepted vectors each `every`-th of a function; numbers below 2^-100 make the fractions large and stand in --all alone
-def run(c, records, every, whole):
+# of the accepted vectors each `every`-th of a function; numbers below 2^-100, which make the fractions too large, are left out
+def run(c, records, every):
     p, seen = Promises(c), dict.fromkeys(PORT, 0)
     for which, a, b, wanted in records:
         name, x, y, r = PORT[which], chains.number(a), chains.number(b), chains.number(wanted)
-        if wanted == 2**64 - 1 or (not whole and any(0 < abs(z) < 2**-100 for z in (x, y))) or (name != "sqrt" and x == 0.0):
+        if wanted == 2**64 - 1 or any(0 < abs(z) < 2**-100 for z in (x, y)) or (name != "sqrt" and x == 0.0):
             continue
         seen[name] += 1
         if seen[name] % every == 1:

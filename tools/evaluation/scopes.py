@@ -182,6 +182,12 @@ class Names:
                     waiting += [y for y in kind[1:3] if isinstance(y, (Definition, RecordType))]
         return found
 
+    # whether a statement speaks of all values, or through a record, whose fields may
+    def states_of_all(self, d):
+        body = d.clauses[0].body
+        kinds = [self.known(d.file, d.clauses[0].scope, name, d.clauses[0].statement) for name in mentioned(body, set())]
+        return "'→'" in repr(body) or any(isinstance(y, RecordType) for kind in kinds for y in kind[1:3])
+
     # what a name stands for, or nothing where it is bound in the expression
     def known(self, file, block, name, s):
         try:
