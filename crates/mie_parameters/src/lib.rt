@@ -1,4 +1,4 @@
-// What the parameters of both models share: combining rules of a Mie pair, the answer, and lists in their places.
+// What both models share: the constant tables of their dispersion; of their parameters the combining rules of a Mie pair, the answer, and lists in their places.
 ghost use mathlib.Core.Path.{_≡_};
 ghost use Prim.Native.Nat.{_≤_};
 ghost use lib.ListN.{length};
@@ -13,6 +13,55 @@ ghost use Rattle.mie_parameters.specs.Answer.{numberOf};
 ghost use Rattle.mie_parameters.specs.Places.{inPlaces};
 use number::FloatAnswer;
 use sizes::SIDE;
+
+// Lafitte et al. 2013, for both models; SAFT-VR Mie calls LAM_COEFF C.
+pub const PHI: [[f64; 7]; 6] = [
+    [
+        7.5365557,
+        -37.60463,
+        71.745953,
+        -46.83552,
+        -2.467982,
+        -0.50272,
+        8.0956883,
+    ],
+    [-359.44, 1825.6, -3168.0, 1884.2, -0.82376, -3.1935, 3.709],
+    [1550.9, -5070.1, 6534.6, -3288.7, -2.7171, 2.0883, 0.0],
+    [
+        -1.19932,
+        9.063632,
+        -17.9482,
+        11.34027,
+        20.52142,
+        -56.6377,
+        40.53683,
+    ],
+    [
+        -1911.28,
+        21390.175,
+        -51320.7,
+        37064.54,
+        1103.742,
+        -3264.61,
+        2556.181,
+    ],
+    [
+        9236.9,
+        -129430.0,
+        357230.0,
+        -315530.0,
+        1390.2,
+        -4518.2,
+        4241.6,
+    ],
+];
+
+pub const LAM_COEFF: [[f64; 4]; 4] = [
+    [0.81096, 1.7888, -37.578, 92.284],
+    [1.0205, -19.341, 151.26, -463.50],
+    [-1.9057, 22.845, -228.14, 973.92],
+    [1.0885, -6.1962, 106.98, -677.64],
+];
 
 // Held, or the refusal's number; the set stands beside it.
 pub enum ParameterAnswer {

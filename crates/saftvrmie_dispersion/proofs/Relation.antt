@@ -10,7 +10,7 @@ use Rattle.number.proofs.Rel.{Rel, FunRel, Both, both-held, then-both, cond-rel
 use Rattle.dual.specs.Dual.{DualOf, duals, plainD}
 use Rattle.dual.proofs.Relation.{Duals, plain-rel, mul-rel, duals-rel}
 use Rattle.saftvrmie_dispersion.specs.Sutherland.{FluidIn, kHs, fluidOf, cRow, zetaEff, a1s, iOf, jOf, bOf, a1sBOf, a1sB}
-use Rattle.mie_parameters.specs.Sums.{ordersSum}
+use Rattle.mie_parameters.specs.Sums.{ordersSum, fFrom}
 use Rattle.saftvrmie_dispersion.specs.Terms.{PairIn, BarIn, FiveIn, OrdersIn, TermsIn, SumsIn, f, barOf, xiOf, a3Of, x0Of, addPure, addPair, five, prefOf, a1Of, a2Of, ordersOf, termsOf}
 use Rattle.saftvrmie_dispersion.specs.Chain.{KIn, LinkIn, kOf, rhoDual, zetaDual, fluidDual, g1Of, g2Of, linkPref, addLink, gHs, gammaOf, lnGMie, linkOf, chainPure}
 
@@ -185,7 +185,7 @@ module _ (A B : Arith) (K : Rel A B) where
   open Rel K using (R, r-add, r-sub, r-mul, r-div, r-neg, r-pow, r-lit, r-val)
 
   f-rel : (phi : List Float) {x : A .Num} {u : B .Num} → R x u → R (f A phi x) (f B phi u)
-  unfolding f
+  unfolding f fFrom
   f-rel phi p =
       let p2 = r-mul p p in
       let p3 = r-mul p p2 in

@@ -5,7 +5,7 @@ use mathlib.Core.List.{List}
 use Rattle.number.specs.Ans.{Ans, held, _>>=_}
 use Rattle.number.specs.Arith.{Arith, decimal}
 use Rattle.number.specs.Functions.{Functions}
-use Rattle.number.specs.Lists.{at}
+use Rattle.mie_parameters.specs.Sums.{fFrom}
 use Rattle.mie_parameters.specs.Tables.{phi0, phi1, phi2, phi3, phi4, phi5}
 use Rattle.saftvrmie_dispersion.specs.Sutherland.{FluidIn, a1sB}
 
@@ -67,16 +67,11 @@ module _ (A : Arith) where
   two = lit (decimal false 2 0)
 
   -- `f` of a row of PHI
-  abbrev pub fFrom : List Float → Num → Num → Num → Num
-  fFrom phi alpha alpha2 alpha3 =
-      (alpha ⊗ lit (at phi 1) ⊕ alpha2 ⊗ lit (at phi 2) ⊕ alpha3 ⊗ lit (at phi 3) ⊕ lit (at phi 0))
-      ⊘ (alpha ⊗ lit (at phi 4) ⊕ alpha2 ⊗ lit (at phi 5) ⊕ alpha3 ⊗ lit (at phi 6) ⊕ one)
-
   unfoldable pub f : List Float → Num → Num
   f phi alpha =
       let alpha2 = alpha ⊗ alpha in
       let alpha3 = alpha ⊗ alpha2 in
-      fFrom phi alpha alpha2 alpha3
+      fFrom A phi alpha alpha2 alpha3
 
   -- zeta_x_bar, `zx5` and `zx8`
   unfoldable pub barOf : Num → BarIn Num

@@ -15,56 +15,10 @@ ghost use Rattle.saftvrmie_dispersion.specs.Answer.{pairOf, fluidIn, flu
 ghost use Rattle.saftvrmie_dispersion.specs.Staged.{lambdaInside, fiveInside, a1sBAt, fiveAt, lambdas, fiveTested, kTested};
 use binary_log::Log;
 use dual::Dual;
+use mie_parameters::LAM_COEFF;
+use mie_parameters::PHI;
 use number::FloatAnswer;
 use saftvrmie_parameters::PairParameters;
-
-pub const PHI: [[f64; 7]; 6] = [
-    [
-        7.5365557,
-        -37.60463,
-        71.745953,
-        -46.83552,
-        -2.467982,
-        -0.50272,
-        8.0956883,
-    ],
-    [-359.44, 1825.6, -3168.0, 1884.2, -0.82376, -3.1935, 3.709],
-    [1550.9, -5070.1, 6534.6, -3288.7, -2.7171, 2.0883, 0.0],
-    [
-        -1.19932,
-        9.063632,
-        -17.9482,
-        11.34027,
-        20.52142,
-        -56.6377,
-        40.53683,
-    ],
-    [
-        -1911.28,
-        21390.175,
-        -51320.7,
-        37064.54,
-        1103.742,
-        -3264.61,
-        2556.181,
-    ],
-    [
-        9236.9,
-        -129430.0,
-        357230.0,
-        -315530.0,
-        1390.2,
-        -4518.2,
-        4241.6,
-    ],
-];
-
-pub const C: [[f64; 4]; 4] = [
-    [0.81096, 1.7888, -37.578, 92.284],
-    [1.0205, -19.341, 151.26, -463.50],
-    [-1.9057, 22.845, -228.14, 973.92],
-    [1.0885, -6.1962, 106.98, -677.64],
-];
 
 // What all pairs of a state share: b1, b2 and b3 are the factors of `b_ij` that hang on zeta_x alone.
 pub struct Fluid {
@@ -208,10 +162,10 @@ pub fn zeta_eff(zeta: f64, lambda: f64) -> f64
     let li = 1.0 / lambda;
     let li2 = li * li;
     let li3 = li * li2;
-    let c0 = c_row(li, li2, li3, C[0]);
-    let c1 = c_row(li, li2, li3, C[1]);
-    let c2 = c_row(li, li2, li3, C[2]);
-    let c3 = c_row(li, li2, li3, C[3]);
+    let c0 = c_row(li, li2, li3, LAM_COEFF[0]);
+    let c1 = c_row(li, li2, li3, LAM_COEFF[1]);
+    let c2 = c_row(li, li2, li3, LAM_COEFF[2]);
+    let c3 = c_row(li, li2, li3, LAM_COEFF[3]);
     zeta * (zeta * (zeta * (zeta * c3 + c2) + c1) + c0)
 }
 
@@ -434,10 +388,10 @@ pub fn zeta_eff_dual(zeta: Dual, lambda: f64) -> Dual
     let li = 1.0 / lambda;
     let li2 = li * li;
     let li3 = li * li2;
-    let c0 = dual::plain(c_row(li, li2, li3, C[0]));
-    let c1 = dual::plain(c_row(li, li2, li3, C[1]));
-    let c2 = dual::plain(c_row(li, li2, li3, C[2]));
-    let c3 = dual::plain(c_row(li, li2, li3, C[3]));
+    let c0 = dual::plain(c_row(li, li2, li3, LAM_COEFF[0]));
+    let c1 = dual::plain(c_row(li, li2, li3, LAM_COEFF[1]));
+    let c2 = dual::plain(c_row(li, li2, li3, LAM_COEFF[2]));
+    let c3 = dual::plain(c_row(li, li2, li3, LAM_COEFF[3]));
     let s3 = dual::add(dual::mul(zeta, c3), c2);
     let s2 = dual::add(dual::mul(zeta, s3), c1);
     let s1 = dual::add(dual::mul(zeta, s2), c0);

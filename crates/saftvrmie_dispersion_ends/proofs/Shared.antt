@@ -14,9 +14,10 @@ use Rattle.power.specs.Power.{powfOf}
 use Rattle.interval.specs.Interval.{powI}
 use Rattle.enclosure.specs.declared.Enclosure.{Enclosure}
 use Rattle.enclosure.specs.Enclosure.{enclosures, point, addE, subE, mulE, divE, powE}
+use Rattle.mie_parameters.specs.Sums.{fFrom}
 use Rattle.saftvrmie_dispersion.specs.Sutherland.{FluidIn, zetaEff, a1s, iOf, jOf, a1sBOf, a1sB}
 use Rattle.saftvrmie_dispersion.specs.Terms.{BarIn, xiOf, a3Of, five}
-use Rattle.saftvrmie_dispersion_ends.specs.Shared.{lambdaOf, zetaEffBy, a1sBy, iBy, jBy, a1sBBy, powerAt, fBy, sixOf, xiBy, a3By}
+use Rattle.saftvrmie_dispersion_ends.specs.Shared.{lambdaOf, zetaEffBy, a1sBy, iBy, jBy, a1sBBy, powerAt, sixOf, xiBy, a3By}
 
 pub square-is : (x : Enclosure) → powE x 2 ≡ mulE (point (decimal false 1 0)) (mulE x x)
 unfolding powE powI powUp digits powDigits mulE point decimal ofBits
@@ -50,8 +51,8 @@ module _ (phi : List Float) (alpha alpha2 alpha3 : Enclosure) where
       → t2 ≡ addE t1 d3
       → t3 ≡ addE t2 one
       → r ≡ divE s3 t3
-      → r ≡ fBy phi alpha alpha2 alpha3
-  unfolding fBy
+      → r ≡ fFrom enclosures phi alpha alpha2 alpha3
+  unfolding fFrom
   f-of o m1 n1 m2 n2 m3 n3 n0 m4 d1 m5 d2 m6 d3 s1 s2 s3 t1 t2 t3 r = rw (r, t3, t2, t1, s3, s2, s1, d3, m6, d2, m5, d1, m4, n0, n3, m3, n2, m2, n1, m1, o)
 
 pub xi-is : (bar : BarIn Enclosure) (alpha : Enclosure) → xiOf enclosures bar alpha ≡ xiBy bar (sixOf alpha)

@@ -1,6 +1,4 @@
 -- A pair's formulas in the two-ended run from what the code works once: of an exponent, of the base of its powers, and of alpha. The contracts of helpers alone; that these are the formulas is shown in proofs/Shared.
-use lib.Ieee.{Float}
-use mathlib.Core.List.{List}
 use Rattle.number.specs.Ans.{Ans}
 use Rattle.number.specs.Arith.{Arith, whole}
 use Rattle.number.specs.Functions.{calls, answered₂}
@@ -11,7 +9,7 @@ use Rattle.enclosure.specs.declared.Enclosure.{Enclosure}
 use Rattle.enclosure.specs.Enclosure.{enclosures, subE, mulE, divE}
 use Rattle.saftvrmie_dispersion.specs.Sutherland.{FluidIn, cRow, zetaEffFrom, a1sFrom, iFrom, jFrom, bOf}
 use Rattle.mie_parameters.specs.Tables.{phi0, phi1, phi2, phi3, phi4, phi5, c0, c1, c2, c3}
-use Rattle.saftvrmie_dispersion.specs.Terms.{BarIn, f, fFrom, xiFrom, a3From}
+use Rattle.saftvrmie_dispersion.specs.Terms.{BarIn, f, xiFrom, a3From}
 use Rattle.saftvrmie_dispersion_ends.specs.declared.LambdaEnclosures.{LambdaEnclosures}
 use Rattle.saftvrmie_dispersion_ends.specs.declared.SixEnclosures.{SixEnclosures}
 
@@ -54,10 +52,6 @@ module _ (D : Arith) (plain : Enclosure → D .Num) where
 -- the power y of x0 by the logarithm of its value
 unfoldable pub powerAt : Log → Enclosure → Enclosure → Ans Enclosure
 powerAt l x0 y = answered₂ enclosures (powfAt l (y .value)) x0 y
-
--- `f` from alpha and its powers 2 and 3
-unfoldable pub fBy : List Float → Enclosure → Enclosure → Enclosure → Enclosure
-fBy phi alpha alpha2 alpha3 = fFrom enclosures phi alpha alpha2 alpha3
 
 unfoldable pub sixOf : Enclosure → SixEnclosures
 sixOf alpha =

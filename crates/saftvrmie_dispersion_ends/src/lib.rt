@@ -6,16 +6,16 @@ ghost use Rattle.enclosure.specs.Answer.{answer};
 ghost use Rattle.enclosure.specs.Enclosure.{enclosures, point};
 ghost use Rattle.saftvrmie_dispersion.specs.Sutherland.{kHs, fluidOf, cRow, bOf, a1sB};
 ghost use Rattle.mie_parameters.specs.Tables.{phi0, phi1, phi2, phi3, phi4, phi5, c0, c1, c2, c3};
-ghost use Rattle.mie_parameters.specs.Sums.{ordersSum};
+ghost use Rattle.mie_parameters.specs.Sums.{ordersSum, fFrom};
 ghost use Rattle.saftvrmie_dispersion.specs.Terms.{barOf, x0Of, five, prefOf, a1Of, a2Of, termsOf, addPure, addPair};
 ghost use Rattle.saftvrmie_dispersion.specs.Answer.{pairIn};
-ghost use Rattle.saftvrmie_dispersion_ends.specs.Shared.{lambdaOf, zetaEffBy, a1sBy, iBy, jBy, a1sBBy, powerAt, fBy, sixOf, xiBy, a3By};
+ghost use Rattle.saftvrmie_dispersion_ends.specs.Shared.{lambdaOf, zetaEffBy, a1sBy, iBy, jBy, a1sBBy, powerAt, sixOf, xiBy, a3By};
 ghost use Rattle.saftvrmie_dispersion_ends.specs.Answer.{fluidIn, barIn, fiveIn, fiveAnswer, termsIn, termsAnswer, sumsIn};
 use binary_log::Log;
 use enclosure::Enclosure;
 use enclosure::EnclosureAnswer;
-use saftvrmie_dispersion::C;
-use saftvrmie_dispersion::PHI;
+use mie_parameters::LAM_COEFF;
+use mie_parameters::PHI;
 use saftvrmie_parameters::PairParameters;
 
 // What all pairs of a state share: b1, b2 and b3 are the factors of `b_ij` that hang on zeta_x alone.
@@ -134,41 +134,41 @@ pub fn fluid_of(rho: Enclosure, zeta_x: Enclosure, k_hs: Enclosure) -> FluidEncl
 fn c_row_0(li: Enclosure, li2: Enclosure, li3: Enclosure) -> Enclosure
     ensures { λ r. ⌜ r ≡ cRow enclosures li li2 li3 c0 ⌝ }
 {
-    let a = enclosure::mul(li, enclosure::point(C[0][1]));
-    let b = enclosure::mul(li2, enclosure::point(C[0][2]));
-    let d = enclosure::mul(li3, enclosure::point(C[0][3]));
+    let a = enclosure::mul(li, enclosure::point(LAM_COEFF[0][1]));
+    let b = enclosure::mul(li2, enclosure::point(LAM_COEFF[0][2]));
+    let d = enclosure::mul(li3, enclosure::point(LAM_COEFF[0][3]));
     let s = enclosure::add(enclosure::add(a, b), d);
-    enclosure::add(s, enclosure::point(C[0][0]))
+    enclosure::add(s, enclosure::point(LAM_COEFF[0][0]))
 }
 
 fn c_row_1(li: Enclosure, li2: Enclosure, li3: Enclosure) -> Enclosure
     ensures { λ r. ⌜ r ≡ cRow enclosures li li2 li3 c1 ⌝ }
 {
-    let a = enclosure::mul(li, enclosure::point(C[1][1]));
-    let b = enclosure::mul(li2, enclosure::point(C[1][2]));
-    let d = enclosure::mul(li3, enclosure::point(C[1][3]));
+    let a = enclosure::mul(li, enclosure::point(LAM_COEFF[1][1]));
+    let b = enclosure::mul(li2, enclosure::point(LAM_COEFF[1][2]));
+    let d = enclosure::mul(li3, enclosure::point(LAM_COEFF[1][3]));
     let s = enclosure::add(enclosure::add(a, b), d);
-    enclosure::add(s, enclosure::point(C[1][0]))
+    enclosure::add(s, enclosure::point(LAM_COEFF[1][0]))
 }
 
 fn c_row_2(li: Enclosure, li2: Enclosure, li3: Enclosure) -> Enclosure
     ensures { λ r. ⌜ r ≡ cRow enclosures li li2 li3 c2 ⌝ }
 {
-    let a = enclosure::mul(li, enclosure::point(C[2][1]));
-    let b = enclosure::mul(li2, enclosure::point(C[2][2]));
-    let d = enclosure::mul(li3, enclosure::point(C[2][3]));
+    let a = enclosure::mul(li, enclosure::point(LAM_COEFF[2][1]));
+    let b = enclosure::mul(li2, enclosure::point(LAM_COEFF[2][2]));
+    let d = enclosure::mul(li3, enclosure::point(LAM_COEFF[2][3]));
     let s = enclosure::add(enclosure::add(a, b), d);
-    enclosure::add(s, enclosure::point(C[2][0]))
+    enclosure::add(s, enclosure::point(LAM_COEFF[2][0]))
 }
 
 fn c_row_3(li: Enclosure, li2: Enclosure, li3: Enclosure) -> Enclosure
     ensures { λ r. ⌜ r ≡ cRow enclosures li li2 li3 c3 ⌝ }
 {
-    let a = enclosure::mul(li, enclosure::point(C[3][1]));
-    let b = enclosure::mul(li2, enclosure::point(C[3][2]));
-    let d = enclosure::mul(li3, enclosure::point(C[3][3]));
+    let a = enclosure::mul(li, enclosure::point(LAM_COEFF[3][1]));
+    let b = enclosure::mul(li2, enclosure::point(LAM_COEFF[3][2]));
+    let d = enclosure::mul(li3, enclosure::point(LAM_COEFF[3][3]));
     let s = enclosure::add(enclosure::add(a, b), d);
-    enclosure::add(s, enclosure::point(C[3][0]))
+    enclosure::add(s, enclosure::point(LAM_COEFF[3][0]))
 }
 
 pub fn lambda_of(lambda: Enclosure) -> LambdaEnclosures
@@ -332,7 +332,7 @@ fn five_sums(
 
 // `f` of a row of PHI, its numbers known where it is worked; a function each, with one caller.
 fn f_0(alpha: Enclosure, alpha2: Enclosure, alpha3: Enclosure) -> Enclosure
-    ensures { λ r. ⌜ r ≡ fBy phi0 alpha alpha2 alpha3 ⌝ }
+    ensures { λ r. ⌜ r ≡ fFrom enclosures phi0 alpha alpha2 alpha3 ⌝ }
 {
     let one = enclosure::point(1.0);
     let n1 = enclosure::mul(alpha, enclosure::point(PHI[0][1]));
@@ -349,7 +349,7 @@ fn f_0(alpha: Enclosure, alpha2: Enclosure, alpha3: Enclosure) -> Enclosure
 }
 
 fn f_1(alpha: Enclosure, alpha2: Enclosure, alpha3: Enclosure) -> Enclosure
-    ensures { λ r. ⌜ r ≡ fBy phi1 alpha alpha2 alpha3 ⌝ }
+    ensures { λ r. ⌜ r ≡ fFrom enclosures phi1 alpha alpha2 alpha3 ⌝ }
 {
     let one = enclosure::point(1.0);
     let n1 = enclosure::mul(alpha, enclosure::point(PHI[1][1]));
@@ -366,7 +366,7 @@ fn f_1(alpha: Enclosure, alpha2: Enclosure, alpha3: Enclosure) -> Enclosure
 }
 
 fn f_2(alpha: Enclosure, alpha2: Enclosure, alpha3: Enclosure) -> Enclosure
-    ensures { λ r. ⌜ r ≡ fBy phi2 alpha alpha2 alpha3 ⌝ }
+    ensures { λ r. ⌜ r ≡ fFrom enclosures phi2 alpha alpha2 alpha3 ⌝ }
 {
     let one = enclosure::point(1.0);
     let n1 = enclosure::mul(alpha, enclosure::point(PHI[2][1]));
@@ -383,7 +383,7 @@ fn f_2(alpha: Enclosure, alpha2: Enclosure, alpha3: Enclosure) -> Enclosure
 }
 
 fn f_3(alpha: Enclosure, alpha2: Enclosure, alpha3: Enclosure) -> Enclosure
-    ensures { λ r. ⌜ r ≡ fBy phi3 alpha alpha2 alpha3 ⌝ }
+    ensures { λ r. ⌜ r ≡ fFrom enclosures phi3 alpha alpha2 alpha3 ⌝ }
 {
     let one = enclosure::point(1.0);
     let n1 = enclosure::mul(alpha, enclosure::point(PHI[3][1]));
@@ -400,7 +400,7 @@ fn f_3(alpha: Enclosure, alpha2: Enclosure, alpha3: Enclosure) -> Enclosure
 }
 
 fn f_4(alpha: Enclosure, alpha2: Enclosure, alpha3: Enclosure) -> Enclosure
-    ensures { λ r. ⌜ r ≡ fBy phi4 alpha alpha2 alpha3 ⌝ }
+    ensures { λ r. ⌜ r ≡ fFrom enclosures phi4 alpha alpha2 alpha3 ⌝ }
 {
     let one = enclosure::point(1.0);
     let n1 = enclosure::mul(alpha, enclosure::point(PHI[4][1]));
@@ -417,7 +417,7 @@ fn f_4(alpha: Enclosure, alpha2: Enclosure, alpha3: Enclosure) -> Enclosure
 }
 
 fn f_5(alpha: Enclosure, alpha2: Enclosure, alpha3: Enclosure) -> Enclosure
-    ensures { λ r. ⌜ r ≡ fBy phi5 alpha alpha2 alpha3 ⌝ }
+    ensures { λ r. ⌜ r ≡ fFrom enclosures phi5 alpha alpha2 alpha3 ⌝ }
 {
     let one = enclosure::point(1.0);
     let n1 = enclosure::mul(alpha, enclosure::point(PHI[5][1]));

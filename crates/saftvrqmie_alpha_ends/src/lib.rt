@@ -4,12 +4,13 @@ ghost use Rattle.number.specs.Functions.{calls};
 ghost use Rattle.elementary.specs.Port.{port};
 ghost use Rattle.enclosure.specs.Answer.{answer};
 ghost use Rattle.enclosure.specs.Enclosure.{enclosures};
+ghost use Rattle.mie_parameters.specs.Sums.{fFrom};
 ghost use Rattle.saftvrqmie_potential.specs.Potential.{prefactor, quantumD};
-ghost use Rattle.saftvrqmie_dispersion.specs.Alpha.{ratio, dmtOf, alphaMie, alphaQ1, alphaQ2, alphaOf, alpha, fOf, f, chi, thirdOrderIj};
+ghost use Rattle.saftvrqmie_dispersion.specs.Alpha.{ratio, dmtOf, alphaMie, alphaQ1, alphaQ2, alphaOf, alpha, chi, thirdOrderIj};
 ghost use Rattle.saftvrqmie_alpha_ends.specs.Pair.{pairIn};
 use enclosure::Enclosure;
 use enclosure::EnclosureAnswer;
-use saftvrqmie_dispersion::PHI;
+use mie_parameters::PHI;
 use saftvrqmie_parameters::FeynmanHibbsOrder;
 
 // The parameters of a pair, and the temperature.
@@ -166,19 +167,17 @@ pub fn alpha_ij(
     EnclosureAnswer::Value(enclosure::after(dmt, v))
 }
 
-// A row of PHI.
-fn f_of(a: Enclosure, p0: f64, p1: f64, p2: f64, p3: f64, p4: f64, p5: f64, p6: f64) -> Enclosure
-    ensures { λ r. ⌜ r ≡ fOf enclosures a p0 p1 p2 p3 p4 p5 p6 ⌝ }
+// `f` of a row of PHI, from alpha and its powers 2 and 3.
+fn f(phi: [f64; 7], a: Enclosure, a2: Enclosure, a3: Enclosure) -> Enclosure
+    ensures { λ r. ⌜ r ≡ fFrom enclosures phi a a2 a3 ⌝ }
 {
-    let t0 = enclosure::point(p0);
-    let t1 = enclosure::point(p1);
-    let t2 = enclosure::point(p2);
-    let t3 = enclosure::point(p3);
-    let t4 = enclosure::point(p4);
-    let t5 = enclosure::point(p5);
-    let t6 = enclosure::point(p6);
-    let a2 = enclosure::pow_up(a, 2);
-    let a3 = enclosure::pow_up(a, 3);
+    let t0 = enclosure::point(phi[0]);
+    let t1 = enclosure::point(phi[1]);
+    let t2 = enclosure::point(phi[2]);
+    let t3 = enclosure::point(phi[3]);
+    let t4 = enclosure::point(phi[4]);
+    let t5 = enclosure::point(phi[5]);
+    let t6 = enclosure::point(phi[6]);
     let over = enclosure::add(
         enclosure::add(
             enclosure::add(enclosure::mul(a, t1), enclosure::mul(a2, t2)),
@@ -197,105 +196,20 @@ fn f_of(a: Enclosure, p0: f64, p1: f64, p2: f64, p3: f64, p4: f64, p5: f64, p6: 
     enclosure::div(over, under)
 }
 
-pub fn f0(a: Enclosure) -> Enclosure
-    ensures { λ r. ⌜ r ≡ f enclosures 0 a ⌝ }
-{
-    f_of(
-        a,
-        PHI[0][0],
-        PHI[0][1],
-        PHI[0][2],
-        PHI[0][3],
-        PHI[0][4],
-        PHI[0][5],
-        PHI[0][6],
-    )
-}
-
-pub fn f1(a: Enclosure) -> Enclosure
-    ensures { λ r. ⌜ r ≡ f enclosures 1 a ⌝ }
-{
-    f_of(
-        a,
-        PHI[1][0],
-        PHI[1][1],
-        PHI[1][2],
-        PHI[1][3],
-        PHI[1][4],
-        PHI[1][5],
-        PHI[1][6],
-    )
-}
-
-pub fn f2(a: Enclosure) -> Enclosure
-    ensures { λ r. ⌜ r ≡ f enclosures 2 a ⌝ }
-{
-    f_of(
-        a,
-        PHI[2][0],
-        PHI[2][1],
-        PHI[2][2],
-        PHI[2][3],
-        PHI[2][4],
-        PHI[2][5],
-        PHI[2][6],
-    )
-}
-
-pub fn f3(a: Enclosure) -> Enclosure
-    ensures { λ r. ⌜ r ≡ f enclosures 3 a ⌝ }
-{
-    f_of(
-        a,
-        PHI[3][0],
-        PHI[3][1],
-        PHI[3][2],
-        PHI[3][3],
-        PHI[3][4],
-        PHI[3][5],
-        PHI[3][6],
-    )
-}
-
-pub fn f4(a: Enclosure) -> Enclosure
-    ensures { λ r. ⌜ r ≡ f enclosures 4 a ⌝ }
-{
-    f_of(
-        a,
-        PHI[4][0],
-        PHI[4][1],
-        PHI[4][2],
-        PHI[4][3],
-        PHI[4][4],
-        PHI[4][5],
-        PHI[4][6],
-    )
-}
-
-pub fn f5(a: Enclosure) -> Enclosure
-    ensures { λ r. ⌜ r ≡ f enclosures 5 a ⌝ }
-{
-    f_of(
-        a,
-        PHI[5][0],
-        PHI[5][1],
-        PHI[5][2],
-        PHI[5][3],
-        PHI[5][4],
-        PHI[5][5],
-        PHI[5][6],
-    )
-}
-
 pub fn chi(a: Enclosure, zeta_bar: Enclosure) -> Enclosure
     ensures { λ r. ⌜ r ≡ chi enclosures a «zeta_bar» ⌝ }
 {
+    let a2 = enclosure::pow_up(a, 2);
+    let a3 = enclosure::pow_up(a, 3);
+    let f0 = f(PHI[0], a, a2, a3);
+    let f1 = f(PHI[1], a, a2, a3);
+    let f2 = f(PHI[2], a, a2, a3);
     enclosure::add(
         enclosure::add(
-            enclosure::mul(f0(a), zeta_bar),
-            enclosure::mul(f1(a), enclosure::pow_up(zeta_bar, 5)),
+            enclosure::mul(f0, zeta_bar),
+            enclosure::mul(f1, enclosure::pow_up(zeta_bar, 5)),
         ),
-        enclosure::mul(f2(a), enclosure::pow_up(zeta_bar, 8)),
+        enclosure::mul(f2, enclosure::pow_up(zeta_bar, 8)),
     )
 }
 
@@ -306,16 +220,21 @@ pub fn third_order_perturbation_ij(
 ) -> EnclosureAnswer
     ensures { λ r. ⌜ answer r ≡ thirdOrderIj enclosures (calls enclosures port) «epsilon_k_eff» a «zeta_bar» ⌝ }
 {
+    let a2 = enclosure::pow_up(a, 2);
+    let a3 = enclosure::pow_up(a, 3);
+    let f3 = f(PHI[3], a, a2, a3);
+    let f4 = f(PHI[4], a, a2, a3);
+    let f5 = f(PHI[5], a, a2, a3);
     let x = enclosure::add(
-        enclosure::mul(f4(a), zeta_bar),
-        enclosure::mul(f5(a), enclosure::pow_up(zeta_bar, 2)),
+        enclosure::mul(f4, zeta_bar),
+        enclosure::mul(f5, enclosure::pow_up(zeta_bar, 2)),
     );
     let EnclosureAnswer::Value(e) = elementary_ends::exp(x) else {
         return EnclosureAnswer::Outside;
     };
     EnclosureAnswer::Value(enclosure::mul(
         enclosure::mul(
-            enclosure::mul(enclosure::neg(enclosure::pow_up(epsilon_k_eff, 3)), f3(a)),
+            enclosure::mul(enclosure::neg(enclosure::pow_up(epsilon_k_eff, 3)), f3),
             zeta_bar,
         ),
         e,

@@ -1,17 +1,21 @@
 -- Alpha and the three perturbations keep any relation that the operations and the elementary functions keep. Assumes nothing.
 use Prim.Native.Nat.{ℕ, _+_, _*_}
 use lib.Dec.{eqb}
+use lib.Ieee.{Float}
+use mathlib.Core.List.{List}
 use mathlib.Core.Path.{_≡_, refl, ap}
 use Rattle.number.specs.Ans.{Ans}
 use Rattle.number.specs.Arith.{Arith}
 use Rattle.number.specs.Functions.{Functions}
 use Rattle.number.specs.Walk.{walk}
 use Rattle.number.proofs.Rel.{Rel, FunRel, Both, both-held, then-both, cond-rel, walk-rel}
+use Rattle.mie_parameters.specs.Sums.{fFrom}
+use Rattle.mie_parameters.specs.Tables.{phi3, phi4, phi5}
 use Rattle.saftvrqmie_parameters.specs.declared.FeynmanHibbsOrder.{FeynmanHibbsOrder}
 use Rattle.saftvrqmie_potential.specs.Potential.{PairIn, orderNumber, firstOrder, secondOrder, q1, q2}
 use Rattle.saftvrqmie_potential.proofs.Relation.{PairR, quantumD-rel}
 use Rattle.saftvrqmie_dispersion_terms.proofs.Relation.{combineSutherlandAndB-rel}
-use Rattle.saftvrqmie_dispersion.specs.Alpha.{ratio, dmtOf, alphaMie, alphaQ1, alphaQ2, alphaOf, alpha, f, fOf, chi, thirdOrderIj}
+use Rattle.saftvrqmie_dispersion.specs.Alpha.{ratio, dmtOf, alphaMie, alphaQ1, alphaQ2, alphaOf, alpha, f, chi, thirdOrderIj}
 use Rattle.saftvrqmie_dispersion.specs.Perturbation.{DispersionIn, QuantumIn, FactorsIn, dispersionPair, kFactor, quantum1, quantum2, quantumOf, factors0, factors1, factors2, factors2More, factors3, factors4, factors, firstMie, firstQ1, firstQ2, firstClosed, firstOrderBy, secondTurn, secondClosed, secondOrderBy, combineOf, firstOrderIj, secondOrderIj}
 
 -- two pairs' values, part by part; the order is one
@@ -57,9 +61,9 @@ module _ (A B : Arith) (K : Rel A B) where
   unfolding alphaQ2
   alphaQ2-rel p q r = search (r-add, r-sub, r-mul, r-pow, r-lit) depth 12
 
-  pub f-rel : (k : ℕ) {a : A .Num} {a' : B .Num} → R a a' → R (f A k a) (f B k a')
-  unfolding f fOf
-  f-rel k p = search (r-add, r-mul, r-div, r-pow, r-lit) depth 12
+  pub f-rel : (phi : List Float) {a : A .Num} {a' : B .Num} → R a a' → R (f A phi a) (f B phi a')
+  unfolding f fFrom
+  f-rel phi p = search (r-add, r-mul, r-div, r-pow, r-lit) depth 12
 
   pub chi-rel : {a z : A .Num} {a' z' : B .Num} → R a a' → R z z' → R (chi A a z) (chi B a' z')
   unfolding chi
@@ -219,8 +223,8 @@ module _ (A B : Arith) (K : Rel A B) where
     pub thirdOrderIj-rel : {e a z : A .Num} {e' a' z' : B .Num} → R e e' → R a a' → R z z' → Both R (thirdOrderIj A F e a z) (thirdOrderIj B G e' a' z')
     unfolding thirdOrderIj
     thirdOrderIj-rel e a z =
-        then-both (r-exp (r-add (r-mul (f-rel 4 a) z) (r-mul (f-rel 5 a) (r-pow 2 z)))) (λ _ _ x.
-        both-held (r-mul (r-mul (r-mul (r-neg (r-pow 3 e)) (f-rel 3 a)) z) x))
+        then-both (r-exp (r-add (r-mul (f-rel phi4 a) z) (r-mul (f-rel phi5 a) (r-pow 2 z)))) (λ _ _ x.
+        both-held (r-mul (r-mul (r-mul (r-neg (r-pow 3 e)) (f-rel phi3 a)) z) x))
 
     module _ {p : DispersionIn (A .Num)} {q : DispersionIn (B .Num)} (P : DispersionR R p q) where
       combineOf-rel : (x : A .Num) (u : B .Num) → R x u → Both R (combineOf A F p x) (combineOf B G q u)

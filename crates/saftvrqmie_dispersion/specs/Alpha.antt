@@ -1,12 +1,13 @@
 -- `Alpha` of saftvrqmie/eos/dispersion.rs for one pair: alpha_ij, the functions f_k of it, and what the perturbations take of them, over any arithmetic, in the Rust's order of operations.
-use Prim.Native.Nat.{ℕ}
 use lib.Ieee.{Float}
 use mathlib.Core.Bool.{false, cond}
+use mathlib.Core.List.{List}
 use Rattle.number.specs.Ans.{Ans, held, _>>=_}
 use Rattle.number.specs.Arith.{Arith, decimal, whole}
 use Rattle.number.specs.Functions.{Functions}
+use Rattle.mie_parameters.specs.Sums.{fFrom}
+use Rattle.mie_parameters.specs.Tables.{phi0, phi1, phi2, phi3, phi4, phi5}
 use Rattle.saftvrqmie_potential.specs.Potential.{PairIn, firstOrder, secondOrder, quantumD}
-use Rattle.saftvrqmie_dispersion.specs.Constants.{phi}
 
 module _ (A : Arith) where
   open Arith A using (Num, add as _⊕_, sub as _⊖_, mul as _⊗_, div as _⊘_, neg as ⊖_, pow, lit, after)
@@ -52,20 +53,16 @@ module _ (A : Arith) where
       let dmt = dmtOf F p in
       held (after dmt (alphaOf p dmt s ra rr ⊗ (e ⊗ p .c)))
 
-  -- `f` of an alpha, from a row of PHI
-  unfoldable pub fOf : Num → (p0 p1 p2 p3 p4 p5 p6 : Float) → Num
-  fOf a p0 p1 p2 p3 p4 p5 p6 = (a ⊗ lit p1 ⊕ pow a 2 ⊗ lit p2 ⊕ pow a 3 ⊗ lit p3 ⊕ lit p0) ⊘ (a ⊗ lit p4 ⊕ pow a 2 ⊗ lit p5 ⊕ pow a 3 ⊗ lit p6 ⊕ whole A 1)
-
-  -- `f(k)`
-  unfoldable pub f : ℕ → Num → Num
-  f k a = fOf a (phi k 0) (phi k 1) (phi k 2) (phi k 3) (phi k 4) (phi k 5) (phi k 6)
+  -- `f` of a row of PHI
+  unfoldable pub f : List Float → Num → Num
+  f phi a = fFrom A phi a (pow a 2) (pow a 3)
 
   -- chi of the second order
   unfoldable pub chi : Num → Num → Num
-  chi a zeta-bar = f 0 a ⊗ zeta-bar ⊕ f 1 a ⊗ pow zeta-bar 5 ⊕ f 2 a ⊗ pow zeta-bar 8
+  chi a zeta-bar = f phi0 a ⊗ zeta-bar ⊕ f phi1 a ⊗ pow zeta-bar 5 ⊕ f phi2 a ⊗ pow zeta-bar 8
 
   -- `third_order_perturbation_ij`, from the pair's alpha
   unfoldable pub thirdOrderIj : Functions Num → Num → Num → Num → Ans Num
   thirdOrderIj F epsilon-k-eff a zeta-bar =
-      F .exp (f 4 a ⊗ zeta-bar ⊕ f 5 a ⊗ pow zeta-bar 2) >>= λ e.
-      held (⊖ pow epsilon-k-eff 3 ⊗ f 3 a ⊗ zeta-bar ⊗ e)
+      F .exp (f phi4 a ⊗ zeta-bar ⊕ f phi5 a ⊗ pow zeta-bar 2) >>= λ e.
+      held (⊖ pow epsilon-k-eff 3 ⊗ f phi3 a ⊗ zeta-bar ⊗ e)

@@ -10,52 +10,12 @@ ghost use Rattle.saftvrqmie_potential.specs.Potential.{pairIn, orderNumber};
 ghost use Rattle.saftvrqmie_dispersion_terms.specs.Staged.{combineAt};
 ghost use Rattle.saftvrqmie_dispersion.specs.Alpha.{dmtOf, alphaMie, alphaQ1, alphaQ2, alphaOf, alpha, f, chi, thirdOrderIj};
 ghost use Rattle.saftvrqmie_dispersion.specs.Perturbation.{dispersionIn, quantumIn, factorsIn, dispersionPair, kFactor, quantum1, quantum2, quantumOf, factors0, factors1, factors2, factors2More, factors3, factors4, factors, firstMie, firstQ1, firstQ2, firstOrderBy, secondTurn, secondOrderBy, firstOrderIj, secondOrderIj};
+use mie_parameters::PHI;
 use number::FloatAnswer;
 use saftvrqmie_dispersion_terms::PairTerms;
 use saftvrqmie_dispersion_terms::TermsAnswer;
 use saftvrqmie_parameters::FeynmanHibbsOrder;
 use saftvrqmie_potential::Pair;
-
-pub const PHI: [[f64; 7]; 6] = [
-    [
-        7.5365557,
-        -37.60463,
-        71.745953,
-        -46.83552,
-        -2.467982,
-        -0.50272,
-        8.0956883,
-    ],
-    [-359.44, 1825.6, -3168.0, 1884.2, -0.82376, -3.1935, 3.709],
-    [1550.9, -5070.1, 6534.6, -3288.7, -2.7171, 2.0883, 0.0],
-    [
-        -1.19932,
-        9.063632,
-        -17.9482,
-        11.34027,
-        20.52142,
-        -56.6377,
-        40.53683,
-    ],
-    [
-        -1911.28,
-        21390.175,
-        -51320.7,
-        37064.54,
-        1103.742,
-        -3264.61,
-        2556.181,
-    ],
-    [
-        9236.9,
-        -129430.0,
-        357230.0,
-        -315530.0,
-        1390.2,
-        -4518.2,
-        4241.6,
-    ],
-];
 
 // What both perturbations of a pair take.
 pub struct DispersionPair {
@@ -144,58 +104,14 @@ pub fn alpha_ij(p: Pair, sigma_eff: f64, epsilon_k_eff: f64) -> FloatAnswer
     FloatAnswer::Value(v * (1.0 * p.epsilon_k / epsilon_k_eff * p.c))
 }
 
-pub fn f0(a: f64) -> f64
-    ensures { λ r. ⌜ r ≡ f floats 0 a ⌝ }
+// `f` of a row of PHI.
+fn f(phi: [f64; 7], a: f64) -> f64
+    ensures { λ r. ⌜ r ≡ f floats phi a ⌝ }
 {
     let a2 = 1.0 * (a * a);
     let a3 = 1.0 * a * (a * a);
-    (a * PHI[0][1] + a2 * PHI[0][2] + a3 * PHI[0][3] + PHI[0][0])
-        / (a * PHI[0][4] + a2 * PHI[0][5] + a3 * PHI[0][6] + 1.0)
-}
-
-pub fn f1(a: f64) -> f64
-    ensures { λ r. ⌜ r ≡ f floats 1 a ⌝ }
-{
-    let a2 = 1.0 * (a * a);
-    let a3 = 1.0 * a * (a * a);
-    (a * PHI[1][1] + a2 * PHI[1][2] + a3 * PHI[1][3] + PHI[1][0])
-        / (a * PHI[1][4] + a2 * PHI[1][5] + a3 * PHI[1][6] + 1.0)
-}
-
-pub fn f2(a: f64) -> f64
-    ensures { λ r. ⌜ r ≡ f floats 2 a ⌝ }
-{
-    let a2 = 1.0 * (a * a);
-    let a3 = 1.0 * a * (a * a);
-    (a * PHI[2][1] + a2 * PHI[2][2] + a3 * PHI[2][3] + PHI[2][0])
-        / (a * PHI[2][4] + a2 * PHI[2][5] + a3 * PHI[2][6] + 1.0)
-}
-
-pub fn f3(a: f64) -> f64
-    ensures { λ r. ⌜ r ≡ f floats 3 a ⌝ }
-{
-    let a2 = 1.0 * (a * a);
-    let a3 = 1.0 * a * (a * a);
-    (a * PHI[3][1] + a2 * PHI[3][2] + a3 * PHI[3][3] + PHI[3][0])
-        / (a * PHI[3][4] + a2 * PHI[3][5] + a3 * PHI[3][6] + 1.0)
-}
-
-pub fn f4(a: f64) -> f64
-    ensures { λ r. ⌜ r ≡ f floats 4 a ⌝ }
-{
-    let a2 = 1.0 * (a * a);
-    let a3 = 1.0 * a * (a * a);
-    (a * PHI[4][1] + a2 * PHI[4][2] + a3 * PHI[4][3] + PHI[4][0])
-        / (a * PHI[4][4] + a2 * PHI[4][5] + a3 * PHI[4][6] + 1.0)
-}
-
-pub fn f5(a: f64) -> f64
-    ensures { λ r. ⌜ r ≡ f floats 5 a ⌝ }
-{
-    let a2 = 1.0 * (a * a);
-    let a3 = 1.0 * a * (a * a);
-    (a * PHI[5][1] + a2 * PHI[5][2] + a3 * PHI[5][3] + PHI[5][0])
-        / (a * PHI[5][4] + a2 * PHI[5][5] + a3 * PHI[5][6] + 1.0)
+    (a * phi[1] + a2 * phi[2] + a3 * phi[3] + phi[0])
+        / (a * phi[4] + a2 * phi[5] + a3 * phi[6] + 1.0)
 }
 
 pub fn chi(a: f64, zeta_bar: f64) -> f64
@@ -203,18 +119,24 @@ pub fn chi(a: f64, zeta_bar: f64) -> f64
 {
     let z2 = zeta_bar * zeta_bar;
     let z4 = z2 * z2;
-    f0(a) * zeta_bar + f1(a) * (1.0 * zeta_bar * z4) + f2(a) * (1.0 * (z4 * z4))
+    let f0 = f(PHI[0], a);
+    let f1 = f(PHI[1], a);
+    let f2 = f(PHI[2], a);
+    f0 * zeta_bar + f1 * (1.0 * zeta_bar * z4) + f2 * (1.0 * (z4 * z4))
 }
 
 pub fn third_order_perturbation_ij(epsilon_k_eff: f64, a: f64, zeta_bar: f64) -> FloatAnswer
     ensures { λ r. ⌜ answer r ≡ thirdOrderIj floats (calls floats port) «epsilon_k_eff» a «zeta_bar» ⌝ }
 {
-    let x = f4(a) * zeta_bar + f5(a) * (1.0 * (zeta_bar * zeta_bar));
+    let f3 = f(PHI[3], a);
+    let f4 = f(PHI[4], a);
+    let f5 = f(PHI[5], a);
+    let x = f4 * zeta_bar + f5 * (1.0 * (zeta_bar * zeta_bar));
     let FloatAnswer::Value(e) = elementary::exp(x) else {
         return FloatAnswer::Outside;
     };
     let cube = 1.0 * epsilon_k_eff * (epsilon_k_eff * epsilon_k_eff);
-    FloatAnswer::Value(-cube * f3(a) * zeta_bar * e)
+    FloatAnswer::Value(-cube * f3 * zeta_bar * e)
 }
 
 // The isothermal hard sphere compressibility factor of the second order.

@@ -1,5 +1,6 @@
 -- The Sutherland and B terms keep any relation that the operations and the elementary functions keep. Assumes nothing.
-use Prim.Native.Nat.{ℕ}
+use lib.Ieee.{Float}
+use mathlib.Core.List.{List}
 use Rattle.number.specs.Ans.{Ans}
 use Rattle.number.specs.Arith.{Arith}
 use Rattle.number.specs.Functions.{Functions}
@@ -9,9 +10,9 @@ use Rattle.saftvrqmie_dispersion_terms.specs.Terms.{lamSum, etaEff, suth
 module _ (A B : Arith) (K : Rel A B) where
   open Rel K using (R, r-add, r-sub, r-mul, r-div, r-neg, r-pow, r-lit)
 
-  lamSum-rel : (i : ℕ) {x y z w : A .Num} {x' y' z' w' : B .Num} → R x x' → R y y' → R z z' → R w w' → R (lamSum A i x y z w) (lamSum B i x' y' z' w')
+  lamSum-rel : (c : List Float) {x y z w : A .Num} {x' y' z' w' : B .Num} → R x x' → R y y' → R z z' → R w w' → R (lamSum A c x y z w) (lamSum B c x' y' z' w')
   unfolding lamSum
-  lamSum-rel i p q r s = search (r-add, r-mul, r-lit) depth 8
+  lamSum-rel c p q r s = search (r-add, r-mul, r-lit) depth 8
 
   pub etaEff-rel : {l z : A .Num} {l' z' : B .Num} → R l l' → R z z' → R (etaEff A l z) (etaEff B l' z')
   unfolding etaEff

@@ -1,10 +1,12 @@
 -- `eta_eff` to `combine_sutherland_and_b` of saftvrqmie/eos/dispersion.rs (Lafitte et al. 2013), over any arithmetic, in the Rust's order of operations.
-use Prim.Native.Nat.{ℕ}
+use lib.Ieee.{Float}
 use mathlib.Core.Bool.{true, false}
+use mathlib.Core.List.{List}
 use Rattle.number.specs.Ans.{Ans, held, _>>=_}
 use Rattle.number.specs.Arith.{Arith, decimal, whole}
 use Rattle.number.specs.Functions.{Functions}
-use Rattle.saftvrqmie_dispersion_terms.specs.Constants.{lam}
+use Rattle.number.specs.Lists.{at}
+use Rattle.mie_parameters.specs.Tables.{c0, c1, c2, c3}
 
 module _ (A : Arith) where
   open Arith A using (Num, add as _⊕_, sub as _⊖_, mul as _⊗_, div as _⊘_, neg as ⊖_, pow, lit)
@@ -14,9 +16,9 @@ module _ (A : Arith) where
   infixl 70 _⊗_
   infixl 70 _⊘_
   infix 80 ⊖_
-  -- c[i] of `eta_eff`, from the inverse powers of lambda
-  unfoldable pub lamSum : ℕ → Num → Num → Num → Num → Num
-  lamSum i l0 l1 l2 l3 = l0 ⊗ lit (lam i 0) ⊕ l1 ⊗ lit (lam i 1) ⊕ l2 ⊗ lit (lam i 2) ⊕ l3 ⊗ lit (lam i 3)
+  -- c[i] of `eta_eff`, from a row of LAM_COEFF and the inverse powers of lambda
+  unfoldable pub lamSum : List Float → Num → Num → Num → Num → Num
+  lamSum c l0 l1 l2 l3 = l0 ⊗ lit (at c 0) ⊕ l1 ⊗ lit (at c 1) ⊕ l2 ⊗ lit (at c 2) ⊕ l3 ⊗ lit (at c 3)
 
   -- `eta_eff`
   unfoldable pub etaEff : Num → Num → Num
@@ -25,11 +27,7 @@ module _ (A : Arith) where
       let l1 = whole A 1 ⊘ lambda in
       let l2 = whole A 1 ⊘ pow lambda 2 in
       let l3 = whole A 1 ⊘ pow lambda 3 in
-      let c0 = lamSum 0 l0 l1 l2 l3 in
-      let c1 = lamSum 1 l0 l1 l2 l3 in
-      let c2 = lamSum 2 l0 l1 l2 l3 in
-      let c3 = lamSum 3 l0 l1 l2 l3 in
-      zeta ⊗ (zeta ⊗ (zeta ⊗ (zeta ⊗ c3 ⊕ c2) ⊕ c1) ⊕ c0)
+      zeta ⊗ (zeta ⊗ (zeta ⊗ (zeta ⊗ lamSum c3 l0 l1 l2 l3 ⊕ lamSum c2 l0 l1 l2 l3) ⊕ lamSum c1 l0 l1 l2 l3) ⊕ lamSum c0 l0 l1 l2 l3)
 
   -- `sutherland` from ef = eta_eff, its power p of x0 and l3 = lambda - 3
   abbrev pub sutherlandFrom : Num → Num → Num → Num → Num

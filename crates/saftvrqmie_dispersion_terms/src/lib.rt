@@ -5,18 +5,12 @@ ghost use Rattle.number.specs.Answer.{answer};
 ghost use Rattle.number.specs.Arith.{floats};
 ghost use Rattle.number.specs.Functions.{calls};
 ghost use Rattle.elementary.specs.Port.{port};
-ghost use Rattle.saftvrqmie_dispersion_terms.specs.Terms.{etaEff, sutherlandOf, ilambdaOf, jlambdaOf, factorI, factorJ, bOf, combineSutherlandAndB};
+ghost use Rattle.saftvrqmie_dispersion_terms.specs.Terms.{lamSum, etaEff, sutherlandOf, ilambdaOf, jlambdaOf, factorI, factorJ, bOf, combineSutherlandAndB};
 ghost use Rattle.power.specs.Power.{powfAt};
 ghost use Rattle.saftvrqmie_dispersion_terms.specs.Staged.{termsAnswer, termsOf, combineAt};
 use binary_log::Log;
+use mie_parameters::LAM_COEFF;
 use number::FloatAnswer;
-
-pub const LAM_COEFF: [[f64; 4]; 4] = [
-    [0.81096, 1.7888, -37.578, 92.284],
-    [1.0205, -19.341, 151.26, -463.50],
-    [-1.9057, 22.845, -228.14, 973.92],
-    [1.0885, -6.1962, 106.98, -677.64],
-];
 
 // What all exponents of a pair share.
 pub struct PairTerms {
@@ -33,6 +27,13 @@ pub enum TermsAnswer {
     Outside,
 }
 
+// A row of LAM_COEFF with the inverse powers of lambda.
+fn lam_sum(c: [f64; 4], l0: f64, l1: f64, l2: f64, l3: f64) -> f64
+    ensures { λ r. ⌜ r ≡ lamSum floats c l0 l1 l2 l3 ⌝ }
+{
+    l0 * c[0] + l1 * c[1] + l2 * c[2] + l3 * c[3]
+}
+
 // Whole powers are written out: 1.0 is the first factor of each.
 pub fn eta_eff(lambda: f64, zeta: f64) -> f64
     ensures { λ r. ⌜ r ≡ etaEff floats lambda zeta ⌝ }
@@ -41,22 +42,10 @@ pub fn eta_eff(lambda: f64, zeta: f64) -> f64
     let l1 = 1.0 / lambda;
     let l2 = 1.0 / (1.0 * (lambda * lambda));
     let l3 = 1.0 / (1.0 * lambda * (lambda * lambda));
-    let c0 = l0 * LAM_COEFF[0][0]
-        + l1 * LAM_COEFF[0][1]
-        + l2 * LAM_COEFF[0][2]
-        + l3 * LAM_COEFF[0][3];
-    let c1 = l0 * LAM_COEFF[1][0]
-        + l1 * LAM_COEFF[1][1]
-        + l2 * LAM_COEFF[1][2]
-        + l3 * LAM_COEFF[1][3];
-    let c2 = l0 * LAM_COEFF[2][0]
-        + l1 * LAM_COEFF[2][1]
-        + l2 * LAM_COEFF[2][2]
-        + l3 * LAM_COEFF[2][3];
-    let c3 = l0 * LAM_COEFF[3][0]
-        + l1 * LAM_COEFF[3][1]
-        + l2 * LAM_COEFF[3][2]
-        + l3 * LAM_COEFF[3][3];
+    let c0 = lam_sum(LAM_COEFF[0], l0, l1, l2, l3);
+    let c1 = lam_sum(LAM_COEFF[1], l0, l1, l2, l3);
+    let c2 = lam_sum(LAM_COEFF[2], l0, l1, l2, l3);
+    let c3 = lam_sum(LAM_COEFF[3], l0, l1, l2, l3);
     zeta * (zeta * (zeta * (zeta * c3 + c2) + c1) + c0)
 }
 

@@ -4,12 +4,13 @@ ghost use Rattle.number.specs.Functions.{calls};
 ghost use Rattle.elementary.specs.Port.{port};
 ghost use Rattle.enclosure.specs.Answer.{answer};
 ghost use Rattle.enclosure.specs.Enclosure.{enclosures};
+ghost use Rattle.mie_parameters.specs.Tables.{c0, c1, c2, c3};
 ghost use Rattle.saftvrqmie_dispersion_terms.specs.Terms.{lamSum, etaEff, factorI, factorJ, bOf, combineSutherlandAndB};
 ghost use Rattle.saftvrqmie_dispersion_terms_ends.specs.Shared.{powfAt, sutherlandBy, ilambdaBy, jlambdaBy, combineAt};
 use binary_log::Log;
 use enclosure::Enclosure;
 use enclosure::EnclosureAnswer;
-use saftvrqmie_dispersion_terms::LAM_COEFF;
+use mie_parameters::LAM_COEFF;
 
 // A base of powers with its logarithm, which holds where the base is inside the power's domain.
 pub struct Base {
@@ -29,7 +30,7 @@ pub struct PairTerms {
 }
 
 fn lam_sum_0(l0: Enclosure, l1: Enclosure, l2: Enclosure, l3: Enclosure) -> Enclosure
-    ensures { λ r. ⌜ r ≡ lamSum enclosures 0 l0 l1 l2 l3 ⌝ }
+    ensures { λ r. ⌜ r ≡ lamSum enclosures c0 l0 l1 l2 l3 ⌝ }
 {
     let a0 = enclosure::mul(l0, enclosure::point(LAM_COEFF[0][0]));
     let a1 = enclosure::mul(l1, enclosure::point(LAM_COEFF[0][1]));
@@ -39,7 +40,7 @@ fn lam_sum_0(l0: Enclosure, l1: Enclosure, l2: Enclosure, l3: Enclosure) -> Encl
 }
 
 fn lam_sum_1(l0: Enclosure, l1: Enclosure, l2: Enclosure, l3: Enclosure) -> Enclosure
-    ensures { λ r. ⌜ r ≡ lamSum enclosures 1 l0 l1 l2 l3 ⌝ }
+    ensures { λ r. ⌜ r ≡ lamSum enclosures c1 l0 l1 l2 l3 ⌝ }
 {
     let a0 = enclosure::mul(l0, enclosure::point(LAM_COEFF[1][0]));
     let a1 = enclosure::mul(l1, enclosure::point(LAM_COEFF[1][1]));
@@ -49,7 +50,7 @@ fn lam_sum_1(l0: Enclosure, l1: Enclosure, l2: Enclosure, l3: Enclosure) -> Encl
 }
 
 fn lam_sum_2(l0: Enclosure, l1: Enclosure, l2: Enclosure, l3: Enclosure) -> Enclosure
-    ensures { λ r. ⌜ r ≡ lamSum enclosures 2 l0 l1 l2 l3 ⌝ }
+    ensures { λ r. ⌜ r ≡ lamSum enclosures c2 l0 l1 l2 l3 ⌝ }
 {
     let a0 = enclosure::mul(l0, enclosure::point(LAM_COEFF[2][0]));
     let a1 = enclosure::mul(l1, enclosure::point(LAM_COEFF[2][1]));
@@ -59,7 +60,7 @@ fn lam_sum_2(l0: Enclosure, l1: Enclosure, l2: Enclosure, l3: Enclosure) -> Encl
 }
 
 fn lam_sum_3(l0: Enclosure, l1: Enclosure, l2: Enclosure, l3: Enclosure) -> Enclosure
-    ensures { λ r. ⌜ r ≡ lamSum enclosures 3 l0 l1 l2 l3 ⌝ }
+    ensures { λ r. ⌜ r ≡ lamSum enclosures c3 l0 l1 l2 l3 ⌝ }
 {
     let a0 = enclosure::mul(l0, enclosure::point(LAM_COEFF[3][0]));
     let a1 = enclosure::mul(l1, enclosure::point(LAM_COEFF[3][1]));

@@ -2,6 +2,7 @@
 use mathlib.Core.Path.{refl}
 use lib.Ieee.{ofBits}
 use Rattle.number.specs.Arith.{decimal}
+use Rattle.mie_parameters.specs.Sums.{fFrom}
 use Rattle.saftvrmie_dispersion.specs.Terms.{f}
 use borrow.Author.Needs.{needs}
 use Rattle.saftvrmie_dispersion.proofs.f.Statement.{statement}
@@ -29,7 +30,7 @@ array-read-result-7 : tie.Need-array-read-result-7
 array-read-result-7 c = search needs
 
 returns : tie.Need-returns
-unfolding f decimal ofBits
+unfolding f fFrom decimal ofBits
 returns c = refl
 
 pub f-spec : {M : Type 1} → statement M

@@ -1,6 +1,6 @@
 -- `saftvrmie_dispersion_ends::six_of` meets its contract. Assumes nothing.
 use Rattle.saftvrmie_dispersion.specs.Terms.{f}
-use Rattle.saftvrmie_dispersion_ends.specs.Shared.{sixOf, fBy}
+use Rattle.saftvrmie_dispersion_ends.specs.Shared.{sixOf}
 use lib.Ieee.{ofBits, neg}
 use Rattle.number.specs.Arith.{decimal}
 use borrow.Author.Needs.{needs}
@@ -35,7 +35,7 @@ f-5-requires : tie.Need-f-5-requires
 f-5-requires c κs = search needs
 
 returns : tie.Need-returns
-unfolding sixOf f fBy decimal ofBits neg
+unfolding sixOf f decimal ofBits neg
 returns c =
     rw (
       c .f-5 .ensures,

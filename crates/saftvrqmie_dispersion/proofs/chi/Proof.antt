@@ -1,5 +1,5 @@
 -- `saftvrqmie_dispersion::chi` meets its contract. Assumes nothing.
-use lib.Ieee.{ofBits, neg}
+use lib.Ieee.{ofBits}
 use Rattle.number.specs.Arith.{decimal}
 use Rattle.number.specs.Power.{powUp, powDigits, digits}
 use Rattle.saftvrqmie_dispersion.specs.Alpha.{chi}
@@ -7,18 +7,40 @@ use borrow.Author.Needs.{needs}
 use Rattle.saftvrqmie_dispersion.proofs.chi.Statement.{statement}
 use Rattle.saftvrqmie_dispersion.proofs.chi.Tie as tie
 
-f0-requires : tie.Need-f0-requires
-f0-requires c κs = search needs
+array-copy-out-f : tie.Need-array-copy-out-f
+array-copy-out-f c = search needs
 
-f1-requires : tie.Need-f1-requires
-f1-requires c κs = search needs
+f-requires : tie.Need-f-requires
+f-requires c κs = search needs
 
-f2-requires : tie.Need-f2-requires
-f2-requires c κs = search needs
+array-copy-out-f-2 : tie.Need-array-copy-out-f-2
+array-copy-out-f-2 c = search needs
+
+f-requires-2 : tie.Need-f-requires-2
+f-requires-2 c κs = search needs
+
+array-copy-out-f-3 : tie.Need-array-copy-out-f-3
+array-copy-out-f-3 c = search needs
+
+f-requires-3 : tie.Need-f-requires-3
+f-requires-3 c κs = search needs
 
 returns : tie.Need-returns
-unfolding chi powUp powDigits digits decimal ofBits neg
-returns c = rw ((c .before .before .f0) .ensures, (c .before .f1) .ensures, (c .f2) .ensures)
+unfolding chi powUp powDigits digits decimal ofBits
+returns c = rw (
+  c .f3 .ensures,
+  c .before .before .f2 .ensures,
+  c .before .before .before .before .f .ensures,
+)
 
 pub chi-spec : {M : Type 1} → statement M
-chi-spec = tie.close (tie.spec f0-requires f1-requires f2-requires returns)
+chi-spec =
+    tie.close
+    (tie.spec
+    array-copy-out-f
+    f-requires
+    array-copy-out-f-2
+    f-requires-2
+    array-copy-out-f-3
+    f-requires-3
+    returns)

@@ -1,21 +1,33 @@
 -- `saftvrqmie_dispersion::third_order_perturbation_ij` meets its contract. Assumes nothing.
-use lib.Ieee.{ofBits, neg}
+use Rattle.number.proofs.Walk.{via}
+use Rattle.number.specs.Functions.{answered}
+use lib.Ieee.{ofBits}
 use Rattle.number.specs.Arith.{decimal}
 use Rattle.number.specs.Power.{powUp, powDigits, digits}
 use Rattle.number.specs.Ans.{_>>=_}
 use Rattle.number.specs.Answer.{answer}
-use Rattle.number.proofs.Walk.{via}
-use Rattle.number.specs.Functions.{answered}
 use Rattle.saftvrqmie_dispersion.specs.Alpha.{thirdOrderIj}
 use borrow.Author.Needs.{needs}
 use Rattle.saftvrqmie_dispersion.proofs.third_order_perturbation_ij.Statement.{statement}
 use Rattle.saftvrqmie_dispersion.proofs.third_order_perturbation_ij.Tie as tie
 
-f4-requires : tie.Need-f4-requires
-f4-requires c κs = search needs
+array-copy-out-f : tie.Need-array-copy-out-f
+array-copy-out-f c = search needs
 
-f5-requires : tie.Need-f5-requires
-f5-requires c κs = search needs
+f-requires : tie.Need-f-requires
+f-requires c κs = search needs
+
+array-copy-out-f-2 : tie.Need-array-copy-out-f-2
+array-copy-out-f-2 c = search needs
+
+f-requires-2 : tie.Need-f-requires-2
+f-requires-2 c κs = search needs
+
+array-copy-out-f-3 : tie.Need-array-copy-out-f-3
+array-copy-out-f-3 c = search needs
+
+f-requires-3 : tie.Need-f-requires-3
+f-requires-3 c κs = search needs
 
 exp-requires : tie.Need-exp-requires
 exp-requires c κs = search needs
@@ -27,25 +39,35 @@ enum-told : tie.Need-enum-told
 enum-told c = search needs
 
 returns : tie.Need-returns
-unfolding thirdOrderIj answered _>>=_ powUp powDigits digits decimal ofBits neg
-returns c = rw (← (c .before .before .before .before .f4) .ensures, ← (c .before .before .before .f5) .ensures, via answer ((c .before .before .exp) .ensures) ((c .enum-told) .given .1))
-
-f3-requires : tie.Need-f3-requires
-f3-requires c κs = search needs
+unfolding thirdOrderIj powUp powDigits digits _>>=_ answered decimal ofBits
+returns c = rw (
+  ← c .before .before .before .before .before .before .before .f .ensures,
+  ← c .before .before .before .before .before .f2 .ensures,
+  ← c .before .before .before .f3 .ensures,
+  via answer (c .before .before .exp .ensures) (c .enum-told .given .1),
+)
 
 returns-2 : tie.Need-returns-2
-unfolding thirdOrderIj answered _>>=_ powUp powDigits digits decimal ofBits neg
-returns-2 c = rw (← (c .before .before .before .before .before .before .f4) .ensures, ← (c .before .before .before .before .before .f5) .ensures, via answer ((c .before .before .before .before .exp) .ensures) ((c .before .before .e) .given .1), (c .f3) .ensures)
+unfolding thirdOrderIj powUp powDigits digits _>>=_ answered decimal ofBits
+returns-2 c = rw (
+  ← c .before .before .before .before .before .before .before .before .f .ensures,
+  ← c .before .before .before .before .before .before .f2 .ensures,
+  ← c .before .before .before .before .f3 .ensures,
+  via answer (c .before .before .before .exp .ensures) (c .before .e .given .1),
+)
 
 pub third-order-perturbation-ij-spec : {M : Type 1} → statement M
 third-order-perturbation-ij-spec =
     tie.close
     (tie.spec
-    f4-requires
-    f5-requires
+    array-copy-out-f
+    f-requires
+    array-copy-out-f-2
+    f-requires-2
+    array-copy-out-f-3
+    f-requires-3
     exp-requires
     enum-known-e
     enum-told
     returns
-    f3-requires
     returns-2)
