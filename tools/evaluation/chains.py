@@ -117,7 +117,8 @@ class Quantum:
             self.counts = after.numbers + self.counts[call.lengths[1]:]
             return refusal(a), [hashed(patterns(self.table)), hashed(self.counts)]
         if call.what == 8:
-            return told(self.at("vrqDiameterEnds", *call.lengths[:2], t, *floats(call.listed), OUT[:2]))
+            handed = (*call.lengths[:2], t, *floats(call.listed))
+            return around(self.at("vrqDiameter", *handed), self.at("vrqDiameterEnds", *handed, OUT[:2]))
         if call.what == 14:
             a = self.at("vrqRadii", *call.lengths[:2], t, self.c.record(values=OUT[:6], numbers=(7,) * 3))
             return refusal(a), patterns(a[1].values) + list(a[1].numbers) if a[0] == "held" else []
@@ -185,7 +186,8 @@ class Mie:
             self.diameters = self.stored(before, a) + self.diameters[call.lengths[0]:]
             return refusal(a), patterns(self.diameters)
         if call.what == 13:
-            return told(self.at("vrDiameterEnds", *call.lengths[:2], t, *floats(call.listed), OUT[:2]))
+            handed = (*call.lengths[:2], t, *floats(call.listed))
+            return around(self.at("vrDiameter", *handed), self.at("vrDiameterEnds", *handed, OUT[:2]))
         if call.what == 15:
             return told(self.at("vrRadius", *call.lengths[:2], t))
         state = (t, *map(floats, call.cut(2)), self.diameters[:call.lengths[2]], call.flag == 1)
@@ -242,3 +244,9 @@ def run(c, model, chain):
             yield name, call.number, f"call {k}: {name} gives {words}, and the file {wanted}"
         else:
             yield name, call.number, None
+
+
+# the answer of a two-ended operation; none if the float operation's number is another but for 8, or its value lies outside
+def around(single, ends):
+    between = ends[0] != "held" or ends[1][0] <= single[1] <= ends[1][1]
+    return told(ends) if refusal(single) == refusal(ends) % 8 and between else (None, [])

@@ -119,6 +119,9 @@ class Promises:
 # of the accepted vectors each `every`-th of a function; numbers below 2^-100, which make the fractions too large, are left out
 def run(c, records, every):
     p, seen = Promises(c), dict.fromkeys(PORT, 0)
+    port, one = c.get("elementary", "Port", "port")(), c.get("elementary", "Promised", "one")()
+    told = [port.ln(one), port.powf(one)(3.0), port.powf(3.0)(one), port.powf(3.0)(-0.0)]
+    yield "promises", None if told == [("held", v) for v in (0.0, 1.0, 3.0, 1.0)] else f"ln 1 and the power's corners: {told}"
     for which, a, b, wanted in records:
         name, x, y, r = PORT[which], chains.number(a), chains.number(b), chains.number(wanted)
         if wanted == 2**64 - 1 or any(0 < abs(z) < 2**-100 for z in (x, y)) or (name != "sqrt" and x == 0.0):
