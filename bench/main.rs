@@ -7,6 +7,9 @@ mod port;
 #[allow(dead_code)]
 #[path = "../differential/run/src/random.rs"]
 mod random;
+#[allow(dead_code)]
+#[path = "../domthelv-sys/src/sizes.rs"]
+mod sizes;
 
 use std::hint::black_box;
 use std::time::Instant;

@@ -3,6 +3,7 @@
 use crate::best_of_two;
 use crate::port;
 use crate::random::Random;
+use crate::sizes::{COUNTS, LISTS, SHEET, SHEETS, SIDE, TABLE};
 use plain::saftvrmie::eos as vr;
 use plain::saftvrqmie::eos::driver as vrq;
 use std::hint::black_box;
@@ -122,14 +123,14 @@ fn quantum(rows: &mut Rows, n: usize, order: u8) {
     let k = fluids.len();
     if let (Some(f), 0) = (port::VRQ_PARAMETERS, order) {
         let ours = |i: usize| {
-            let (mut m, mut sheets, mut orders, fluid) = ([0.0; 8], [0.0; 384], [0u8; 64], &fluids[i]);
+            let (mut m, mut sheets, mut orders, fluid) = ([0.0; SIDE], [0.0; SHEETS], [0u8; SHEET], &fluids[i]);
             let p = |l: &Vec<f64>| l.as_ptr();
             let nn = n * n;
             let number = unsafe {
                 f(
                     n, p(&fluid.m), n, p(&fluid.sigma), n, p(&fluid.epsilon_k), n, p(&fluid.lr), n, p(&fluid.la), n,
-                    p(&fluid.mass), n, fluid.order.as_ptr(), n, p(&fluid.pairs), nn, p(&fluid.pairs), nn, m.as_mut_ptr(), 8,
-                    sheets.as_mut_ptr(), 384, orders.as_mut_ptr(), 64,
+                    p(&fluid.mass), n, fluid.order.as_ptr(), n, p(&fluid.pairs), nn, p(&fluid.pairs), nn, m.as_mut_ptr(), SIDE,
+                    sheets.as_mut_ptr(), SHEETS, orders.as_mut_ptr(), SHEET,
                 )
             };
             assert!(number == 0);
@@ -141,11 +142,11 @@ fn quantum(rows: &mut Rows, n: usize, order: u8) {
     let flat: Vec<_> = sets.iter().map(vrq::flat).collect();
     if let Some(f) = port::VRQ_TABLE {
         let ours = |i: usize| {
-            let (mut table, mut counts, (sheets, orders)) = ([0.0; 256], [0u8; 192], &flat[i]);
+            let (mut table, mut counts, (sheets, orders)) = ([0.0; TABLE], [0u8; COUNTS], &flat[i]);
             let number = unsafe {
                 f(
-                    n, [1.0; 8].as_ptr(), 8, sheets.as_ptr(), 384, orders.as_ptr(), 64, fluids[i].temperature,
-                    table.as_mut_ptr(), 256, counts.as_mut_ptr(), 192,
+                    n, [1.0; SIDE].as_ptr(), SIDE, sheets.as_ptr(), SHEETS, orders.as_ptr(), SHEET, fluids[i].temperature,
+                    table.as_mut_ptr(), TABLE, counts.as_mut_ptr(), COUNTS,
                 )
             };
             assert!(number == 0);
@@ -161,8 +162,8 @@ fn quantum(rows: &mut Rows, n: usize, order: u8) {
             let (mut out, (sheets, orders), fluid) = ([0.0; 3], &flat[i], &fluids[i]);
             let number = unsafe {
                 f(
-                    n, [1.0; 8].as_ptr(), 8, sheets.as_ptr(), 384, orders.as_ptr(), 64, fluid.temperature, fluid.x.as_ptr(), n,
-                    fluid.rho.as_ptr(), n, tables[i].as_ptr(), 256, true, out.as_mut_ptr(), 3,
+                    n, [1.0; SIDE].as_ptr(), SIDE, sheets.as_ptr(), SHEETS, orders.as_ptr(), SHEET, fluid.temperature, fluid.x.as_ptr(), n,
+                    fluid.rho.as_ptr(), n, tables[i].as_ptr(), TABLE, true, out.as_mut_ptr(), 3,
                 )
             };
             assert!(number == 0);
@@ -177,12 +178,12 @@ fn vr_mie(rows: &mut Rows, n: usize) {
     let k = fluids.len();
     if let Some(f) = port::VR_PARAMETERS {
         let ours = |i: usize| {
-            let (mut lists, mut sheets, nn, fluid) = ([0.0; 40], [0.0; 384], n * n, &fluids[i]);
+            let (mut lists, mut sheets, nn, fluid) = ([0.0; LISTS], [0.0; SHEETS], n * n, &fluids[i]);
             let p = |l: &Vec<f64>| l.as_ptr();
             let number = unsafe {
                 f(
                     n, p(&fluid.m), n, p(&fluid.sigma), n, p(&fluid.epsilon_k), n, p(&fluid.lr), n, p(&fluid.la), n,
-                    p(&fluid.pairs), nn, p(&fluid.pairs), nn, lists.as_mut_ptr(), 40, sheets.as_mut_ptr(), 384,
+                    p(&fluid.pairs), nn, p(&fluid.pairs), nn, lists.as_mut_ptr(), LISTS, sheets.as_mut_ptr(), SHEETS,
                 )
             };
             assert!(number == 0);
@@ -194,12 +195,12 @@ fn vr_mie(rows: &mut Rows, n: usize) {
     let flat: Vec<_> = sets.iter().map(vr::flat).collect();
     let lists: Vec<Vec<f64>> = fluids
         .iter()
-        .map(|f| [&f.m, &f.sigma, &f.epsilon_k, &f.lr, &f.la].iter().flat_map(|l| (0..8).map(|i| *l.get(i).unwrap_or(&0.0))).collect())
+        .map(|f| [&f.m, &f.sigma, &f.epsilon_k, &f.lr, &f.la].iter().flat_map(|l| (0..SIDE).map(|i| *l.get(i).unwrap_or(&0.0))).collect())
         .collect();
     if let Some(f) = port::VR_DIAMETERS {
         let ours = |i: usize| {
-            let mut d = [0.0; 8];
-            let number = unsafe { f(n, lists[i].as_ptr(), 40, flat[i].as_ptr(), 384, fluids[i].temperature, d.as_mut_ptr(), n) };
+            let mut d = [0.0; SIDE];
+            let number = unsafe { f(n, lists[i].as_ptr(), LISTS, flat[i].as_ptr(), SHEETS, fluids[i].temperature, d.as_mut_ptr(), n) };
             assert!(number == 0);
             d
         };
@@ -214,7 +215,7 @@ fn vr_mie(rows: &mut Rows, n: usize) {
                 let (mut out, fluid) = (0.0, &fluids[i]);
                 let number = unsafe {
                     f(
-                        n, lists[i].as_ptr(), 40, flat[i].as_ptr(), 384, fluid.temperature, fluid.x.as_ptr(), n,
+                        n, lists[i].as_ptr(), LISTS, flat[i].as_ptr(), SHEETS, fluid.temperature, fluid.x.as_ptr(), n,
                         fluid.rho.as_ptr(), n, diameters[i].as_ptr(), n, chain, &mut out,
                     )
                 };
@@ -242,8 +243,8 @@ fn quantum_ends(rows: &mut Rows, n: usize, order: u8) {
         let (mut out, (sheets, orders), fluid) = ([0.0; 6], &flat[i], &fluids[i]);
         let number = unsafe {
             f(
-                n, [1.0; 8].as_ptr(), 8, sheets.as_ptr(), 384, orders.as_ptr(), 64, fluid.temperature, fluid.x.as_ptr(), n,
-                fluid.rho.as_ptr(), n, tables[i].as_ptr(), 256, true, out.as_mut_ptr(), places,
+                n, [1.0; SIDE].as_ptr(), SIDE, sheets.as_ptr(), SHEETS, orders.as_ptr(), SHEET, fluid.temperature, fluid.x.as_ptr(), n,
+                fluid.rho.as_ptr(), n, tables[i].as_ptr(), TABLE, true, out.as_mut_ptr(), places,
             )
         };
         assert!(number == 0);
@@ -258,7 +259,7 @@ fn quantum_ends(rows: &mut Rows, n: usize, order: u8) {
         let t = fluids[i].temperature;
         let number = unsafe {
             radii(
-                1, [1.0; 8].as_ptr(), 8, sheets.as_ptr(), 384, orders.as_ptr(), 64, 0, 0, t, out.as_mut_ptr(), 6,
+                1, [1.0; SIDE].as_ptr(), SIDE, sheets.as_ptr(), SHEETS, orders.as_ptr(), SHEET, 0, 0, t, out.as_mut_ptr(), 6,
                 counts.as_mut_ptr(), 3,
             )
         };
@@ -270,7 +271,7 @@ fn quantum_ends(rows: &mut Rows, n: usize, order: u8) {
         let (mut out, (sheets, orders)) = ([0.0; 2], &flat[i]);
         let number = unsafe {
             diameter_ends(
-                1, [1.0; 8].as_ptr(), 8, sheets.as_ptr(), 384, orders.as_ptr(), 64, 0, 0, fluids[i].temperature, found[i][0],
+                1, [1.0; SIDE].as_ptr(), SIDE, sheets.as_ptr(), SHEETS, orders.as_ptr(), SHEET, 0, 0, fluids[i].temperature, found[i][0],
                 found[i][2], out.as_mut_ptr(), 2,
             )
         };
@@ -281,7 +282,7 @@ fn quantum_ends(rows: &mut Rows, n: usize, order: u8) {
         let (mut out, (sheets, orders)) = (0.0, &flat[i]);
         let number = unsafe {
             diameter(
-                1, [1.0; 8].as_ptr(), 8, sheets.as_ptr(), 384, orders.as_ptr(), 64, 0, 0, fluids[i].temperature, found[i][0],
+                1, [1.0; SIDE].as_ptr(), SIDE, sheets.as_ptr(), SHEETS, orders.as_ptr(), SHEET, 0, 0, fluids[i].temperature, found[i][0],
                 found[i][2], &mut out,
             )
         };
@@ -300,7 +301,7 @@ fn vr_mie_ends(rows: &mut Rows, n: usize) {
     let flat: Vec<_> = sets.iter().map(vr::flat).collect();
     let lists: Vec<Vec<f64>> = fluids
         .iter()
-        .map(|f| [&f.m, &f.sigma, &f.epsilon_k, &f.lr, &f.la].iter().flat_map(|l| (0..8).map(|i| *l.get(i).unwrap_or(&0.0))).collect())
+        .map(|f| [&f.m, &f.sigma, &f.epsilon_k, &f.lr, &f.la].iter().flat_map(|l| (0..SIDE).map(|i| *l.get(i).unwrap_or(&0.0))).collect())
         .collect();
     let diameters: Vec<_> = (0..k).map(|i| vr::diameters(&sets[i], fluids[i].temperature)).collect();
     if let (Some(float), Some(ends)) = (port::VR_DISPERSION, port::VR_DISPERSION_ENDS) {
@@ -309,7 +310,7 @@ fn vr_mie_ends(rows: &mut Rows, n: usize) {
                 let (mut out, f) = (0.0, &fluids[i]);
                 let number = unsafe {
                     float(
-                        n, lists[i].as_ptr(), 40, flat[i].as_ptr(), 384, f.temperature, f.x.as_ptr(), n, f.rho.as_ptr(), n,
+                        n, lists[i].as_ptr(), LISTS, flat[i].as_ptr(), SHEETS, f.temperature, f.x.as_ptr(), n, f.rho.as_ptr(), n,
                         diameters[i].as_ptr(), n, chain, &mut out,
                     )
                 };
@@ -320,7 +321,7 @@ fn vr_mie_ends(rows: &mut Rows, n: usize) {
                 let (mut out, f) = ([0.0; 2], &fluids[i]);
                 let number = unsafe {
                     ends(
-                        n, lists[i].as_ptr(), 40, flat[i].as_ptr(), 384, f.temperature, f.x.as_ptr(), n, f.rho.as_ptr(), n,
+                        n, lists[i].as_ptr(), LISTS, flat[i].as_ptr(), SHEETS, f.temperature, f.x.as_ptr(), n, f.rho.as_ptr(), n,
                         diameters[i].as_ptr(), n, chain, out.as_mut_ptr(), 2,
                     )
                 };
@@ -336,7 +337,7 @@ fn vr_mie_ends(rows: &mut Rows, n: usize) {
     if let (Some(radius), Some(diameter), Some(ends)) = (port::VR_RADIUS, port::VR_DIAMETER, port::VR_DIAMETER_ENDS) {
         let searched = |i: usize| {
             let mut out = 0.0;
-            let number = unsafe { radius(1, lists[i].as_ptr(), 40, flat[i].as_ptr(), 384, 0, 0, fluids[i].temperature, &mut out) };
+            let number = unsafe { radius(1, lists[i].as_ptr(), LISTS, flat[i].as_ptr(), SHEETS, 0, 0, fluids[i].temperature, &mut out) };
             assert!(number == 0);
             out
         };
@@ -344,13 +345,13 @@ fn vr_mie_ends(rows: &mut Rows, n: usize) {
         let two = |i: usize| {
             let mut out = [0.0; 2];
             let t = fluids[i].temperature;
-            let number = unsafe { ends(1, lists[i].as_ptr(), 40, flat[i].as_ptr(), 384, 0, 0, t, found[i], out.as_mut_ptr(), 2) };
+            let number = unsafe { ends(1, lists[i].as_ptr(), LISTS, flat[i].as_ptr(), SHEETS, 0, 0, t, found[i], out.as_mut_ptr(), 2) };
             assert!(number == 0);
             out
         };
         let float = |i: usize| {
             let (mut out, t) = (0.0, fluids[i].temperature);
-            let number = unsafe { diameter(1, lists[i].as_ptr(), 40, flat[i].as_ptr(), 384, 0, 0, t, found[i], &mut out) };
+            let number = unsafe { diameter(1, lists[i].as_ptr(), LISTS, flat[i].as_ptr(), SHEETS, 0, 0, t, found[i], &mut out) };
             assert!(number == 0);
             out
         };
@@ -366,23 +367,23 @@ fn print(title: &str, columns: [&str; 2], rows: &Rows) {
 
 pub fn run() {
     let mut rows = Rows::default();
-    for n in [1, 2, 4, 8] {
+    for n in [1, 2, 4, SIDE] {
         for order in 0..3 {
             quantum(&mut rows, n, order);
         }
     }
-    for n in [1, 2, 4, 8] {
+    for n in [1, 2, 4, SIDE] {
         vr_mie(&mut rows, n);
     }
     let title = "operations: the Rust as it is on the platform's functions, and the port; order is Feynman-Hibbs'";
     print(title, ["Rust us", "port us"], &rows);
     let mut rows = Rows::default();
-    for n in [1, 2, 4, 8] {
+    for n in [1, 2, 4, SIDE] {
         for order in 0..3 {
             quantum_ends(&mut rows, n, order);
         }
     }
-    for n in [1, 2, 4, 8] {
+    for n in [1, 2, 4, SIDE] {
         vr_mie_ends(&mut rows, n);
     }
     print("two ends: the port's floats, and its ends", ["float us", "ends us"], &rows);

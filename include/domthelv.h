@@ -126,7 +126,7 @@ double domthelv_powi(double x, int32_t n);
 /* Tests one record's m: 3 if it is not 1.0, NaN included. */
 uint8_t domthelv_vrq_record_m(double m);
 
-/* Parameters. 1: a list of the set that is lent, the count is not 1 to 8, or another list's length is not the count
+/* Parameters. 1: a list of the set that is lent, the count is outside, or another list's length is not the count
  * (k_ij, l_ij: its square); 2: a number outside its limit, m excepted; 3: an m that is not 1.0; then pair by pair
  * 4: an order above 2, 5: the orders 1 and 2; 6: an elementary argument outside. */
 uint8_t domthelv_vrq_parameters(size_t count, const double *m, size_t m_len, const double *sigma, size_t sigma_len,
@@ -135,7 +135,7 @@ uint8_t domthelv_vrq_parameters(size_t count, const double *m, size_t m_len, con
     const double *l_ij, size_t l_ij_len, double *set_m, size_t set_m_len, double *set_sheets, size_t set_sheets_len,
     uint8_t *set_orders, size_t set_orders_len);
 
-/* Temperature table (256: sigma_eff, hs_diameter, epsilon_k_eff, quantum_d) and counts (192: searches for sigma, zero,
+/* Temperature table (sigma_eff, hs_diameter, epsilon_k_eff, quantum_d) and counts (searches for sigma, zero,
  * depth; 1 to 19, or 20 if spent). 1: the count, a list of the set or a lent list; 4: an order byte of a pair in use is
  * above 2; 2: temperature not 1 to 2000 K; 6; 7: a value to be written is not finite. */
 uint8_t domthelv_vrq_table(size_t count, const double *m, size_t m_len, const double *sheets, size_t sheets_len,
@@ -149,7 +149,7 @@ uint8_t domthelv_vrq_radii(size_t count, const double *m, size_t m_len, const do
     uint8_t *counts, size_t counts_len);
 
 /* Energies. out (3): hard sphere, dispersion, non-additive (+0 where not wanted). 1: the count, a list of the set,
- * fractions, densities, table (256) or out; 4: an order; 2: temperature, a fraction or a density not 0 to 1; 6;
+ * fractions, densities, table or out; 4: an order; 2: temperature, a fraction or a density not 0 to 1; 6;
  * 7: a contribution is not finite. */
 uint8_t domthelv_vrq_energies(size_t count, const double *m, size_t m_len, const double *sheets, size_t sheets_len,
     const uint8_t *orders, size_t orders_len, double temperature, const double *fractions, size_t fractions_len,

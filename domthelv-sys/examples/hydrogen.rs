@@ -1,5 +1,6 @@
 //! Liquid hydrogen at 25 K: hard-sphere and dispersion energy with their two ends. `cargo run --example hydrogen`
 use domthelv_sys::safe::{Ends, QuantumComponents, Refusal, State, quantum_parameters};
+use domthelv_sys::sizes;
 
 fn print(name: &str, value: f64, ends: Ends) {
     println!("{name:<12} {value:>24.17}  from {:.17} to {:.17}  width {:.1e}", ends.low, ends.high, ends.high - ends.low);
@@ -26,7 +27,7 @@ fn main() -> Result<(), Refusal> {
     let searches = set.searches(0, 0, state.temperature)?;
     let diameter = set.diameter_ends(0, 0, state.temperature, searches.sigma[0], searches.zero[0])?;
     println!("hydrogen at {} K, {} molecules per cubic ångström", state.temperature, state.densities[0]);
-    print("diameter", table.values[64], diameter);
+    print("diameter", table.values[sizes::at(sizes::table::HS_DIAMETER, 0, 0)], diameter);
     print("hard sphere", energies.hard_sphere, ends.hard_sphere);
     print("dispersion", energies.dispersion, ends.dispersion);
     Ok(())

@@ -3,12 +3,13 @@
 //! Temperatures are in kelvin, lengths in ångström, densities per cubic ångström, masses in kilograms; energies are densities of
 //! the reduced Helmholtz energy, per cubic ångström. Functions are small and inlined, so that only those in use are linked.
 use crate::raw;
+use crate::sizes::{COUNTS, LISTS, SHEET, SHEETS, SIDE, TABLE};
 
 /// Why a call was refused. The first that applies is given.
 #[repr(u8)]
 #[derive(Clone, Copy, Debug, PartialEq, Eq, Hash)]
 pub enum Refusal {
-    /// A count or a list's length is outside: 1 to 8 components, lists as long as the count, pair lists its square, indexes below it.
+    /// A count or a list's length is outside: 1 to [`SIDE`] components, lists as long as the count, pair lists its square, indexes below it.
     Length = 1,
     /// A number is outside its limit.
     Limit = 2,
@@ -139,29 +140,29 @@ pub struct State<'a> {
     pub densities: &'a [f64],
 }
 
-/// A quantum set. Entry (i, j) of a sheet stands at 8 i + j; sheets are sigma, epsilon_k, c, lambda_r, lambda_a, mass.
+/// A quantum set. Entry (i, j) of a sheet stands at `SIDE` i + j; sheets are sigma, epsilon_k, c, lambda_r, lambda_a, mass.
 /// Places of pairs beyond the count are not looked at; an order above 2 within it is refused after every wrong count, length or index.
 #[derive(Clone, Debug)]
 pub struct QuantumSet {
     pub count: usize,
-    pub m: [f64; 8],
-    pub sheets: [f64; 384],
-    pub orders: [u8; 64],
+    pub m: [f64; SIDE],
+    pub sheets: [f64; SHEETS],
+    pub orders: [u8; SHEET],
 }
 
-/// A set of SAFT-VR Mie: m, sigma, epsilon_k, lr, la, eight places each; sheets sigma, epsilon_k, lr, la, c, alpha.
+/// A set of SAFT-VR Mie: m, sigma, epsilon_k, lr, la, `SIDE` places each; sheets sigma, epsilon_k, lr, la, c, alpha.
 #[derive(Clone, Debug)]
 pub struct MieSet {
     pub count: usize,
-    pub lists: [f64; 40],
-    pub sheets: [f64; 384],
+    pub lists: [f64; LISTS],
+    pub sheets: [f64; SHEETS],
 }
 
 /// Sheets sigma_eff, hs_diameter, epsilon_k_eff, quantum_d; counts of the searches for sigma, zero, depth, 20 where one was spent.
 #[derive(Clone, Debug)]
 pub struct Table {
-    pub values: [f64; 256],
-    pub counts: [u8; 192],
+    pub values: [f64; TABLE],
+    pub counts: [u8; COUNTS],
 }
 
 /// A pair's three searches: radius and last potential of each, and its count.
@@ -206,14 +207,14 @@ pub fn quantum_record_m(m: f64) -> Result<(), Refusal> {
 /// The set of some components.
 #[inline]
 pub fn quantum_parameters(c: &QuantumComponents) -> Result<QuantumSet, Refusal> {
-    let mut s = QuantumSet { count: c.m.len(), m: [0.0; 8], sheets: [0.0; 384], orders: [0; 64] };
+    let mut s = QuantumSet { count: c.m.len(), m: [0.0; SIDE], sheets: [0.0; SHEETS], orders: [0; SHEET] };
     #[rustfmt::skip]
     let number = unsafe {
         raw::domthelv_vrq_parameters(
             s.count, c.m.as_ptr(), c.m.len(), c.sigma.as_ptr(), c.sigma.len(), c.epsilon_k.as_ptr(), c.epsilon_k.len(),
             c.lr.as_ptr(), c.lr.len(), c.la.as_ptr(), c.la.len(), c.mass.as_ptr(), c.mass.len(), c.order.as_ptr(), c.order.len(),
-            c.k_ij.as_ptr(), c.k_ij.len(), c.l_ij.as_ptr(), c.l_ij.len(), s.m.as_mut_ptr(), 8, s.sheets.as_mut_ptr(), 384,
-            s.orders.as_mut_ptr(), 64,
+            c.k_ij.as_ptr(), c.k_ij.len(), c.l_ij.as_ptr(), c.l_ij.len(), s.m.as_mut_ptr(), SIDE, s.sheets.as_mut_ptr(), SHEETS,
+            s.orders.as_mut_ptr(), SHEET,
         )
     };
     given(number, s)
@@ -239,12 +240,12 @@ impl QuantumSet {
     /// The temperature table.
     #[inline]
     pub fn table(&self, temperature: f64) -> Result<Table, Refusal> {
-        let mut t = Table { values: [0.0; 256], counts: [0; 192] };
+        let mut t = Table { values: [0.0; TABLE], counts: [0; COUNTS] };
         #[rustfmt::skip]
         let number = unsafe {
             raw::domthelv_vrq_table(
-                self.count, self.m.as_ptr(), 8, self.sheets.as_ptr(), 384, self.orders.as_ptr(), 64, temperature,
-                t.values.as_mut_ptr(), 256, t.counts.as_mut_ptr(), 192,
+                self.count, self.m.as_ptr(), SIDE, self.sheets.as_ptr(), SHEETS, self.orders.as_ptr(), SHEET, temperature,
+                t.values.as_mut_ptr(), TABLE, t.counts.as_mut_ptr(), COUNTS,
             )
         };
         given(number, t)
@@ -257,21 +258,21 @@ impl QuantumSet {
         #[rustfmt::skip]
         let number = unsafe {
             raw::domthelv_vrq_radii(
-                self.count, self.m.as_ptr(), 8, self.sheets.as_ptr(), 384, self.orders.as_ptr(), 64, i, j, temperature,
+                self.count, self.m.as_ptr(), SIDE, self.sheets.as_ptr(), SHEETS, self.orders.as_ptr(), SHEET, i, j, temperature,
                 out.as_mut_ptr(), 6, counts.as_mut_ptr(), 3,
             )
         };
         given(number, Searches { sigma: [out[0], out[1]], zero: [out[2], out[3]], depth: [out[4], out[5]], counts })
     }
 
-    /// Energies from a table (256 floats) that was made or filled by hand.
+    /// Energies from a table ([`TABLE`] floats) that was made or filled by hand.
     #[inline]
     pub fn energies(&self, s: &State, table: &[f64], non_additive: bool) -> Result<Energies, Refusal> {
         let mut out = [0.0; 3];
         #[rustfmt::skip]
         let number = unsafe {
             raw::domthelv_vrq_energies(
-                self.count, self.m.as_ptr(), 8, self.sheets.as_ptr(), 384, self.orders.as_ptr(), 64, s.temperature,
+                self.count, self.m.as_ptr(), SIDE, self.sheets.as_ptr(), SHEETS, self.orders.as_ptr(), SHEET, s.temperature,
                 s.fractions.as_ptr(), s.fractions.len(), s.densities.as_ptr(), s.densities.len(), table.as_ptr(), table.len(),
                 non_additive, out.as_mut_ptr(), 3,
             )
@@ -286,7 +287,7 @@ impl QuantumSet {
         #[rustfmt::skip]
         let number = unsafe {
             raw::domthelv_vrq_energies_ends(
-                self.count, self.m.as_ptr(), 8, self.sheets.as_ptr(), 384, self.orders.as_ptr(), 64, s.temperature,
+                self.count, self.m.as_ptr(), SIDE, self.sheets.as_ptr(), SHEETS, self.orders.as_ptr(), SHEET, s.temperature,
                 s.fractions.as_ptr(), s.fractions.len(), s.densities.as_ptr(), s.densities.len(), table.as_ptr(), table.len(),
                 non_additive, out.as_mut_ptr(), 6,
             )
@@ -302,7 +303,7 @@ impl QuantumSet {
         #[rustfmt::skip]
         let number = unsafe {
             raw::domthelv_vrq_diameter(
-                self.count, self.m.as_ptr(), 8, self.sheets.as_ptr(), 384, self.orders.as_ptr(), 64, i, j, temperature, sigma_eff,
+                self.count, self.m.as_ptr(), SIDE, self.sheets.as_ptr(), SHEETS, self.orders.as_ptr(), SHEET, i, j, temperature, sigma_eff,
                 r0, &mut out,
             )
         };
@@ -316,7 +317,7 @@ impl QuantumSet {
         #[rustfmt::skip]
         let number = unsafe {
             raw::domthelv_vrq_diameter_ends(
-                self.count, self.m.as_ptr(), 8, self.sheets.as_ptr(), 384, self.orders.as_ptr(), 64, i, j, temperature, sigma_eff,
+                self.count, self.m.as_ptr(), SIDE, self.sheets.as_ptr(), SHEETS, self.orders.as_ptr(), SHEET, i, j, temperature, sigma_eff,
                 r0, out.as_mut_ptr(), 2,
             )
         };
@@ -329,13 +330,13 @@ impl QuantumSet {
 /// The set of some components.
 #[inline]
 pub fn mie_parameters(c: &MieComponents) -> Result<MieSet, Refusal> {
-    let mut s = MieSet { count: c.m.len(), lists: [0.0; 40], sheets: [0.0; 384] };
+    let mut s = MieSet { count: c.m.len(), lists: [0.0; LISTS], sheets: [0.0; SHEETS] };
     #[rustfmt::skip]
     let number = unsafe {
         raw::domthelv_vr_parameters(
             s.count, c.m.as_ptr(), c.m.len(), c.sigma.as_ptr(), c.sigma.len(), c.epsilon_k.as_ptr(), c.epsilon_k.len(),
             c.lr.as_ptr(), c.lr.len(), c.la.as_ptr(), c.la.len(), c.k_ij.as_ptr(), c.k_ij.len(), c.gamma_ij.as_ptr(),
-            c.gamma_ij.len(), s.lists.as_mut_ptr(), 40, s.sheets.as_mut_ptr(), 384,
+            c.gamma_ij.len(), s.lists.as_mut_ptr(), LISTS, s.sheets.as_mut_ptr(), SHEETS,
         )
     };
     given(number, s)
@@ -364,7 +365,7 @@ impl MieSet {
         #[rustfmt::skip]
         let number = unsafe {
             raw::domthelv_vr_diameters(
-                self.count, self.lists.as_ptr(), 40, self.sheets.as_ptr(), 384, temperature, out.as_mut_ptr(), out.len(),
+                self.count, self.lists.as_ptr(), LISTS, self.sheets.as_ptr(), SHEETS, temperature, out.as_mut_ptr(), out.len(),
             )
         };
         given(number, ())
@@ -376,7 +377,7 @@ impl MieSet {
         let mut out = 0.0;
         #[rustfmt::skip]
         let number = unsafe {
-            raw::domthelv_vr_radius(self.count, self.lists.as_ptr(), 40, self.sheets.as_ptr(), 384, i, j, temperature, &mut out)
+            raw::domthelv_vr_radius(self.count, self.lists.as_ptr(), LISTS, self.sheets.as_ptr(), SHEETS, i, j, temperature, &mut out)
         };
         given(number, out)
     }
@@ -388,7 +389,7 @@ impl MieSet {
         #[rustfmt::skip]
         let number = unsafe {
             raw::domthelv_vr_dispersion(
-                self.count, self.lists.as_ptr(), 40, self.sheets.as_ptr(), 384, s.temperature, s.fractions.as_ptr(),
+                self.count, self.lists.as_ptr(), LISTS, self.sheets.as_ptr(), SHEETS, s.temperature, s.fractions.as_ptr(),
                 s.fractions.len(), s.densities.as_ptr(), s.densities.len(), diameters.as_ptr(), diameters.len(), chain, &mut out,
             )
         };
@@ -402,7 +403,7 @@ impl MieSet {
         #[rustfmt::skip]
         let number = unsafe {
             raw::domthelv_vr_dispersion_ends(
-                self.count, self.lists.as_ptr(), 40, self.sheets.as_ptr(), 384, s.temperature, s.fractions.as_ptr(),
+                self.count, self.lists.as_ptr(), LISTS, self.sheets.as_ptr(), SHEETS, s.temperature, s.fractions.as_ptr(),
                 s.fractions.len(), s.densities.as_ptr(), s.densities.len(), diameters.as_ptr(), diameters.len(), chain,
                 out.as_mut_ptr(), 2,
             )
@@ -416,7 +417,7 @@ impl MieSet {
         let mut out = 0.0;
         #[rustfmt::skip]
         let number = unsafe {
-            raw::domthelv_vr_diameter(self.count, self.lists.as_ptr(), 40, self.sheets.as_ptr(), 384, i, j, temperature, r0, &mut out)
+            raw::domthelv_vr_diameter(self.count, self.lists.as_ptr(), LISTS, self.sheets.as_ptr(), SHEETS, i, j, temperature, r0, &mut out)
         };
         given(number, out)
     }
@@ -428,7 +429,7 @@ impl MieSet {
         #[rustfmt::skip]
         let number = unsafe {
             raw::domthelv_vr_diameter_ends(
-                self.count, self.lists.as_ptr(), 40, self.sheets.as_ptr(), 384, i, j, temperature, r0, out.as_mut_ptr(), 2,
+                self.count, self.lists.as_ptr(), LISTS, self.sheets.as_ptr(), SHEETS, i, j, temperature, r0, out.as_mut_ptr(), 2,
             )
         };
         given(number, Ends { low: out[0], high: out[1] })
@@ -438,6 +439,7 @@ impl MieSet {
 #[cfg(test)]
 mod tests {
     use super::*;
+    use crate::sizes::{at, table as sheets};
 
     const ZERO: [f64; 4] = [0.0; 4];
     fn hydrogen_and_neon(n: usize) -> QuantumComponents<'static> {
@@ -491,10 +493,11 @@ mod tests {
             assert!(ends.low <= x && x <= ends.high && ends.high - ends.low < 1e-9);
         }
         let s = set.searches(0, 1, 30.0).unwrap();
-        assert_eq!(s.sigma[0], table.values[1]);
-        assert_eq!(set.diameter(0, 1, 30.0, s.sigma[0], s.zero[0]), Ok(table.values[65]));
+        assert_eq!(s.sigma[0], table.values[at(sheets::SIGMA_EFF, 0, 1)]);
+        let worked = table.values[at(sheets::HS_DIAMETER, 0, 1)];
+        assert_eq!(set.diameter(0, 1, 30.0, s.sigma[0], s.zero[0]), Ok(worked));
         let d = set.diameter_ends(0, 1, 30.0, s.sigma[0], s.zero[0]).unwrap();
-        assert!(d.low <= table.values[65] && table.values[65] <= d.high);
+        assert!(d.low <= worked && worked <= d.high);
     }
 
     #[test]
@@ -522,9 +525,9 @@ mod tests {
         let state = State { temperature: 30.0, fractions: &[0.5, 0.5], densities: &[0.01, 0.01] };
         let table = set.table(30.0).unwrap().values;
         let energies = set.energies(&state, &table, true);
-        set.orders[2] = 255;
+        set.orders[at(0, 0, 2)] = 255;
         assert_eq!(set.energies(&state, &table, true), energies);
-        set.orders[1] = 3;
+        set.orders[at(0, 0, 1)] = 3;
         assert_eq!(set.table(0.5).unwrap_err(), Refusal::Order);
         assert_eq!(set.searches(0, 2, 30.0), Err(Refusal::Length));
         assert_eq!(set.searches(1, 1, 30.0), Err(Refusal::Order));
@@ -534,7 +537,7 @@ mod tests {
         assert_eq!(set.energies(&state, &table, true), Err(Refusal::Order));
         let short = State { densities: &[0.01], ..state };
         assert_eq!(set.energies_ends(&short, &table, true), Err(Refusal::Length));
-        set.count = 9;
+        set.count = SIDE + 1;
         assert_eq!(set.table(30.0).unwrap_err(), Refusal::Length);
     }
 

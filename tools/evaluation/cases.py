@@ -9,6 +9,7 @@ from fractions import Fraction
 from . import chains, promises, specs
 from .library import same
 from .scopes import Definition
+from .sizes import SIDE
 from .terms import spell
 
 F64 = ("binary64",)
@@ -192,7 +193,7 @@ class Cases:
             lists.m = m or lists.m
             yield compared(f"orders {fh}, m {lists.m}", chains.refusal(quantum(lists)), number)
         mie, names = c.get("saftvrmie_parameters", "Parameters", "saftVRMiePars"), ["m", "sigma", "epsilon-k", "lr", "la", "k-ij", "gamma-ij"]
-        for count in (0, 9):
+        for count in (0, SIDE + 1):
             lists = alike((0,) * count)
             yield compared(f"count {count}", chains.refusal(quantum(lists)), 1)
             yield compared(f"VR Mie, count {count}", chains.refusal(mie(c.record(count=count, **{n: () for n in names}))), 1)

@@ -2,9 +2,10 @@
 import struct
 
 from .library import of_bits, same, to_bits
+from .sizes import COUNTS, LISTS, SHEET, SHEETS, SIDE, TABLE
 
 F64 = ("binary64",)
-OUT = (7.0,) * 8  # what stands in a lent list before a call
+OUT = (7.0,) * SHEETS  # what stands in a lent list before a call
 START = 0xcbf2_9ce4_8422_2325
 NAMES = {1: "quantum parameters", 2: "quantum table", 3: "quantum energies", 4: "VR Mie parameters", 5: "VR Mie diameters", 6: "VR Mie dispersion", 7: "quantum energies' ends", 8: "quantum diameter's ends", 9: "VR Mie dispersion's ends", 13: "VR Mie diameter's ends", 14: "quantum radii", 15: "VR Mie radius"}
 
@@ -70,7 +71,7 @@ class Quantum:
         self.number = c.get("saftvrqmie_potential", "Potential", "orderNumber")
         self.stored = c.get("mie_parameters", "Answer", "stored")
         self.keep(c.get("saftvrqmie_parameters", "Parameters", "emptySet")())
-        self.table, self.counts = (0.0,) * 256, (0,) * 192
+        self.table, self.counts = (0.0,) * TABLE, (0,) * COUNTS
 
     def keep(self, s):
         self.count, self.m, self.sheets, self.orders = s.count, s.m, s.sheets, tuple(self.number(o.order) for o in s.orders)
@@ -128,7 +129,7 @@ class Quantum:
     def parameters(self, lists):
         a = self.c.get("saftvrqmie_parameters", "Parameters", "saftVRQMiePars")(lists)
         self.keep(self.c.get("saftvrqmie_parameters", "Parameters", "given")(a).set)
-        written = operation(self.c, "vrqParameters")(lists, self.c.record(m=OUT[:8], sheets=OUT[:1] * 384, orders=(7,) * 64))
+        written = operation(self.c, "vrqParameters")(lists, self.c.record(m=OUT[:SIDE], sheets=OUT, orders=(7,) * SHEET))
         if refusal(written) != refusal(a) or (a[0] == "held" and not same((written[1].m, written[1].sheets, written[1].orders), (self.m, self.sheets, self.orders))):
             return None, []
         return refusal(a), [hashed(patterns(self.m), patterns(self.sheets), self.orders)]
@@ -147,13 +148,13 @@ class Mie:
         self.c = c
         self.stored = c.get("mie_parameters", "Answer", "stored")
         self.keep(c.get("saftvrmie_parameters", "Parameters", "emptySet")())
-        self.diameters = (0.0,) * 8
+        self.diameters = (0.0,) * SIDE
 
     def keep(self, s):
         self.count, self.lists, self.sheets = s.count, s.m + s.sigma + s.epsilon_5f_k + s.lr + s.la, s.sheets
 
     def record(self):
-        five = {n: self.lists[8 * k:8 * k + 8] for k, n in enumerate(self.FIVE)}
+        five = {n: self.lists[SIDE * k:SIDE * (k + 1)] for k, n in enumerate(self.FIVE)}
         return self.c.record(count=self.count, sheets=self.sheets, **five)
 
     def at(self, name, *more):
@@ -198,7 +199,7 @@ class Mie:
     def parameters(self, lists):
         a = self.c.get("saftvrmie_parameters", "Parameters", "saftVRMiePars")(lists)
         self.keep(self.c.get("saftvrmie_parameters", "Parameters", "given")(a).set)
-        written = operation(self.c, "vrParameters")(lists, self.c.record(lists=OUT[:1] * 40, sheets=OUT[:1] * 384))
+        written = operation(self.c, "vrParameters")(lists, self.c.record(lists=OUT[:LISTS], sheets=OUT))
         if refusal(written) != refusal(a) or (a[0] == "held" and not same((written[1].lists, written[1].sheets), (self.lists, self.sheets))):
             return None, []
         return refusal(a), [hashed(patterns(self.lists), patterns(self.sheets))]

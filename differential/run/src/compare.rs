@@ -2,6 +2,7 @@
 use crate::calls::Caller;
 use crate::oracle::{self, same};
 use crate::random::Random;
+use crate::sizes::{self, SHEET, SIDE, at, mie_set, quantum_set};
 use crate::states;
 use crate::tally::Tally;
 
@@ -81,7 +82,7 @@ fn quantum(g: &mut Random, case: u64, c: &mut Caller, tally: &mut Tally, tell_al
             judge(tally, "vrq_record_m", case, c, 0, number, &oracle::vrq_record_m(*m), |_| Ok(()));
         }
     }
-    let out = [length(g, 8), length(g, 384), length(g, 64)];
+    let out = oracle::QUANTUM_SET.map(|n| length(g, n));
     let expected = oracle::vrq_parameters(&lists, out);
     if let Some(number) = c.vrq_parameters(&lists, out) {
         judge(tally, "vrq_parameters", case, c, 3, number, &expected, |set| {
@@ -91,7 +92,7 @@ fn quantum(g: &mut Random, case: u64, c: &mut Caller, tally: &mut Tally, tell_al
         });
     }
     let non_additive = g.once_in(2);
-    let Ok(mut set) = oracle::vrq_parameters(&lists, [8, 384, 64]) else {
+    let Ok(mut set) = oracle::vrq_parameters(&lists, oracle::QUANTUM_SET) else {
         let state = states::state(g, 1, &[1.0], &[3.0], true);
         return quantum_stage(case, c, tally, &lists, &state, non_additive, 3);
     };
@@ -99,11 +100,11 @@ fn quantum(g: &mut Random, case: u64, c: &mut Caller, tally: &mut Tally, tell_al
     if g.once_in(3) {
         states::quantum_set_by_hand(g, &mut set);
     }
-    let n = set.count.clamp(1, 8);
+    let n = set.count.clamp(1, SIDE);
     let t = states::temperature(g, true);
     tell(tell_all, &(&lists, &set, t));
 
-    let mut pair = || if g.once_in(30) { (g.below(10), g.below(10)) } else { (g.below(n), g.below(n)) };
+    let mut pair = || if g.once_in(30) { (g.below(SIDE + 2), g.below(SIDE + 2)) } else { (g.below(n), g.below(n)) };
     let (i, j) = pair();
     for (i, j) in [(i, j), pair(), pair(), pair()] {
         let out = [length(g, 6), length(g, 3)];
@@ -116,7 +117,7 @@ fn quantum(g: &mut Random, case: u64, c: &mut Caller, tally: &mut Tally, tell_al
         }
     }
 
-    let out = [length(g, 256), length(g, 192)];
+    let out = oracle::TABLE_AND_COUNTS.map(|n| length(g, n));
     let expected = oracle::vrq_table(&set, t, out);
     if let Some(number) = c.vrq_table(&set, t, out) {
         judge(tally, "vrq_table", case, c, 2, number, &expected, |(table, counts)| {
@@ -126,7 +127,7 @@ fn quantum(g: &mut Random, case: u64, c: &mut Caller, tally: &mut Tally, tell_al
     }
 
     if let Ok((_, counts)) = &expected {
-        counts.iter().enumerate().for_each(|(k, count)| tally.search(k / 64, *count));
+        counts.iter().enumerate().for_each(|(k, count)| tally.search(k / SHEET, *count));
     }
 
     // the energies of the set just tried where its table stands, else of the set as made with a table filled by hand
@@ -136,26 +137,18 @@ fn quantum(g: &mut Random, case: u64, c: &mut Caller, tally: &mut Tally, tell_al
             if !g.once_in(4) {
                 set = made.clone();
             }
-            (0..256)
-                .map(|e| {
-                    if e < 128 {
-                        made.sheets[e % 64]
-                    } else if e < 192 {
-                        made.sheets[e - 64]
-                    } else {
-                        0.01
-                    }
-                })
-                .collect()
+            let sheet = |start: usize| &made.sheets[start..start + SHEET];
+            let sigma = sheet(quantum_set::SIGMA_IJ);
+            [sigma, sigma, sheet(quantum_set::EPSILON_K_IJ), &[0.01; SHEET]].concat()
         }
     };
-    let n = set.count.clamp(1, 8);
+    let n = set.count.clamp(1, SIDE);
     states::by_hand(g, &mut table);
     if g.once_in(40) {
         table.pop();
     }
-    let diameters: Vec<f64> = (0..n).map(|i| table[64 + 9 * i]).collect();
-    let mut state = states::state(g, n, &[1.0; 8], &diameters, true);
+    let diameters = states::diameters(n, &table);
+    let mut state = states::state(g, n, &[1.0; SIDE], &diameters, true);
     if expected.is_ok() && !g.once_in(10) {
         state.temperature = t;
     }
@@ -172,7 +165,8 @@ fn quantum(g: &mut Random, case: u64, c: &mut Caller, tally: &mut Tally, tell_al
     if let Some(number) = c.vrq_energies_ends(&set, &state, &table, non_additive, out) {
         judge(tally, "vrq_energies_ends", case, c, 1, number, &expected, |e| floats("ends", &c.lent.out(0), e));
     }
-    let mut radii = [table[8 * (i % n) + j % n], table[8 * (i % n) + j % n] * 0.8];
+    let sigma_eff = table[at(sizes::table::SIGMA_EFF, i % n, j % n)];
+    let mut radii = [sigma_eff, sigma_eff * 0.8];
     states::by_hand(g, &mut radii);
     let expected = oracle::vrq_diameter(&set, i, j, t, radii);
     if let Some(number) = c.vrq_diameter(&set, i, j, t, radii) {
@@ -216,7 +210,7 @@ fn vr_mie(g: &mut Random, case: u64, c: &mut Caller, tally: &mut Tally, tell_all
     if g.once_in(5) {
         states::spoil(g, &mut lists, false);
     }
-    let out = [length(g, 40), length(g, 384)];
+    let out = oracle::MIE_SET.map(|n| length(g, n));
     let expected = oracle::vr_parameters(&lists, out);
     if let Some(number) = c.vr_parameters(&lists, out) {
         judge(tally, "vr_parameters", case, c, 2, number, &expected, |set| {
@@ -225,7 +219,7 @@ fn vr_mie(g: &mut Random, case: u64, c: &mut Caller, tally: &mut Tally, tell_all
         });
     }
     let chain = g.once_in(2);
-    let Ok(mut set) = oracle::vr_parameters(&lists, [40, 384]) else {
+    let Ok(mut set) = oracle::vr_parameters(&lists, oracle::MIE_SET) else {
         let state = states::state(g, 1, &[1.0], &[3.0], false);
         return vr_mie_stage(case, c, tally, &lists, &state, chain);
     };
@@ -233,17 +227,17 @@ fn vr_mie(g: &mut Random, case: u64, c: &mut Caller, tally: &mut Tally, tell_all
     if g.once_in(3) {
         states::mie_set_by_hand(g, &mut set);
     }
-    let n = set.count.clamp(1, 8);
+    let n = set.count.clamp(1, SIDE);
     let t = states::temperature(g, false);
     tell(tell_all, &(&lists, &set, t));
 
-    let (i, j) = if g.once_in(30) { (g.below(10), g.below(10)) } else { (g.below(n), g.below(n)) };
+    let (i, j) = if g.once_in(30) { (g.below(SIDE + 2), g.below(SIDE + 2)) } else { (g.below(n), g.below(n)) };
     let expected = oracle::vr_radius(&set, i, j, t);
     if let Some(number) = c.vr_radius(&set, i, j, t) {
         judge(tally, "vr_radius", case, c, 1, number, &expected, |r| floats("radius", &c.lent.out(0), &[*r]));
     }
 
-    let out = if g.once_in(30) { g.below(10) } else { n };
+    let out = if g.once_in(30) { g.below(SIDE + 2) } else { n };
     let expected = oracle::vr_diameters(&set, t, out);
     if let Some(number) = c.vr_diameters(&set, t, out) {
         judge(tally, "vr_diameters", case, c, 1, number, &expected, |d| floats("diameters", &c.lent.out(0), d));
@@ -255,7 +249,7 @@ fn vr_mie(g: &mut Random, case: u64, c: &mut Caller, tally: &mut Tally, tell_all
             if !g.once_in(4) {
                 set = made.clone();
             }
-            (0..set.count.clamp(1, 8)).map(|i| made.sheets[9 * i] * 0.97).collect()
+            (0..set.count.clamp(1, SIDE)).map(|i| made.sheets[at(mie_set::SIGMA_IJ, i, i)] * 0.97).collect()
         }
     };
     let n = diameters.len();
@@ -263,7 +257,7 @@ fn vr_mie(g: &mut Random, case: u64, c: &mut Caller, tally: &mut Tally, tell_all
     if g.once_in(40) {
         diameters.push(3.0);
     }
-    let mut state = states::state(g, n, &made.lists[..8], &diameters, false);
+    let mut state = states::state(g, n, &made.lists[..SIDE], &diameters, false);
     if !g.once_in(10) {
         state.temperature = t;
     }

@@ -1,6 +1,7 @@
 //! Vectors of the two-ended operations and of a pair's radii, for tools/evaluate: chains as in vectors.rs, with the oracle's answers. docs/VECTORS.md has the layout.
 use crate::oracle::{self, State};
 use crate::random::Random;
+use crate::sizes::{SIDE, TABLE};
 use crate::states::{self, Kind};
 use crate::vectors::{File, Mie, Quantum, Record, all_bits, bits, length, save, wide};
 
@@ -43,7 +44,7 @@ fn of_pair(what: u64, (i, j): (usize, usize), t: f64, list: &[f64]) -> Record {
 
 /// Mostly a pair of the set.
 fn pair(g: &mut Random, n: usize, odd: bool) -> (usize, usize) {
-    if odd && g.once_in(12) { (g.below(10), g.below(10)) } else { (g.below(n), g.below(n)) }
+    if odd && g.once_in(12) { (g.below(SIDE + 2), g.below(SIDE + 2)) } else { (g.below(n), g.below(n)) }
 }
 
 fn quantum(g: &mut Random, n: usize, order: u8, odd: bool) -> File {
@@ -58,11 +59,11 @@ fn quantum(g: &mut Random, n: usize, order: u8, odd: bool) -> File {
     if odd && g.once_in(2) {
         let mut set = q.set.clone();
         states::quantum_set_by_hand(g, &mut set);
-        if set.m.len() == 8 && set.sheets.len() == 384 && set.orders.len() == 64 && set.orders.iter().all(|o| *o <= 2) {
+        if set.lengths() == oracle::QUANTUM_SET && set.orders.iter().all(|o| *o <= 2) {
             q.by_hand(set, q.table.clone());
         }
     }
-    let n = q.set.count.clamp(1, 8);
+    let n = q.set.count.clamp(1, SIDE);
     let at = pair(g, n, odd);
     let searched = oracle::vrq_radii(&q.set, at.0, at.1, t, [6, 3]);
     let radii = searched.as_ref().map_or([3.0, 2.5], |r| [r.0[0], r.0[2]]);
@@ -74,20 +75,20 @@ fn quantum(g: &mut Random, n: usize, order: u8, odd: bool) -> File {
     }
     let ends = oracle::vrq_diameter_ends(&q.set, at.0, at.1, t, radii, 2);
     q.file.call(NAMES[1], answered(of_pair(8, at, t, &radii), ends.map(|e| all_bits(&e))));
-    q.table(t, [256, 192]);
+    q.table(t, oracle::TABLE_AND_COUNTS);
     for turn in 0..2 {
         if odd && g.once_in(2) {
             let mut table = q.table.clone();
             states::by_hand(g, &mut table);
             q.by_hand(q.set.clone(), table);
         }
-        let diameters: Vec<f64> = (0..n).map(|i| q.table[64 + 9 * i]).collect();
+        let diameters = states::diameters(n, &q.table);
         let mut state =
-            if odd { states::state(g, n, &[1.0; 8], &diameters, true) } else { states::quiet_state(g, n, &[1.0; 8], &diameters) };
+            if odd { states::state(g, n, &[1.0; SIDE], &diameters, true) } else { states::quiet_state(g, n, &[1.0; SIDE], &diameters) };
         if !odd || g.once_in(2) {
             state.temperature = t;
         }
-        let lent = length(g, odd, 256);
+        let lent = length(g, odd, TABLE);
         let ends = oracle::vrq_energies_ends(&q.set, &state, &q.table[..lent], turn == 0, 6);
         q.file.call(NAMES[0], answered(of_state(7, &state, turn == 0, lent), ends.map(|e| all_bits(&e))));
     }
@@ -105,11 +106,11 @@ fn mie(g: &mut Random, n: usize, odd: bool) -> File {
     if odd && g.once_in(2) {
         let mut set = v.set.clone();
         states::mie_set_by_hand(g, &mut set);
-        if set.lists.len() == 40 && set.sheets.len() == 384 {
+        if set.lengths() == oracle::MIE_SET {
             v.by_hand(set, v.diameters.clone());
         }
     }
-    let n = v.set.count.clamp(1, 8);
+    let n = v.set.count.clamp(1, SIDE);
     let at = pair(g, n, odd);
     let radius = oracle::vr_radius(&v.set, at.0, at.1, t);
     v.file.call(NAMES[6], answered(of_pair(15, at, t, &[]), radius.map(|r| vec![bits(r)])));
@@ -122,7 +123,7 @@ fn mie(g: &mut Random, n: usize, odd: bool) -> File {
         states::by_hand(g, &mut d);
         v.by_hand(v.set.clone(), d);
     }
-    let m = v.set.lists[..8].to_vec();
+    let m = v.set.lists[..SIDE].to_vec();
     let mut state = if odd { states::state(g, n, &m, &v.diameters, false) } else { states::quiet_state(g, n, &m, &v.diameters) };
     if !odd || g.once_in(2) {
         state.temperature = t;

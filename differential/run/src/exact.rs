@@ -4,6 +4,7 @@ use crate::calls::Caller;
 use crate::compare::judge;
 use crate::oracle::{self, State};
 use crate::random::Random;
+use crate::sizes::SIDE;
 use crate::states::{self, Kind};
 use crate::tally::Tally;
 use ends::{F, Fraction};
@@ -48,10 +49,10 @@ fn quantum(g: &mut Random, case: u64, c: &mut Caller, tally: &mut Tally, seen: &
     let mut lists = states::lists_with(g, true, Kind::Usual, n);
     lists.order = vec![case as u8 % 3; n];
     let t = g.within(15.0, 300.0);
-    let Ok(set) = oracle::vrq_parameters(&lists, [8, 384, 64]) else { return };
-    let Ok((table, _)) = oracle::vrq_table(&set, t, [256, 192]) else { return };
-    let diameters: Vec<f64> = (0..n).map(|i| table[64 + 9 * i]).collect();
-    let state = State { temperature: t, ..states::quiet_state(g, n, &[1.0; 8], &diameters) };
+    let Ok(set) = oracle::vrq_parameters(&lists, oracle::QUANTUM_SET) else { return };
+    let Ok((table, _)) = oracle::vrq_table(&set, t, oracle::TABLE_AND_COUNTS) else { return };
+    let diameters = states::diameters(n, &table);
+    let state = State { temperature: t, ..states::quiet_state(g, n, &[1.0; SIDE], &diameters) };
     let expected = exactly(tally, case, seen, || oracle::vrq_energies_enclosed(&set, &state, &table, true, 6));
     if let Some(number) = c.vrq_energies_ends(&set, &state, &table, true, 6) {
         judge(tally, "exact: vrq_energies_ends", case, c, 1, number, &expected, |r| seen.enclosed(r, &c.lent.out(0)));
@@ -68,7 +69,7 @@ fn vr_mie(g: &mut Random, case: u64, c: &mut Caller, tally: &mut Tally, seen: &m
     let n = g.one_of(&[1, 1, 1, 2]);
     let lists = states::lists_with(g, false, Kind::Usual, n);
     let t = g.within(150.0, 600.0);
-    let Ok(set) = oracle::vr_parameters(&lists, [40, 384]) else { return };
+    let Ok(set) = oracle::vr_parameters(&lists, oracle::MIE_SET) else { return };
     let Ok(diameters) = oracle::vr_diameters(&set, t, n) else { return };
     let state = State { temperature: t, ..states::quiet_state(g, n, &lists.m, &diameters) };
     let chain = case % 2 == 1;

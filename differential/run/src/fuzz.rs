@@ -3,6 +3,7 @@ use crate::calls::Caller;
 use crate::compare::{bytes, floats, judge};
 use crate::oracle::{self, Lists, MieSet, QuantumSet, State};
 use crate::random::Random;
+use crate::sizes::{SIDE, TABLE};
 use crate::states;
 use crate::tally::Tally;
 
@@ -29,7 +30,7 @@ fn stretch<T: Copy>(g: &mut Random, list: &mut Vec<T>, fill: T) {
 }
 fn count(g: &mut Random, right: usize) -> usize {
     match g.below(25) {
-        0 => g.below(10),
+        0 => g.below(SIDE + 2),
         1 => g.next() as usize >> g.below(64),
         _ => right,
     }
@@ -52,7 +53,7 @@ fn lists(g: &mut Random, quantum: bool) -> Lists {
 }
 
 fn state(g: &mut Random, n: usize, one_in: usize) -> State {
-    let mut s = states::state(g, n, &[1.0; 8], &[3.0; 8], true);
+    let mut s = states::state(g, n, &[1.0; SIDE], &[3.0; SIDE], true);
     scatter(g, &mut s.fractions, one_in);
     scatter(g, &mut s.densities, one_in);
     stretch(g, &mut s.fractions, 0.5);
@@ -66,7 +67,7 @@ fn quantum(g: &mut Random, case: u64, c: &mut Caller, tally: &mut Tally) {
     if let Some(number) = c.vrq_record_m(m) {
         judge(tally, "fuzz vrq_record_m", case, c, 0, number, &oracle::vrq_record_m(m), |_| Ok(()));
     }
-    let out = [8, 384, 64].map(|n| if g.once_in(25) { g.below(500) } else { n });
+    let out = oracle::QUANTUM_SET.map(|n| if g.once_in(25) { g.below(500) } else { n });
     let expected = oracle::vrq_parameters(&l, out);
     if let Some(number) = c.vrq_parameters(&l, out) {
         judge(tally, "fuzz vrq_parameters", case, c, 3, number, &expected, |s| {
@@ -75,7 +76,7 @@ fn quantum(g: &mut Random, case: u64, c: &mut Caller, tally: &mut Tally) {
             bytes("orders", &c.lent.out(0), &s.orders)
         });
     }
-    let Ok(mut set) = oracle::vrq_parameters(&states::lists(g, true), [8, 384, 64]) else { return };
+    let Ok(mut set) = oracle::vrq_parameters(&states::lists(g, true), oracle::QUANTUM_SET) else { return };
     let n = set.count;
     let one_in = g.one_of(&[2, 20, 200, 2000, 20000]);
     scatter_set(g, &mut set, one_in);
@@ -88,7 +89,7 @@ fn quantum(g: &mut Random, case: u64, c: &mut Caller, tally: &mut Tally) {
             bytes("counts", &c.lent.out(0), counts)
         });
     }
-    let out = [256, 192].map(|n| if g.once_in(25) { g.below(500) } else { n });
+    let out = oracle::TABLE_AND_COUNTS.map(|n| if g.once_in(25) { g.below(500) } else { n });
     let expected = oracle::vrq_table(&set, t, out);
     if let Some(number) = c.vrq_table(&set, t, out) {
         judge(tally, "fuzz vrq_table", case, c, 2, number, &expected, |(table, counts)| {
@@ -96,7 +97,7 @@ fn quantum(g: &mut Random, case: u64, c: &mut Caller, tally: &mut Tally) {
             bytes("counts", &c.lent.out(0), counts)
         });
     }
-    let mut table: Vec<f64> = (0..256).map(|_| g.within(2.5, 3.5)).collect();
+    let mut table: Vec<f64> = (0..TABLE).map(|_| g.within(2.5, 3.5)).collect();
     scatter(g, &mut table, one_in);
     stretch(g, &mut table, 3.0);
     let s = state(g, n, one_in);
@@ -139,7 +140,7 @@ fn scatter_set(g: &mut Random, set: &mut QuantumSet, one_in: usize) {
 
 fn vr_mie(g: &mut Random, case: u64, c: &mut Caller, tally: &mut Tally) {
     let l = lists(g, false);
-    let out = [40, 384].map(|n| if g.once_in(25) { g.below(500) } else { n });
+    let out = oracle::MIE_SET.map(|n| if g.once_in(25) { g.below(500) } else { n });
     let expected = oracle::vr_parameters(&l, out);
     if let Some(number) = c.vr_parameters(&l, out) {
         judge(tally, "fuzz vr_parameters", case, c, 2, number, &expected, |s| {
@@ -147,7 +148,7 @@ fn vr_mie(g: &mut Random, case: u64, c: &mut Caller, tally: &mut Tally) {
             floats("sheets", &c.lent.out(0), &s.sheets)
         });
     }
-    let Ok(mut set) = oracle::vr_parameters(&states::lists(g, false), [40, 384]) else { return };
+    let Ok(mut set) = oracle::vr_parameters(&states::lists(g, false), oracle::MIE_SET) else { return };
     let n = set.count;
     let one_in = g.one_of(&[2, 20, 200, 2000, 20000]);
     scatter_mie(g, &mut set, one_in);

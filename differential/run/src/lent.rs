@@ -1,4 +1,5 @@
 //! Lists lent to the port, each in pages of its own that end (or begin) where a page begins that nobody may touch.
+use crate::sizes::SHEETS;
 use std::ffi::{c_int, c_void};
 
 unsafe extern "C" {
@@ -6,7 +7,8 @@ unsafe extern "C" {
     fn mprotect(at: *mut c_void, length: usize, protection: c_int) -> c_int;
 }
 const PAGE: usize = 4096;
-const ROOM: usize = 2 * PAGE;
+/// The longest list, and a page for lengths that are too long.
+const ROOM: usize = (size_of::<f64>() * SHEETS).next_multiple_of(PAGE) + PAGE;
 const GUARD: u8 = 0xa5;
 static GUARDS: [u8; ROOM] = [GUARD; ROOM];
 

@@ -15,6 +15,9 @@ mod oracle;
 mod port;
 mod random;
 mod selfcheck;
+#[allow(dead_code)]
+#[path = "../../../domthelv-sys/src/sizes.rs"]
+mod sizes;
 mod spread;
 mod states;
 mod tally;

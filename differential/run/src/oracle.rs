@@ -1,6 +1,7 @@
 //! What each operation has to answer: the refusals by the words of the scope, the values by the renamed Rust text
 //! over the port's elementary functions.
 use crate::port;
+use crate::sizes::{self, COUNTS, LISTS, SHEET, SHEETS, SIDE, TABLE, at};
 use ended::saftvrmie::eos as ended_vr;
 use ended::saftvrqmie::eos::driver as ended_vrq;
 use ends::F;
@@ -86,6 +87,11 @@ fn finite(values: &[f64]) -> Result<(), u8> {
 
 // ---- lists, sets, states as they cross the boundary
 
+/// The lengths of the lists of a quantum set, of a table with its counts, and of a set of SAFT-VR Mie.
+pub const QUANTUM_SET: [usize; 3] = [SIDE, SHEETS, SHEET];
+pub const TABLE_AND_COUNTS: [usize; 2] = [TABLE, COUNTS];
+pub const MIE_SET: [usize; 2] = [LISTS, SHEETS];
+
 #[derive(Clone, Debug)]
 pub struct Lists {
     pub count: usize,
@@ -107,11 +113,21 @@ pub struct QuantumSet {
     pub sheets: Vec<f64>,
     pub orders: Vec<u8>,
 }
+impl QuantumSet {
+    pub fn lengths(&self) -> [usize; 3] {
+        [self.m.len(), self.sheets.len(), self.orders.len()]
+    }
+}
 #[derive(Clone, Debug)]
 pub struct MieSet {
     pub count: usize,
     pub lists: Vec<f64>,
     pub sheets: Vec<f64>,
+}
+impl MieSet {
+    pub fn lengths(&self) -> [usize; 2] {
+        [self.lists.len(), self.sheets.len()]
+    }
 }
 #[derive(Clone, Debug)]
 pub struct State {
@@ -147,7 +163,7 @@ fn limits(right: bool) -> Result<(), u8> {
     if right { Ok(()) } else { Err(2) }
 }
 fn count_right(count: usize) -> bool {
-    (1..=8).contains(&count)
+    (1..=SIDE).contains(&count)
 }
 fn all_within(list: &[f64], low: f64, high: f64) -> bool {
     list.iter().all(|&x| low <= x && x <= high)
@@ -172,24 +188,24 @@ fn state_right(s: &State) -> bool {
 /// A set as the boundary takes it apart: 1 for the count, one of its lists or what else of the call is not `right`; only then
 /// 4 if the order of a pair in use is above 2 (an enum has no such case). Other places are not looked at.
 fn quantum_set(s: &QuantumSet, right: bool) -> Result<(), u8> {
-    lengths(count_right(s.count) && s.m.len() == 8 && s.sheets.len() == 384 && s.orders.len() == 64 && right)?;
-    let used = |e: &usize| e / 8 < s.count && e % 8 < s.count;
-    if (0..64).filter(used).all(|e| s.orders[e] <= 2) { Ok(()) } else { Err(4) }
+    lengths(count_right(s.count) && s.lengths() == QUANTUM_SET && right)?;
+    let used = |e: &usize| e / SIDE < s.count && e % SIDE < s.count;
+    if (0..SHEET).filter(used).all(|e| s.orders[e] <= 2) { Ok(()) } else { Err(4) }
 }
 fn pair_right(count: usize, i: usize, j: usize) -> bool {
     i < count && j < count
 }
 fn state_lists_right(count: usize, st: &State, table: &[f64]) -> bool {
-    st.fractions.len() == count && st.densities.len() == count && table.len() == 256
+    st.fractions.len() == count && st.densities.len() == count && table.len() == TABLE
 }
 fn mie_set_right(s: &MieSet) -> bool {
-    count_right(s.count) && s.lists.len() == 40 && s.sheets.len() == 384
+    count_right(s.count) && s.lengths() == MIE_SET
 }
 
 // ---- quantum operations
 
 fn in_places(list: &[f64]) -> Vec<f64> {
-    let mut places = vec![0.0; 8];
+    let mut places = vec![0.0; SIDE];
     places[..list.len()].copy_from_slice(list);
     places
 }
@@ -213,7 +229,7 @@ pub fn vrq_parameters(l: &Lists, out: [usize; 3]) -> Result<QuantumSet, u8> {
             && l.order.len() == n
             && l.k_ij.len() == n * n
             && l.l_ij.len() == n * n
-            && out == [8, 384, 64],
+            && out == QUANTUM_SET,
     )?;
     limits(
         all_within(&l.sigma, 0.5, 16.0)
@@ -266,19 +282,21 @@ fn searches(p: &renamed::saftvrqmie::parameters::SaftVRQMiePars, order: u8, i: u
 pub fn vrq_radii(s: &QuantumSet, i: usize, j: usize, t: f64, out: [usize; 2]) -> Result<([f64; 6], [u8; 3]), u8> {
     quantum_set(s, pair_right(s.count, i, j) && out == [6, 3])?;
     limits(temperature_right(t))?;
-    searches(&vrq::set(s.count, &s.m, &s.sheets, &s.orders), s.orders[8 * i + j], i, j, t)
+    searches(&vrq::set(s.count, &s.m, &s.sheets, &s.orders), s.orders[at(0, i, j)], i, j, t)
 }
 
-pub fn vrq_table(s: &QuantumSet, t: f64, out: [usize; 2]) -> Result<([f64; 256], [u8; 192]), u8> {
-    quantum_set(s, out == [256, 192])?;
+pub fn vrq_table(s: &QuantumSet, t: f64, out: [usize; 2]) -> Result<([f64; TABLE], [u8; COUNTS]), u8> {
+    quantum_set(s, out == TABLE_AND_COUNTS)?;
     limits(temperature_right(t))?;
     let p = vrq::set(s.count, &s.m, &s.sheets, &s.orders);
-    let mut counts = [0; 192];
+    let mut counts = [0; COUNTS];
     for i in 0..s.count {
         for j in 0..s.count {
-            let e = 8 * i + j;
+            let e = at(0, i, j);
             let (_, c) = searches(&p, s.orders[e], i, j, t)?;
-            (counts[e], counts[64 + e], counts[128 + e]) = (c[0], c[1], c[2]);
+            for (k, start) in [sizes::counts::SIGMA, sizes::counts::ZERO, sizes::counts::DEPTH].into_iter().enumerate() {
+                counts[start + e] = c[k];
+            }
         }
     }
     start();
@@ -303,8 +321,8 @@ pub fn vrq_energies(s: &QuantumSet, st: &State, table: &[f64], non_additive: boo
 /// Parameters, table and energies; the first refusal on the way is given.
 pub fn vrq_stage(l: &Lists, st: &State, non_additive: bool, out: usize) -> Result<[f64; 3], u8> {
     lengths(out == 3)?;
-    let set = vrq_parameters(l, [8, 384, 64])?;
-    let (table, _) = vrq_table(&set, st.temperature, [256, 192])?;
+    let set = vrq_parameters(l, QUANTUM_SET)?;
+    let (table, _) = vrq_table(&set, st.temperature, TABLE_AND_COUNTS)?;
     vrq_energies(&set, st, &table, non_additive, 3)
 }
 
@@ -322,7 +340,7 @@ pub fn vr_parameters(l: &Lists, out: [usize; 2]) -> Result<MieSet, u8> {
             && right(&l.la)
             && l.k_ij.len() == n * n
             && l.l_ij.len() == n * n
-            && out == [40, 384],
+            && out == MIE_SET,
     )?;
     limits(
         all_within(&l.m, 0.5, 64.0)
@@ -380,7 +398,7 @@ pub fn vr_dispersion(s: &MieSet, st: &State, diameters: &[f64], chain: bool) -> 
 
 /// Parameters, diameters and energy; the first refusal on the way is given.
 pub fn vr_stage(l: &Lists, st: &State, chain: bool) -> Result<f64, u8> {
-    let set = vr_parameters(l, [40, 384])?;
+    let set = vr_parameters(l, MIE_SET)?;
     let diameters = vr_diameters(&set, st.temperature, set.count)?;
     vr_dispersion(&set, st, &diameters, chain)
 }

@@ -3,6 +3,7 @@
 use crate::lent::Lent;
 use crate::oracle::{lists_for, same};
 use crate::random::Random;
+use crate::sizes::TABLE;
 use crate::states;
 use crate::tally::Tally;
 
@@ -60,7 +61,7 @@ pub fn texts(count: u64, seed: u64, tally: &mut Tally) {
         let mut s = states::state(&mut g, l.count, &v.m, &l.sigma, true);
         s.fractions.resize(l.count, 0.1);
         s.densities.resize(l.count, 0.001);
-        let scales: Vec<f64> = (0..256).map(|_| g.within(0.98, 1.02)).collect();
+        let scales: Vec<f64> = (0..TABLE).map(|_| g.within(0.98, 1.02)).collect();
         let unchanged = all_values!(plain, &l, &v, &s, &scales);
         let renamed = all_values!(renamed, &l, &v, &s, &scales);
         let other = unchanged.iter().zip(&renamed).filter(|(a, b)| !same(**a, **b)).count();

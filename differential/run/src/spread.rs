@@ -2,6 +2,7 @@
 //! at packing fractions from 0.01 to 0.5 and where both sides have a finite value.
 use crate::oracle::{self, PORT, lists_for};
 use crate::random::Random;
+use crate::sizes::{SHEET, SIDE, mie_set};
 use crate::states::{self, Kind};
 use plain::saftvrmie::eos as vr;
 use plain::saftvrqmie::eos::driver as vrq;
@@ -34,13 +35,13 @@ impl Spreads {
 }
 
 fn used(n: usize, sheet: &[f64]) -> Vec<f64> {
-    (0..64).filter(|e| e / 8 < n && e % 8 < n).map(|e| sheet[e]).collect()
+    (0..SHEET).filter(|e| e / SIDE < n && e % SIDE < n).map(|e| sheet[e]).collect()
 }
 
 fn quantum(g: &mut Random, kind: Kind, rows: &mut Spreads) -> Option<()> {
     let l = states::lists_of(g, true, kind);
     let n = l.count;
-    let set = oracle::vrq_parameters(&l, [8, 384, 64]).ok()?;
+    let set = oracle::vrq_parameters(&l, oracle::QUANTUM_SET).ok()?;
     let own = vrq::parameters(&lists_for!(vrq, l)).ok()?;
     let sheets = vrq::flat(&own).0;
     for (s, name) in
@@ -48,23 +49,23 @@ fn quantum(g: &mut Random, kind: Kind, rows: &mut Spreads) -> Option<()> {
             .into_iter()
             .enumerate()
     {
-        rows.add(name, &used(n, &set.sheets[64 * s..]), &used(n, &sheets[64 * s..]));
+        rows.add(name, &used(n, &set.sheets[SHEET * s..]), &used(n, &sheets[SHEET * s..]));
     }
     let t = states::temperature(g, true);
-    let (table, counts) = oracle::vrq_table(&set, t, [256, 192]).ok()?;
+    let (table, counts) = oracle::vrq_table(&set, t, oracle::TABLE_AND_COUNTS).ok()?;
     let p = vrq::set(n, &set.m, &set.sheets, &set.orders);
     let platform = vrq::table(&p, t);
-    let found = |k: usize| (0..64).all(|e| counts[64 * k + e] < 20);
+    let found = |k: usize| counts[SHEET * k..][..SHEET].iter().all(|c| *c < 20);
     let names = if found(0) && found(1) && found(2) {
         ["table, all found: sigma_eff", "table, all found: hs_diameter", "table, all found: epsilon_k_eff", "table: quantum_d"]
     } else {
         ["table, one spent: sigma_eff", "table, one spent: hs_diameter", "table, one spent: epsilon_k_eff", "table: quantum_d"]
     };
     for (s, name) in names.into_iter().enumerate() {
-        rows.add(name, &used(n, &table[64 * s..]), &used(n, &platform[64 * s..]));
+        rows.add(name, &used(n, &table[SHEET * s..]), &used(n, &platform[SHEET * s..]));
     }
-    let diameters: Vec<f64> = (0..n).map(|i| table[64 + 9 * i]).collect();
-    let mut s = states::quiet_state(g, n, &[1.0; 8], &diameters);
+    let diameters = states::diameters(n, &table);
+    let mut s = states::quiet_state(g, n, &[1.0; SIDE], &diameters);
     s.temperature = t;
     let port = oracle::vrq_energies(&set, &s, &table, false, 3).ok()?;
     let platform = vrq::energies(&p, &table, t, &s.fractions, &s.densities, false);
@@ -82,7 +83,7 @@ fn quantum(g: &mut Random, kind: Kind, rows: &mut Spreads) -> Option<()> {
 fn vr_mie(g: &mut Random, kind: Kind, rows: &mut Spreads) -> Option<()> {
     let l = states::lists_of(g, false, kind);
     let n = l.count;
-    let set = oracle::vr_parameters(&l, [40, 384]).ok()?;
+    let set = oracle::vr_parameters(&l, oracle::MIE_SET).ok()?;
     let own = vr::parameters(&vr::Lists {
         m: &l.m,
         sigma: &l.sigma,
@@ -92,8 +93,8 @@ fn vr_mie(g: &mut Random, kind: Kind, rows: &mut Spreads) -> Option<()> {
         k_ij: &l.k_ij,
         gamma_ij: &l.l_ij,
     });
-    rows.add("VR Mie c_ij", &used(n, &set.sheets[256..]), &used(n, &vr::flat(&own)[256..]));
-    rows.add("VR Mie alpha_ij", &used(n, &set.sheets[320..]), &used(n, &vr::flat(&own)[320..]));
+    rows.add("VR Mie c_ij", &used(n, &set.sheets[mie_set::C_IJ..]), &used(n, &vr::flat(&own)[mie_set::C_IJ..]));
+    rows.add("VR Mie alpha_ij", &used(n, &set.sheets[mie_set::ALPHA_IJ..]), &used(n, &vr::flat(&own)[mie_set::ALPHA_IJ..]));
     let t = states::temperature(g, false);
     let diameters = oracle::vr_diameters(&set, t, n).ok()?;
     let p = vr::set(n, &set.lists, &set.sheets);

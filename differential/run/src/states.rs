@@ -1,6 +1,7 @@
 //! Lists, sets and states to try: usual ones, the ends of the limits, and what formulas stumble over.
 use crate::oracle::{Lists, MieSet, QuantumSet, State};
 use crate::random::Random;
+use crate::sizes::{self, LISTS, SHEET, SIDE, at, mie_set, quantum_set};
 
 /// How the numbers of a case are chosen.
 #[derive(Clone, Copy, PartialEq)]
@@ -87,7 +88,8 @@ pub fn lists(g: &mut Random, quantum: bool) -> Lists {
 }
 
 pub fn lists_of(g: &mut Random, quantum: bool, kind: Kind) -> Lists {
-    let n = g.one_of(&[1, 1, 1, 2, 2, 2, 3, 3, 4, 5, 6, 7, 8]);
+    let counts: Vec<usize> = [1, 1, 1, 2, 2, 2, 3, 3].into_iter().chain(4..=SIDE).collect();
+    let n = g.one_of(&counts);
     lists_with(g, quantum, kind, n)
 }
 
@@ -123,7 +125,7 @@ pub fn spoil(g: &mut Random, l: &mut Lists, quantum: bool) {
         g.one_of(&[low.next_down(), high.next_up(), odd, f64::NAN])
     };
     match g.below(14) {
-        0 => l.count = g.one_of(&[0, 9, n + 1, n.wrapping_sub(1), usize::MAX, 1 << 32, 1 << 63]),
+        0 => l.count = g.one_of(&[0, SIDE + 1, n + 1, n.wrapping_sub(1), usize::MAX, 1 << 32, 1 << 63]),
         1 => {
             let lists = [&mut l.m, &mut l.sigma, &mut l.epsilon_k, &mut l.lr, &mut l.la, &mut l.mass, &mut l.k_ij, &mut l.l_ij];
             let list = lists.into_iter().nth(g.below(8)).unwrap();
@@ -229,46 +231,55 @@ pub fn by_hand(g: &mut Random, list: &mut [f64]) {
     }
 }
 
+/// The components' diameters in a table.
+pub fn diameters(n: usize, table: &[f64]) -> Vec<f64> {
+    (0..n).map(|i| table[at(sizes::table::HS_DIAMETER, i, i)]).collect()
+}
+
 /// A quantum set filled by hand from one that was made.
 pub fn quantum_set_by_hand(g: &mut Random, s: &mut QuantumSet) {
-    let e = 8 * g.below(s.count) + g.below(s.count);
+    let e = at(0, g.below(s.count), g.below(s.count));
     match g.below(10) {
         0 => s.sheets.iter_mut().for_each(|x| *x *= g.within(0.97, 1.03)),
-        1 => s.sheets[64 * g.below(6) + e] = g.odd(),
-        2 => s.sheets[64 * (3 + g.below(2)) + e] = g.one_of(&[1.0, 2.0, 3.0, 4.0, -1.0, 0.0, 186.0, 190.0, 192.0]),
-        3 => s.sheets[e] = g.one_of(&[0.03125, 32.0, 0.02, 33.0]),
-        4 if g.once_in(2) => s.m[g.below(8)] = g.odd(),
+        1 => s.sheets[SHEET * g.below(6) + e] = g.odd(),
+        2 => {
+            s.sheets[g.one_of(&[quantum_set::LAMBDA_R_IJ, quantum_set::LAMBDA_A_IJ]) + e] =
+                g.one_of(&[1.0, 2.0, 3.0, 4.0, -1.0, 0.0, 186.0, 190.0, 192.0])
+        }
+        3 => s.sheets[quantum_set::SIGMA_IJ + e] = g.one_of(&[0.03125, 32.0, 0.02, 33.0]),
+        4 if g.once_in(2) => s.m[g.below(SIDE)] = g.odd(),
         // the mass is read by no elementary call of order 0
         4 => {
-            s.sheets[320 + e] = g.one_of(&[0.0, -0.0, f64::NAN, 5e-324, f64::INFINITY, 1e-300]);
+            s.sheets[quantum_set::MASS_IJ + e] = g.one_of(&[0.0, -0.0, f64::NAN, 5e-324, f64::INFINITY, 1e-300]);
             s.orders[e] = g.one_of(&[0, 0, 0, 1]);
         }
         5 => s.orders[e] = g.below(3) as u8,
-        6 => s.orders[g.below(64)] = g.one_of(&[0, 1, 2, 3, 255]),
-        7 => s.count = g.one_of(&[0, 1, s.count, 8, 9, usize::MAX]),
+        6 => s.orders[g.below(SHEET)] = g.one_of(&[0, 1, 2, 3, 255]),
+        7 => s.count = g.one_of(&[0, 1, s.count, SIDE, SIDE + 1, usize::MAX]),
         8 => match g.below(3) {
-            0 => s.m.truncate(7),
+            0 => s.m.truncate(SIDE - 1),
             1 => s.sheets.push(0.0),
-            _ => s.orders.truncate(63),
+            _ => s.orders.truncate(SHEET - 1),
         },
         // unused places are not read
-        _ => (0..64).filter(|k| k / 8 >= s.count || k % 8 >= s.count).for_each(|k| s.sheets[k] = f64::NAN),
+        _ => (0..SHEET).filter(|k| k / SIDE >= s.count || k % SIDE >= s.count).for_each(|k| s.sheets[k] = f64::NAN),
     }
 }
 
 pub fn mie_set_by_hand(g: &mut Random, s: &mut MieSet) {
-    let e = 8 * g.below(s.count) + g.below(s.count);
+    let (i, j) = (g.below(s.count), g.below(s.count));
+    let e = at(0, i, j);
     match g.below(8) {
         0 => s.sheets.iter_mut().for_each(|x| *x *= g.within(0.97, 1.03)),
-        1 => s.sheets[64 * g.below(6) + e] = g.odd(),
-        2 => s.sheets[64 * (2 + g.below(2)) + e] = g.one_of(&[1.0, 2.0, 3.0, 4.0, -1.0, 0.0, 96.0, 190.0, 192.0]),
-        3 => s.lists[8 * g.below(5) + e / 8] = g.odd(),
+        1 => s.sheets[SHEET * g.below(6) + e] = g.odd(),
+        2 => s.sheets[g.one_of(&[mie_set::LR_IJ, mie_set::LA_IJ]) + e] = g.one_of(&[1.0, 2.0, 3.0, 4.0, -1.0, 0.0, 96.0, 190.0, 192.0]),
+        3 => s.lists[SIDE * g.below(5) + i] = g.odd(),
         4 if g.once_in(2) => s.lists.iter_mut().for_each(|x| *x *= g.within(0.99, 1.01)),
         // a diameter is multiplied by sigma at the end
-        4 => s.sheets[9 * (e / 8)] = g.one_of(&[f64::NAN, f64::INFINITY, -1.0, 1e308, f64::MAX, 0.0]),
-        5 => s.count = g.one_of(&[0, 1, s.count, 8, 9, usize::MAX]),
-        6 if g.once_in(2) => s.lists.truncate(39),
+        4 => s.sheets[at(mie_set::SIGMA_IJ, i, i)] = g.one_of(&[f64::NAN, f64::INFINITY, -1.0, 1e308, f64::MAX, 0.0]),
+        5 => s.count = g.one_of(&[0, 1, s.count, SIDE, SIDE + 1, usize::MAX]),
+        6 if g.once_in(2) => s.lists.truncate(LISTS - 1),
         6 => s.sheets.push(0.0),
-        _ => (0..64).filter(|k| k / 8 >= s.count || k % 8 >= s.count).for_each(|k| s.sheets[k] = f64::NAN),
+        _ => (0..SHEET).filter(|k| k / SIDE >= s.count || k % SIDE >= s.count).for_each(|k| s.sheets[k] = f64::NAN),
     }
 }

@@ -1,6 +1,7 @@
 //! Vectors: chains of calls with what the oracle answers, for the program `vectors_main` and for tools/evaluate. docs/VECTORS.md has the layout.
 use crate::oracle::{self, Lists, MieSet, QuantumSet, State};
 use crate::random::Random;
+use crate::sizes::{COUNTS, LISTS, SHEET, SHEETS, SIDE, TABLE};
 use crate::states::{self, Kind};
 use std::collections::BTreeMap;
 
@@ -110,14 +111,14 @@ pub struct Quantum {
 
 impl Quantum {
     pub fn new() -> Self {
-        let set = QuantumSet { count: 0, m: vec![0.0; 8], sheets: vec![0.0; 384], orders: vec![0; 64] };
+        let set = QuantumSet { count: 0, m: vec![0.0; SIDE], sheets: vec![0.0; SHEETS], orders: vec![0; SHEET] };
         let mut file = File::default();
         file.write(&Record { what: 10, ..Default::default() });
-        Quantum { set, table: vec![0.0; 256], counts: vec![0; 192], file }
+        Quantum { set, table: vec![0.0; TABLE], counts: vec![0; COUNTS], file }
     }
 
     pub fn parameters(&mut self, l: &Lists) -> bool {
-        let answer = oracle::vrq_parameters(l, [8, 384, 64]);
+        let answer = oracle::vrq_parameters(l, oracle::QUANTUM_SET);
         let floats = [&l.m, &l.sigma, &l.epsilon_k, &l.lr, &l.la, &l.mass, &l.k_ij, &l.l_ij];
         let mut r = Record { what: 1, count: l.count as u64, ..Default::default() };
         r.lengths = floats.iter().map(|x| x.len() as u64).chain([l.order.len() as u64]).collect();
@@ -146,7 +147,7 @@ impl Quantum {
         match answer {
             Ok((table, counts)) => {
                 (self.table, self.counts) = (table.to_vec(), counts.to_vec());
-                (0..192).filter(|&k| counts[k] == 20).for_each(|k| self.file.spent[k / 64] += 1);
+                (0..COUNTS).filter(|&k| counts[k] == 20).for_each(|k| self.file.spent[k / SHEET] += 1);
             }
             Err(number) => r.number = number as u64,
         }
@@ -177,11 +178,11 @@ impl Mie {
     pub fn new() -> Self {
         let mut file = File::default();
         file.write(&Record { what: 10, ..Default::default() });
-        Mie { set: MieSet { count: 0, lists: vec![0.0; 40], sheets: vec![0.0; 384] }, diameters: vec![0.0; 8], file }
+        Mie { set: MieSet { count: 0, lists: vec![0.0; LISTS], sheets: vec![0.0; SHEETS] }, diameters: vec![0.0; SIDE], file }
     }
 
     pub fn parameters(&mut self, l: &Lists) -> bool {
-        let answer = oracle::vr_parameters(l, [40, 384]);
+        let answer = oracle::vr_parameters(l, oracle::MIE_SET);
         let floats = [&l.m, &l.sigma, &l.epsilon_k, &l.lr, &l.la, &l.k_ij, &l.l_ij];
         let mut r = Record { what: 4, count: l.count as u64, ..Default::default() };
         r.lengths = floats.iter().map(|x| x.len() as u64).collect();
@@ -244,7 +245,7 @@ fn quantum(g: &mut Random, n: usize, order: Option<u8>, odd: bool) -> File {
     let mut q = Quantum::new();
     if !q.parameters(&lists) {
         if g.once_in(4) {
-            q.table(20.0, [256, 192]);
+            q.table(20.0, oracle::TABLE_AND_COUNTS);
         }
         return q.file;
     }
@@ -252,11 +253,11 @@ fn quantum(g: &mut Random, n: usize, order: Option<u8>, odd: bool) -> File {
     if odd && g.once_in(3) {
         let mut set = q.set.clone();
         states::quantum_set_by_hand(g, &mut set);
-        if set.m.len() == 8 && set.sheets.len() == 384 && set.orders.len() == 64 && set.orders.iter().all(|o| *o <= 2) {
+        if set.lengths() == oracle::QUANTUM_SET && set.orders.iter().all(|o| *o <= 2) {
             q.by_hand(set, q.table.clone());
         }
     }
-    let lent = [length(g, odd, 256), length(g, odd, 192)];
+    let lent = oracle::TABLE_AND_COUNTS.map(|n| length(g, odd, n));
     q.table(t, lent);
     for turn in 0..3 {
         if odd && g.once_in(2) {
@@ -264,14 +265,14 @@ fn quantum(g: &mut Random, n: usize, order: Option<u8>, odd: bool) -> File {
             states::by_hand(g, &mut table);
             q.by_hand(q.set.clone(), table);
         }
-        let n = q.set.count.clamp(1, 8);
-        let diameters: Vec<f64> = (0..n).map(|i| q.table[64 + 9 * i]).collect();
+        let n = q.set.count.clamp(1, SIDE);
+        let diameters = states::diameters(n, &q.table);
         let mut state =
-            if odd { states::state(g, n, &[1.0; 8], &diameters, true) } else { states::quiet_state(g, n, &[1.0; 8], &diameters) };
+            if odd { states::state(g, n, &[1.0; SIDE], &diameters, true) } else { states::quiet_state(g, n, &[1.0; SIDE], &diameters) };
         if !odd || g.once_in(2) {
             state.temperature = t;
         }
-        let lent = length(g, odd, 256);
+        let lent = length(g, odd, TABLE);
         q.energies(&state, turn != 1, lent);
     }
     q.file
@@ -295,11 +296,11 @@ fn mie(g: &mut Random, n: usize, odd: bool) -> File {
     if odd && g.once_in(3) {
         let mut set = v.set.clone();
         states::mie_set_by_hand(g, &mut set);
-        if set.lists.len() == 40 && set.sheets.len() == 384 {
+        if set.lengths() == oracle::MIE_SET {
             v.by_hand(set, v.diameters.clone());
         }
     }
-    let right = v.set.count.clamp(1, 8);
+    let right = v.set.count.clamp(1, SIDE);
     let lent = length(g, odd, right);
     v.diameters(t, lent);
     for _ in 0..2 {
@@ -308,7 +309,7 @@ fn mie(g: &mut Random, n: usize, odd: bool) -> File {
             states::by_hand(g, &mut d);
             v.by_hand(v.set.clone(), d);
         }
-        let m = v.set.lists[..8].to_vec();
+        let m = v.set.lists[..SIDE].to_vec();
         let mut state =
             if odd { states::state(g, right, &m, &v.diameters, false) } else { states::quiet_state(g, right, &m, &v.diameters) };
         if !odd || g.once_in(2) {
@@ -325,7 +326,7 @@ fn mie(g: &mut Random, n: usize, odd: bool) -> File {
 fn file(names: &[&'static str], seed: u64, chain: &dyn Fn(&mut Random, usize, usize, bool) -> File) -> File {
     let mut g = Random(seed);
     let mut file = File::default();
-    for n in 1..=8 {
+    for n in 1..=SIDE {
         for turn in 0..if n < 4 { 60 } else { 12 } {
             file.join(chain(&mut g, n, turn, false));
         }

@@ -8,4 +8,7 @@ macro_rules! println {
     }};
 }
 
+#[path = "../../../domthelv-sys/src/sizes.rs"]
+pub mod sizes;
+
 include!(concat!(env!("OUT_DIR"), "/crate/crate.rs"));

@@ -2,6 +2,7 @@
 pub(crate) mod dispersion;
 use crate::hard_sphere::HardSphereProperties;
 use crate::saftvrmie::parameters::*;
+use crate::sizes::{SHEET, SHEETS, SIDE, at, mie_set};
 use dispersion::*;
 use feos_core::StateHD;
 use nalgebra::{DMatrix, DVector};
@@ -27,35 +28,35 @@ pub fn parameters(l: &Lists) -> SaftVRMiePars {
 }
 
 /// The six sheets in the order of the Rust's fields.
-pub fn flat(p: &SaftVRMiePars) -> [f64; 384] {
-    let (mut sheets, n) = ([0.0; 384], p.m.len());
+pub fn flat(p: &SaftVRMiePars) -> [f64; SHEETS] {
+    let (mut sheets, n) = ([0.0; SHEETS], p.m.len());
     let fields = [&p.sigma_ij, &p.epsilon_k_ij, &p.lr_ij, &p.la_ij, &p.c_ij, &p.alpha_ij];
     for (s, field) in fields.into_iter().enumerate() {
         for i in 0..n {
             for j in 0..n {
-                sheets[64 * s + 8 * i + j] = field[(i, j)];
+                sheets[at(SHEET * s, i, j)] = field[(i, j)];
             }
         }
     }
     sheets
 }
 
-/// A set filled by hand; `lists` is m, sigma, epsilon_k, lr, la in eight places each.
+/// A set filled by hand; `lists` is m, sigma, epsilon_k, lr, la in SIDE places each.
 pub fn set(count: usize, lists: &[f64], sheets: &[f64]) -> SaftVRMiePars {
-    let list = |k: usize| DVector::from(lists[8 * k..8 * k + count].to_vec());
-    let sheet = |s: usize| DMatrix::from_fn(count, count, |i, j| sheets[64 * s + 8 * i + j]);
+    let list = |k: usize| DVector::from(lists[SIDE * k..][..count].to_vec());
+    let sheet = |start: usize| DMatrix::from_fn(count, count, |i, j| sheets[at(start, i, j)]);
     SaftVRMiePars {
         m: list(0),
         sigma: list(1),
         epsilon_k: list(2),
         lr: list(3),
         la: list(4),
-        sigma_ij: sheet(0),
-        epsilon_k_ij: sheet(1),
-        lr_ij: sheet(2),
-        la_ij: sheet(3),
-        c_ij: sheet(4),
-        alpha_ij: sheet(5),
+        sigma_ij: sheet(mie_set::SIGMA_IJ),
+        epsilon_k_ij: sheet(mie_set::EPSILON_K_IJ),
+        lr_ij: sheet(mie_set::LR_IJ),
+        la_ij: sheet(mie_set::LA_IJ),
+        c_ij: sheet(mie_set::C_IJ),
+        alpha_ij: sheet(mie_set::ALPHA_IJ),
     }
 }
 

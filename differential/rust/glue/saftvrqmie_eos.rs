@@ -2,12 +2,13 @@
 include!("feos_mod.rs");
 
 pub mod driver {
-    //! Ways in with flat lists: sheets of 64 places, entry (i, j) at 8i + j.
+    //! Ways in with flat lists: sheets as crate::sizes has them.
     use super::dispersion::Dispersion;
     use super::hard_sphere::HardSphere;
     use super::non_additive_hs::NonAddHardSphere;
     use super::*;
     use crate::saftvrqmie::parameters::*;
+    use crate::sizes::{self, SHEET, SHEETS, TABLE, at};
     use feos_core::StateHD;
     use nalgebra::{DMatrix, DVector};
 
@@ -48,15 +49,15 @@ pub mod driver {
     }
 
     /// The six sheets in the order of the Rust's fields, and the orders.
-    pub fn flat(p: &SaftVRQMiePars) -> ([f64; 384], [u8; 64]) {
-        let (mut sheets, mut orders, n) = ([0.0; 384], [0; 64], p.m.len());
+    pub fn flat(p: &SaftVRQMiePars) -> ([f64; SHEETS], [u8; SHEET]) {
+        let (mut sheets, mut orders, n) = ([0.0; SHEETS], [0; SHEET], p.m.len());
         let fields = [&p.sigma_ij, &p.epsilon_k_ij, &p.c_ij, &p.lambda_r_ij, &p.lambda_a_ij, &p.mass_ij];
         for i in 0..n {
             for j in 0..n {
                 for (s, field) in fields.iter().enumerate() {
-                    sheets[64 * s + 8 * i + j] = field[(i, j)];
+                    sheets[at(SHEET * s, i, j)] = field[(i, j)];
                 }
-                orders[8 * i + j] = p.fh_ij[(i, j)] as u8;
+                orders[at(0, i, j)] = p.fh_ij[(i, j)] as u8;
             }
         }
         (sheets, orders)
@@ -64,30 +65,30 @@ pub mod driver {
 
     /// A set filled by hand. The Rust's sigma and epsilon_k of components are read for their length alone.
     pub fn set(count: usize, m: &[f64], sheets: &[f64], orders: &[u8]) -> SaftVRQMiePars {
-        let sheet = |s: usize| DMatrix::from_fn(count, count, |i, j| sheets[64 * s + 8 * i + j]);
+        let sheet = |start: usize| DMatrix::from_fn(count, count, |i, j| sheets[at(start, i, j)]);
         SaftVRQMiePars {
             m: DVector::from(m[..count].to_vec()),
             sigma: DVector::from(vec![f64::NAN; count]),
             epsilon_k: DVector::from(vec![f64::NAN; count]),
-            sigma_ij: sheet(0),
-            epsilon_k_ij: sheet(1),
-            c_ij: sheet(2),
-            lambda_r_ij: sheet(3),
-            lambda_a_ij: sheet(4),
-            mass_ij: sheet(5),
-            fh_ij: DMatrix::from_fn(count, count, |i, j| FeynmanHibbsOrder::try_from(orders[8 * i + j] as usize).unwrap()),
+            sigma_ij: sheet(sizes::quantum_set::SIGMA_IJ),
+            epsilon_k_ij: sheet(sizes::quantum_set::EPSILON_K_IJ),
+            c_ij: sheet(sizes::quantum_set::C_IJ),
+            lambda_r_ij: sheet(sizes::quantum_set::LAMBDA_R_IJ),
+            lambda_a_ij: sheet(sizes::quantum_set::LAMBDA_A_IJ),
+            mass_ij: sheet(sizes::quantum_set::MASS_IJ),
+            fh_ij: DMatrix::from_fn(count, count, |i, j| FeynmanHibbsOrder::try_from(orders[at(0, i, j)] as usize).unwrap()),
         }
     }
 
     /// sigma_eff, hs_diameter, epsilon_k_eff, quantum_d.
-    pub fn table(p: &SaftVRQMiePars, temperature: f64) -> [f64; 256] {
+    pub fn table(p: &SaftVRQMiePars, temperature: f64) -> [f64; TABLE] {
         let t = TemperatureDependentProperties::new(p, temperature);
-        let (mut flat, n) = ([0.0; 256], p.m.len());
+        let (mut flat, n) = ([0.0; TABLE], p.m.len());
         let fields = [&t.sigma_eff_ij, &t.hs_diameter_ij, &t.epsilon_k_eff_ij, &t.quantum_d_ij];
         for (s, field) in fields.into_iter().enumerate() {
             for i in 0..n {
                 for j in 0..n {
-                    flat[64 * s + 8 * i + j] = field[(i, j)];
+                    flat[at(SHEET * s, i, j)] = field[(i, j)];
                 }
             }
         }
@@ -98,12 +99,12 @@ pub mod driver {
     pub struct Table(TemperatureDependentProperties<f64>);
 
     pub fn properties(n: usize, table: &[f64]) -> Table {
-        let sheet = |s: usize| DMatrix::from_fn(n, n, |i, j| table[64 * s + 8 * i + j]);
+        let sheet = |start: usize| DMatrix::from_fn(n, n, |i, j| table[at(start, i, j)]);
         Table(TemperatureDependentProperties {
-            sigma_eff_ij: sheet(0),
-            hs_diameter_ij: sheet(1),
-            epsilon_k_eff_ij: sheet(2),
-            quantum_d_ij: sheet(3),
+            sigma_eff_ij: sheet(sizes::table::SIGMA_EFF),
+            hs_diameter_ij: sheet(sizes::table::HS_DIAMETER),
+            epsilon_k_eff_ij: sheet(sizes::table::EPSILON_K_EFF),
+            quantum_d_ij: sheet(sizes::table::QUANTUM_D),
         })
     }
 
