@@ -1,9 +1,5 @@
 // Works the calls of data/cases.bin on the C boundary and compares the number and every bit of what was lent with the file's. The file is lines of four words, least significant byte first; docs/VECTORS.md says which. Writes each case's name and number, what differs, and how many.
 ghost use Prim.Native.Nat.{_<_, _≤_};
-use mie_parameters::NumberAnswer;
-use saftvrmie_parameters::SaftVRMiePars;
-use saftvrqmie_parameters::OrderRecord;
-use saftvrqmie_parameters::SaftVRQMiePars;
 
 // ---- lines
 
@@ -287,55 +283,22 @@ fn vrq_diameter_ends(f: &[f64], b: &[u8], x: &mut [f64]) -> u8 {
     )
 }
 
-// A pair's diameter in floats has no function of the boundary: the operation itself, on a set of the sheets.
-fn sheets_of(l: &[f64]) -> [f64; 384] {
-    let mut s = [0.0; 384];
-    for k in 0usize..384 {
-        s[k] = number_at(l, k);
-    }
-    s
-}
-
-fn order_at(b: &[u8], at: usize) -> u8 {
-    if at < b.len() {
-        return b[at];
-    }
-    0
-}
-
-fn value_stored(a: NumberAnswer, x: &mut [f64]) -> u8 {
-    match a {
-        NumberAnswer::Value(v) => {
-            store(x, v);
-            0
-        }
-        NumberAnswer::Refused(n) => n,
-    }
-}
-
-// Its order is that of the first component.
-fn quantum_set(f: &[f64], b: &[u8]) -> SaftVRQMiePars {
-    let none = saftvrqmie_parameters::refused_with(1);
-    let mut s = none.set;
-    let sheets = sheets_of(list(f, 21));
-    let order = saftvrqmie_parameters::order_of(order_at(b, 16));
-    s.count = whole_at(f, 2);
-    s.sheets = sheets;
-    s.orders[0] = OrderRecord { order };
-    s
-}
-
 fn vrq_diameter(f: &[f64], b: &[u8], x: &mut [f64]) -> u8 {
-    let set = quantum_set(f, b);
-    let answer = saftvrqmie::hs_diameter_ij(
-        set,
+    let mut v = first(x);
+    let n = domthelv::domthelv_vrq_diameter(
+        whole_at(f, 2),
+        list(f, 9),
+        list(f, 21),
+        bytes(b, 16, whole_at(f, 24)),
         whole_at(f, 3),
         whole_at(f, 4),
         number_at(f, 5),
         number_at(f, 6),
         number_at(f, 7),
+        &mut v,
     );
-    value_stored(answer, x)
+    store(x, v);
+    n
 }
 
 fn vrq_stage(f: &[f64], b: &[u8], x: &mut [f64]) -> u8 {
@@ -369,6 +332,7 @@ fn quantum(f: &[f64], b: &[u8], x: &mut [f64], y: &mut [f64], z: &mut [u8]) -> u
         21 => vrq_diameter(f, b, x),
         22 => vrq_diameter_ends(f, b, x),
         23 => vrq_stage(f, b, x),
+        24 => domthelv::domthelv_vrq_record_m(number_at(f, 6)),
         _ => 255,
     }
 }
@@ -453,25 +417,20 @@ fn vr_diameter_ends(f: &[f64], x: &mut [f64]) -> u8 {
     )
 }
 
-fn mie_set(f: &[f64]) -> SaftVRMiePars {
-    let none = saftvrmie_parameters::refused_with(1);
-    let mut s = none.set;
-    let sheets = sheets_of(list(f, 21));
-    s.count = whole_at(f, 2);
-    s.sheets = sheets;
-    s
-}
-
 fn vr_diameter(f: &[f64], x: &mut [f64]) -> u8 {
-    let set = mie_set(f);
-    let answer = saftvrmie::diameter_ij(
-        set,
+    let mut v = first(x);
+    let n = domthelv::domthelv_vr_diameter(
+        whole_at(f, 2),
+        list(f, 20),
+        list(f, 21),
         whole_at(f, 3),
         whole_at(f, 4),
         number_at(f, 5),
         number_at(f, 7),
+        &mut v,
     );
-    value_stored(answer, x)
+    store(x, v);
+    n
 }
 
 fn vr_stage(f: &[f64], x: &mut [f64]) -> u8 {
