@@ -7,7 +7,7 @@ ghost use Rattle.number.specs.Functions.{calls};
 ghost use Rattle.sizes.specs.Sizes.{side, sheet};
 ghost use Rattle.elementary.specs.Port.{port};
 ghost use Rattle.mie_parameters.specs.Answer.{outcome, verdict, numberAnswer, stored};
-ghost use Rattle.saftvrqmie_potential.specs.Potential.{pairIn, pairAt};
+ghost use Rattle.saftvrqmie_potential.specs.Potential.{pairIn};
 ghost use Rattle.saftvrqmie_properties.specs.Properties.{propertiesIn};
 ghost use Rattle.saftvrqmie.specs.Table.{store, workRow, workPairs, allFinite, rightLists, temperatureTable, pairsOf};
 ghost use Rattle.saftvrqmie.specs.Pairs.{searchesAnswer, pairSearches, searches, diameterIj};
@@ -29,11 +29,6 @@ use sizes::TABLE;
 use sizes::counts::DEPTH;
 use sizes::counts::SIGMA;
 use sizes::counts::ZERO;
-use sizes::quantum_set::C_IJ;
-use sizes::quantum_set::EPSILON_K_IJ;
-use sizes::quantum_set::LAMBDA_A_IJ;
-use sizes::quantum_set::LAMBDA_R_IJ;
-use sizes::quantum_set::MASS_IJ;
 use sizes::table::EPSILON_K_EFF;
 use sizes::table::HS_DIAMETER;
 use sizes::table::QUANTUM_D;
@@ -52,24 +47,6 @@ pub struct PairSearches {
 pub enum SearchesAnswer {
     Searched(PairSearches),
     Refused(u8),
-}
-
-fn pair_at(s: &[f64; SHEETS], orders: [OrderRecord; SHEET], t: f64, e: usize) -> Pair
-    requires { ⌜ e < sheet ⌝ }
-    ensures { λ r. ⌜ r ≡ pairAt (now (s .entry)) orders t e ⌝ }
-{
-    let record = orders[e];
-    let order = record.order;
-    Pair {
-        sigma: s[e],
-        epsilon_k: s[EPSILON_K_IJ + e],
-        c: s[C_IJ + e],
-        lr: s[LAMBDA_R_IJ + e],
-        la: s[LAMBDA_A_IJ + e],
-        mass: s[MASS_IJ + e],
-        order,
-        temperature: t,
-    }
 }
 
 fn store(values: &mut [f64; TABLE], numbers: &mut [u8; COUNTS], e: usize, p: PairProperties)
@@ -98,7 +75,7 @@ fn work_row(
     ensures { λ r. ⌜ outcome r (record { values = now (values .exit); numbers = now (numbers .exit) }) ≡ workRow n (now (s .entry)) orders t i (record { values = now (values .entry); numbers = now (numbers .entry) }) ⌝ }
 {
     for j in 0usize..n {
-        let pair = pair_at(s, orders, t, SIDE * i + j);
+        let pair = saftvrqmie_potential::pair_at(s, orders, t, SIDE * i + j);
         let PropertiesAnswer::At(p) = saftvrqmie_properties::pair_properties(pair) else {
             return ParameterAnswer::Refused(6);
         };
@@ -265,7 +242,7 @@ pub fn searches_ij(set: SaftVRQMiePars, i: usize, j: usize, temperature: f64) ->
     }
     let sheets = set.sheets;
     let orders = set.orders;
-    let pair = pair_at(&sheets, orders, temperature, SIDE * i + j);
+    let pair = saftvrqmie_potential::pair_at(&sheets, orders, temperature, SIDE * i + j);
     pair_searches(pair)
 }
 
@@ -288,7 +265,7 @@ pub fn hs_diameter_ij(
     }
     let sheets = set.sheets;
     let orders = set.orders;
-    let pair = pair_at(&sheets, orders, temperature, SIDE * i + j);
+    let pair = saftvrqmie_potential::pair_at(&sheets, orders, temperature, SIDE * i + j);
     let FloatAnswer::Value(d) = saftvrqmie_searches::hs_diameter(pair, sigma_eff, r0) else {
         return NumberAnswer::Refused(6);
     };

@@ -25,7 +25,7 @@ use Rattle.enclosure.specs.declared.Enclosure.{Enclosure}
 use Rattle.enclosure.specs.Enclosure.{enclosures, point, addE, subE, mulE, divE, negE, afterE}
 use Rattle.saftvrqmie_parameters.specs.declared.FeynmanHibbsOrder.{FeynmanHibbsOrder}
 use Rattle.saftvrqmie_parameters.specs.declared.FeynmanHibbsOrder.the-variants.{FH0, FH1, FH2}
-use Rattle.saftvrqmie_alpha_ends.specs.Pair.{pairIn}
+use Rattle.saftvrqmie_potential_ends.specs.Pair.{pairIn}
 use Rattle.saftvrqmie_potential.specs.Potential.{PotentialIn, firstOrder, secondOrder, recip, uMie, urMie, urrMie, urFirst, urrFirst, urSecond, urrSecond, corrected, scaled, afterShared, line, mie, addFirst, addSecond, potential, uQuantum}
 use Rattle.saftvrqmie_potential_ends.specs.declared.PairShared.{PairShared}
 use Rattle.saftvrqmie_potential_ends.specs.Shared.{Sharing}

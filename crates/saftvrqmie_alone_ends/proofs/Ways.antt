@@ -11,7 +11,7 @@ use Rattle.binary_log.specs.declared.Log.{Log}
 use Rattle.binary_log.specs.BinaryLog.{baseInside, logOf}
 use Rattle.enclosure.specs.declared.Enclosure.{Enclosure}
 use Rattle.enclosure.specs.Enclosure.{enclosures, addE, subE, mulE, afterE}
-use Rattle.saftvrqmie_alpha_ends.specs.Pair.{pairIn}
+use Rattle.saftvrqmie_potential_ends.specs.Pair.{pairIn}
 use Rattle.saftvrqmie_potential.specs.Potential.{recip, uMie, potential, uQuantum}
 use Rattle.saftvrqmie_potential_ends.specs.declared.PairShared.{PairShared}
 use Rattle.saftvrqmie_potential_ends.specs.Shared.{Sharing}

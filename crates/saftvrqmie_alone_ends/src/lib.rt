@@ -5,7 +5,7 @@ ghost use Rattle.number.specs.Functions.{calls};
 ghost use Rattle.elementary.specs.Port.{port};
 ghost use Rattle.enclosure.specs.Answer.{answer};
 ghost use Rattle.enclosure.specs.Enclosure.{enclosures, mulE};
-ghost use Rattle.saftvrqmie_alpha_ends.specs.Pair.{pairIn};
+ghost use Rattle.saftvrqmie_potential_ends.specs.Pair.{pairIn};
 ghost use Rattle.saftvrqmie_potential.specs.Potential.{recip, potential};
 ghost use Rattle.saftvrqmie_potential_ends.specs.Shared.{Sharing};
 ghost use Rattle.saftvrqmie_alone_ends.specs.Alone.{withinOf, smallOf, plainOf, plainFrom, tameOf, aloneOf, sureOf, soundOf, powerAt, uAlone, uAfter};

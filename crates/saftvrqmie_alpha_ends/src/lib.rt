@@ -5,63 +5,18 @@ ghost use Rattle.elementary.specs.Port.{port};
 ghost use Rattle.enclosure.specs.Answer.{answer};
 ghost use Rattle.enclosure.specs.Enclosure.{enclosures};
 ghost use Rattle.mie_parameters.specs.Sums.{fFrom};
-ghost use Rattle.saftvrqmie_potential.specs.Potential.{prefactor, quantumD};
 ghost use Rattle.saftvrqmie_dispersion.specs.Alpha.{ratio, dmtOf, alphaMie, alphaQ1, alphaQ2, alphaOf, alpha, chi, thirdOrderIj};
-ghost use Rattle.saftvrqmie_alpha_ends.specs.Pair.{pairIn};
+ghost use Rattle.saftvrqmie_potential_ends.specs.Pair.{pairIn};
 use enclosure::Enclosure;
 use enclosure::EnclosureAnswer;
 use mie_parameters::PHI;
-use saftvrqmie_parameters::FeynmanHibbsOrder;
-
-// The parameters of a pair, and the temperature.
-pub struct PairEnclosures {
-    pub sigma: Enclosure,
-    pub epsilon_k: Enclosure,
-    pub c: Enclosure,
-    pub lr: Enclosure,
-    pub la: Enclosure,
-    pub mass: Enclosure,
-    pub order: FeynmanHibbsOrder,
-    pub temperature: Enclosure,
-}
-
-// D_QM_PREFACTOR, worked.
-fn prefactor() -> Enclosure
-    ensures { λ r. ⌜ r ≡ prefactor enclosures (calls enclosures port) ⌝ }
-{
-    let planck = enclosure::point(6.62607015e-34);
-    let kb = enclosure::point(1.380649e-23);
-    let tau = enclosure::point(6.283185307179586);
-    let scale = enclosure::point(1e20);
-    let twelve = enclosure::point(12.0);
-    enclosure::div(
-        enclosure::mul(
-            enclosure::div(
-                enclosure::div(enclosure::mul(planck, planck), enclosure::mul(tau, tau)),
-                twelve,
-            ),
-            scale,
-        ),
-        kb,
-    )
-}
-
-// `quantum_d_mass`.
-pub fn quantum_d(mass: Enclosure, temperature: Enclosure) -> Enclosure
-    ensures { λ r. ⌜ r ≡ quantumD enclosures (calls enclosures port) mass temperature ⌝ }
-{
-    let one = enclosure::point(1.0);
-    enclosure::mul(
-        enclosure::div(enclosure::div(one, temperature), mass),
-        prefactor(),
-    )
-}
+use saftvrqmie_potential_ends::PairEnclosures;
 
 fn dmt_of(p: PairEnclosures) -> Enclosure
     ensures { λ r. ⌜ r ≡ dmtOf enclosures (calls enclosures port) (pairIn p) ⌝ }
 {
     enclosure::div(
-        quantum_d(p.mass, p.temperature),
+        saftvrqmie_potential_ends::quantum_d(p.mass, p.temperature),
         enclosure::pow_up(p.sigma, 2),
     )
 }

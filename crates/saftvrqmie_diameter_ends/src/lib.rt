@@ -2,12 +2,11 @@
 ghost use mathlib.Core.Path.{_≡_};
 ghost use Prim.Native.Nat.{_<_};
 ghost use Rattle.number.specs.Functions.{calls, entry};
-ghost use Rattle.sizes.specs.Sizes.{sheet};
 ghost use Rattle.elementary.specs.Port.{port};
 ghost use Rattle.enclosure.specs.Answer.{answer, ends};
 ghost use Rattle.enclosure.specs.Enclosure.{enclosures};
-ghost use Rattle.saftvrqmie_alpha_ends.specs.Pair.{pairIn};
-ghost use Rattle.saftvrqmie_potential.specs.Potential.{potential, pairAt, pointsOf};
+ghost use Rattle.saftvrqmie_potential_ends.specs.Pair.{pairIn};
+ghost use Rattle.saftvrqmie_potential.specs.Potential.{potential};
 ghost use Rattle.enclosure.specs.declared.Enclosure.{Enclosure};
 ghost use Rattle.saftvrqmie_potential_ends.specs.Shared.{Sharing};
 ghost use Rattle.saftvrqmie_alone_ends.specs.Alone.{aloneOf};
@@ -17,19 +16,11 @@ use enclosure::Enclosure;
 use enclosure::EnclosureAnswer;
 use enclosure::EndsAnswer;
 use saftvrqmie_alone_ends::Alone;
-use saftvrqmie_alpha_ends::PairEnclosures;
-use saftvrqmie_parameters::OrderRecord;
 use saftvrqmie_parameters::SaftVRQMiePars;
+use saftvrqmie_potential_ends::PairEnclosures;
 use saftvrqmie_potential_ends::PairShared;
 use saftvrqmie_potential_ends::PairSharedAnswer;
-use sizes::SHEET;
-use sizes::SHEETS;
 use sizes::SIDE;
-use sizes::quantum_set::C_IJ;
-use sizes::quantum_set::EPSILON_K_IJ;
-use sizes::quantum_set::LAMBDA_A_IJ;
-use sizes::quantum_set::LAMBDA_R_IJ;
-use sizes::quantum_set::MASS_IJ;
 
 // Entries of the rule, as points; k is the turn of a loop over its 21 nodes, and beyond them there is no entry.
 fn abscissa(k: usize) -> Enclosure
@@ -109,25 +100,6 @@ pub fn hs_diameter(p: PairEnclosures, sigma_eff: Enclosure, r0: Enclosure) -> En
     diameter_by(w, p.temperature, sigma_eff, r0)
 }
 
-// A set's pair: each number is read as it is.
-fn pair_at(s: &[f64; SHEETS], orders: [OrderRecord; SHEET], t: f64, e: usize) -> PairEnclosures
-    requires { ⌜ e < sheet ⌝ }
-    ensures { λ r. ⌜ pairIn r ≡ pointsOf enclosures (pairAt (now (s .entry)) orders t e) ⌝ }
-{
-    let record = orders[e];
-    let order = record.order;
-    PairEnclosures {
-        sigma: enclosure::point(s[e]),
-        epsilon_k: enclosure::point(s[EPSILON_K_IJ + e]),
-        c: enclosure::point(s[C_IJ + e]),
-        lr: enclosure::point(s[LAMBDA_R_IJ + e]),
-        la: enclosure::point(s[LAMBDA_A_IJ + e]),
-        mass: enclosure::point(s[MASS_IJ + e]),
-        order,
-        temperature: enclosure::point(t),
-    }
-}
-
 // `hs_diameter_ij` with two ends. 1, 2, 6, 7, 8.
 pub fn hs_diameter_ij_ends(
     set: SaftVRQMiePars,
@@ -147,7 +119,7 @@ pub fn hs_diameter_ij_ends(
     }
     let sheets = set.sheets;
     let orders = set.orders;
-    let pair = pair_at(&sheets, orders, temperature, SIDE * i + j);
+    let pair = saftvrqmie_potential_ends::pair_at(&sheets, orders, temperature, SIDE * i + j);
     let s = enclosure::point(sigma_eff);
     let r = enclosure::point(r0);
     enclosure::ends_of(hs_diameter(pair, s, r))

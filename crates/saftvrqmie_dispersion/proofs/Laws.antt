@@ -13,18 +13,12 @@ use Rattle.number.proofs.Walk.{walk-none, walk-stop}
 use Rattle.elementary.specs.Port.{port}
 use Rattle.saftvrqmie_parameters.specs.declared.FeynmanHibbsOrder.{FeynmanHibbsOrder}
 use Rattle.saftvrqmie_parameters.specs.declared.FeynmanHibbsOrder.the-variants.{FH0, FH1, FH2}
-use Rattle.saftvrqmie_potential.specs.Potential.{firstOrder, secondOrder, orderNumber}
+use Rattle.saftvrqmie_potential.specs.Potential.{secondOrder, orderNumber}
 use Rattle.saftvrqmie_dispersion_terms.specs.Staged.{termsOf, combineAt}
 use Rattle.saftvrqmie_dispersion_terms.specs.declared.PairTerms.{PairTerms}
 use Rattle.saftvrqmie_dispersion_terms.proofs.Staged.{combine-held, combine-refused}
 use Rattle.saftvrqmie_dispersion.specs.declared.DispersionPair.{DispersionPair}
 use Rattle.saftvrqmie_dispersion.specs.Perturbation.{QuantumIn, dispersionIn, quantumOf, factors0, factors1, factors2, factors2More, factors3, factors4, factors, firstMie, firstOrderBy, secondTurn, secondOrderBy, combineOf, firstOrderIj, secondOrderIj}
-
--- an order without the first correction has no second
-pub not-first : (o : FeynmanHibbsOrder) → firstOrder o ≡ false → secondOrder o ≡ false
-not-first FH0 h = refl
-not-first FH1 h = refl
-not-first FH2 h = h
 
 -- ---- what a pair's bases give or refuse, both perturbations do
 module _ (p : DispersionPair) where

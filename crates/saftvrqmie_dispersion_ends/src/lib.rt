@@ -8,13 +8,13 @@ ghost use Rattle.enclosure.specs.Enclosure.{enclosures};
 ghost use Rattle.saftvrqmie_potential.specs.Potential.{orderNumber};
 ghost use Rattle.saftvrqmie_dispersion.specs.Perturbation.{dispersionPair, kFactor, quantum1, quantum2, quantumOf, factors0, factors1, factors2, factors2More, factors3, factors4, factors, firstMie, firstQ1, firstQ2, firstClosed, firstOrderBy, secondTurn, secondClosed, secondOrderBy, firstOrderIj, secondOrderIj};
 ghost use Rattle.saftvrqmie_dispersion_terms_ends.specs.Shared.{combineAt};
-ghost use Rattle.saftvrqmie_alpha_ends.specs.Pair.{pairIn};
+ghost use Rattle.saftvrqmie_potential_ends.specs.Pair.{pairIn};
 ghost use Rattle.saftvrqmie_dispersion_ends.specs.Pair.{dispersionIn, quantumIn, factorsIn};
 use enclosure::Enclosure;
 use enclosure::EnclosureAnswer;
-use saftvrqmie_alpha_ends::PairEnclosures;
 use saftvrqmie_dispersion_terms_ends::PairTerms;
 use saftvrqmie_parameters::FeynmanHibbsOrder;
+use saftvrqmie_potential_ends::PairEnclosures;
 
 // What both perturbations of a pair take.
 pub struct DispersionEnclosures {

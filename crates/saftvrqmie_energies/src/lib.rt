@@ -10,7 +10,7 @@ ghost use Rattle.number.specs.Walk.{walk};
 ghost use Rattle.sizes.specs.Sizes.{side, sheet};
 ghost use Rattle.elementary.specs.Port.{port};
 ghost use lib.Dec.{eqb};
-ghost use Rattle.saftvrqmie_potential.specs.Potential.{pairIn, recip};
+ghost use Rattle.saftvrqmie_potential.specs.Potential.{recip};
 ghost use Rattle.saftvrqmie_dispersion.specs.Perturbation.{dispersionIn, dispersionPair};
 ghost use Rattle.mie_parameters.specs.Sums.{weighted, ordersSum};
 ghost use Rattle.saftvrqmie_energies.specs.State.{heldOr6, diagonal, points, sheetOf, pairOf, sheetsOf};
@@ -23,16 +23,10 @@ use number::FloatAnswer;
 use saftvrqmie_dispersion::DispersionPair;
 use saftvrqmie_parameters::OrderRecord;
 use saftvrqmie_parameters::SaftVRQMiePars;
-use saftvrqmie_potential::Pair;
 use sizes::SHEET;
 use sizes::SHEETS;
 use sizes::SIDE;
 use sizes::TABLE;
-use sizes::quantum_set::C_IJ;
-use sizes::quantum_set::EPSILON_K_IJ;
-use sizes::quantum_set::LAMBDA_A_IJ;
-use sizes::quantum_set::LAMBDA_R_IJ;
-use sizes::quantum_set::MASS_IJ;
 use sizes::table::EPSILON_K_EFF;
 use sizes::table::HS_DIAMETER;
 use sizes::table::QUANTUM_D;
@@ -300,25 +294,6 @@ fn packing(n: usize, xs: &[f64; SIDE], table: &[f64], k: usize, rho_s: f64) -> f
     r * FRAC_PI_6 * rho_s
 }
 
-// The pair at entry e of a set's sheets.
-fn pair_at(sheets: &[f64; SHEETS], orders: [OrderRecord; SHEET], t: f64, e: usize) -> Pair
-    requires { ⌜ e < sheet ⌝ }
-    ensures { λ r. ⌜ pairIn r ≡ pairOf floats (now (sheets .entry)) orders t e ⌝ }
-{
-    let record = orders[e];
-    let order = record.order;
-    Pair {
-        sigma: sheets[e],
-        epsilon_k: sheets[EPSILON_K_IJ + e],
-        c: sheets[C_IJ + e],
-        lr: sheets[LAMBDA_R_IJ + e],
-        la: sheets[LAMBDA_A_IJ + e],
-        mass: sheets[MASS_IJ + e],
-        order,
-        temperature: t,
-    }
-}
-
 // `Alpha::new` of a row; whether each power was inside.
 fn alpha_row(
     n: usize,
@@ -334,7 +309,7 @@ fn alpha_row(
 {
     for k in 0usize..n - i {
         let e = SIDE * i + (i + k);
-        let pair = pair_at(sheets, orders, t, e);
+        let pair = saftvrqmie_potential::pair_at(sheets, orders, t, e);
         let s = table[SIGMA_EFF + e];
         let depth = table[EPSILON_K_EFF + e];
         let FloatAnswer::Value(a) = saftvrqmie_dispersion::alpha_ij(pair, s, depth) else {
@@ -377,7 +352,7 @@ fn perturbed_pair(
     requires { ⌜ (e < sheet) × (length (now table) ≡ 4 * sheet) ⌝ }
     ensures { λ r. ⌜ dispersionIn r ≡ dispersionPair floats (pairOf floats (now (sheets .entry)) orders t e) (sheetOf floats (now (table .entry)) 1 e) (sheetOf floats (now (table .entry)) 0 e) (sheetOf floats (now (table .entry)) 3 e) (w .zeta) ⌝ }
 {
-    let pair = pair_at(sheets, orders, t, e);
+    let pair = saftvrqmie_potential::pair_at(sheets, orders, t, e);
     let d = table[HS_DIAMETER + e];
     let s = table[SIGMA_EFF + e];
     let q = table[QUANTUM_D + e];

@@ -18,7 +18,6 @@ ghost use Rattle.saftvrqmie_energies.specs.State.{heldOr6, diagonal, points, sh
 ghost use Rattle.saftvrqmie_energies.specs.HardSphere.{zetaAdded, zeta, frac1mz3, zeta23Added, zeta23, hardSphereOf};
 ghost use Rattle.saftvrqmie_energies.specs.NonAdditive.{gHs, nonAdditiveIj, nonAdditiveColumn, nonAdditiveSum, densityShares, nonAdditive};
 ghost use Rattle.saftvrqmie_energies.specs.Dispersion.{invXsSum, segmentFractions, lead, packingRow, packing, alphaRow, alphas, firstRow, first, secondRow, second, thirdRow, third, mixture, dispersion};
-ghost use Rattle.saftvrqmie_alpha_ends.specs.Pair.{pairIn};
 ghost use Rattle.saftvrqmie_dispersion_ends.specs.Pair.{dispersionIn};
 ghost use Rattle.enclosure.specs.Ends.{endsIn};
 ghost use Rattle.saftvrqmie_energies.specs.Energies.{allFinite};
@@ -27,18 +26,12 @@ ghost use Rattle.saftvrqmie_energies_ends.specs.Parts.{zetaIn, zeta23In,
 use enclosure::Enclosure;
 use enclosure::EnclosureAnswer;
 use enclosure::Ends;
-use saftvrqmie_alpha_ends::PairEnclosures;
 use saftvrqmie_dispersion_ends::DispersionEnclosures;
 use saftvrqmie_parameters::OrderRecord;
 use saftvrqmie_parameters::SaftVRQMiePars;
 use sizes::SHEET;
 use sizes::SHEETS;
 use sizes::SIDE;
-use sizes::quantum_set::C_IJ;
-use sizes::quantum_set::EPSILON_K_IJ;
-use sizes::quantum_set::LAMBDA_A_IJ;
-use sizes::quantum_set::LAMBDA_R_IJ;
-use sizes::quantum_set::MASS_IJ;
 
 const PI: f64 = 3.141592653589793;
 
@@ -481,25 +474,6 @@ fn lead(
     )
 }
 
-// The pair at entry e of a set's sheets.
-fn pair_at(sheets: &[f64; SHEETS], orders: [OrderRecord; SHEET], t: f64, e: usize) -> PairEnclosures
-    requires { ⌜ e < sheet ⌝ }
-    ensures { λ r. ⌜ pairIn r ≡ pairOf enclosures (now (sheets .entry)) orders t e ⌝ }
-{
-    let record = orders[e];
-    let order = record.order;
-    PairEnclosures {
-        sigma: enclosure::point(sheets[e]),
-        epsilon_k: enclosure::point(sheets[EPSILON_K_IJ + e]),
-        c: enclosure::point(sheets[C_IJ + e]),
-        lr: enclosure::point(sheets[LAMBDA_R_IJ + e]),
-        la: enclosure::point(sheets[LAMBDA_A_IJ + e]),
-        mass: enclosure::point(sheets[MASS_IJ + e]),
-        order: order,
-        temperature: enclosure::point(t),
-    }
-}
-
 // What both perturbations of the pair at entry e take.
 fn perturbed_pair(
     sheets: &[f64; SHEETS],
@@ -512,7 +486,7 @@ fn perturbed_pair(
     requires { ⌜ (e < sheet) × (length (now table) ≡ 4 * sheet) ⌝ }
     ensures { λ r. ⌜ dispersionIn r ≡ dispersionPair enclosures (pairOf enclosures (now (sheets .entry)) orders t e) (sheetOf enclosures (now (table .entry)) 1 e) (sheetOf enclosures (now (table .entry)) 0 e) (sheetOf enclosures (now (table .entry)) 3 e) (w .zeta) ⌝ }
 {
-    let pair = pair_at(sheets, orders, t, e);
+    let pair = saftvrqmie_potential_ends::pair_at(sheets, orders, t, e);
     let d = entry_of(table, 1, e);
     let s = entry_of(table, 0, e);
     let q = entry_of(table, 3, e);
@@ -535,7 +509,7 @@ fn alpha_row(
     let mut alphas = old;
     for k in 0usize..n - i {
         let e = SIDE * i + (i + k);
-        let pair = pair_at(sheets, orders, t, e);
+        let pair = saftvrqmie_potential_ends::pair_at(sheets, orders, t, e);
         let s = entry_of(table, 0, e);
         let depth = entry_of(table, 2, e);
         let EnclosureAnswer::Value(a) = saftvrqmie_alpha_ends::alpha_ij(pair, s, depth) else {

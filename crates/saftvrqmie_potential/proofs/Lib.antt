@@ -1,3 +1,4 @@
+pub mod Orders
 pub mod Prefactor
 pub mod Relation
 pub mod Staged

@@ -1,17 +1,27 @@
 // The quantum Mie potential of a pair with its two derivatives (saftvrqmie/eos/hard_sphere.rs), in floats.
 // What all radii of a pair share is worked once (`Shared`): powers of sigma, exponents, factors. At a radius its logarithm is taken once, and each power of it once.
 ghost use mathlib.Core.Path.{_≡_};
+ghost use Prim.Native.Nat.{_<_};
 ghost use mathlib.Core.Bool.{true, cond};
 ghost use Rattle.number.specs.Answer.{answer};
 ghost use Rattle.number.specs.Arith.{floats};
 ghost use Rattle.number.specs.Functions.{calls};
+ghost use Rattle.sizes.specs.Sizes.{sheet};
 ghost use Rattle.elementary.specs.Port.{port};
-ghost use Rattle.saftvrqmie_potential.specs.Potential.{pairIn, potentialIn, potentialAnswer, firstOrder, secondOrder, quantumD, q1, q2, potential, scaled};
+ghost use Rattle.saftvrqmie_potential.specs.Potential.{pairIn, pairAt, potentialIn, potentialAnswer, firstOrder, secondOrder, quantumD, q1, q2, potential, scaled};
 ghost use Rattle.saftvrqmie_potential.specs.Staged.{sharedAnswer, exponentsInside, termOf, sharedOf, mieAt, firstAt, secondAt, valuesAt, potentialAt, uAt, bothInside};
 use binary_log::Log;
 use number::FloatAnswer;
 use power::FixedExponent;
 use saftvrqmie_parameters::FeynmanHibbsOrder;
+use saftvrqmie_parameters::OrderRecord;
+use sizes::SHEET;
+use sizes::SHEETS;
+use sizes::quantum_set::C_IJ;
+use sizes::quantum_set::EPSILON_K_IJ;
+use sizes::quantum_set::LAMBDA_A_IJ;
+use sizes::quantum_set::LAMBDA_R_IJ;
+use sizes::quantum_set::MASS_IJ;
 
 const D_QM_PREFACTOR: f64 = 6.712554014896364e-27;
 
@@ -68,6 +78,25 @@ pub struct Shared {
 pub enum SharedAnswer {
     At(Shared),
     Outside,
+}
+
+// The pair at entry e of a set's sheets. All that works pairs reads them here; an entry comes from indexes that were tested, or are turns of loops over a count that was.
+pub fn pair_at(s: &[f64; SHEETS], orders: [OrderRecord; SHEET], t: f64, e: usize) -> Pair
+    requires { ⌜ e < sheet ⌝ }
+    ensures { λ r. ⌜ r ≡ pairAt (now (s .entry)) orders t e ⌝ }
+{
+    let record = orders[e];
+    let order = record.order;
+    Pair {
+        sigma: s[e],
+        epsilon_k: s[EPSILON_K_IJ + e],
+        c: s[C_IJ + e],
+        lr: s[LAMBDA_R_IJ + e],
+        la: s[LAMBDA_A_IJ + e],
+        mass: s[MASS_IJ + e],
+        order,
+        temperature: t,
+    }
 }
 
 // Whether the potential has a first-order correction.

@@ -1,2 +1,3 @@
+pub mod Pair
 pub mod Values
 pub mod Shared

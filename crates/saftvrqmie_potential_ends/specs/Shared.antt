@@ -5,8 +5,8 @@ use Rattle.number.specs.Functions.{calls}
 use Rattle.elementary.specs.Port.{port}
 use Rattle.enclosure.specs.declared.Enclosure.{Enclosure}
 use Rattle.enclosure.specs.Enclosure.{enclosures}
-use Rattle.saftvrqmie_alpha_ends.specs.declared.PairEnclosures.{PairEnclosures}
-use Rattle.saftvrqmie_alpha_ends.specs.Pair.{pairIn}
+use Rattle.saftvrqmie_potential_ends.specs.declared.PairEnclosures.{PairEnclosures}
+use Rattle.saftvrqmie_potential_ends.specs.Pair.{pairIn}
 use Rattle.saftvrqmie_potential.specs.Potential.{quantumD, q1, q2, potential}
 use Rattle.saftvrqmie_potential_ends.specs.declared.PairShared.{PairShared}
 use Rattle.saftvrqmie_potential_ends.specs.declared.PairSharedAnswer.{PairSharedAnswer}

@@ -1,17 +1,34 @@
 // The quantum Mie potential of a pair with its two derivatives (saftvrqmie/eos/hard_sphere.rs) in the two-ended run.
 // What all radii of a pair share is worked once (`PairShared`): powers of sigma and factors.
 ghost use mathlib.Core.Path.{_≡_};
+ghost use Prim.Native.Nat.{_<_};
 ghost use Rattle.number.specs.Ans.{held};
 ghost use Rattle.number.specs.Functions.{calls};
+ghost use Rattle.sizes.specs.Sizes.{sheet};
 ghost use Rattle.elementary.specs.Port.{port};
 ghost use Rattle.enclosure.specs.Enclosure.{enclosures, point, addE};
-ghost use Rattle.saftvrqmie_alpha_ends.specs.Pair.{pairIn};
-ghost use Rattle.saftvrqmie_potential.specs.Potential.{recip, q1, q2, uMie, urMie, urrMie, urFirst, urrFirst, urSecond, urrSecond, corrected, scaled, afterShared, line, mie, addFirst, addSecond, potential, uQuantum};
+ghost use Rattle.saftvrqmie_potential.specs.Potential.{pointsOf, pairAt, prefactor, quantumD, recip, q1, q2, uMie, urMie, urrMie, urFirst, urrFirst, urSecond, urrSecond, corrected, scaled, afterShared, line, mie, addFirst, addSecond, potential, uQuantum};
+ghost use Rattle.saftvrqmie_potential_ends.specs.Pair.{pairIn};
 ghost use Rattle.saftvrqmie_potential_ends.specs.Values.{potentialIn, potentialAnswer};
 ghost use Rattle.saftvrqmie_potential_ends.specs.Shared.{Sharing, Shares, lineOf};
 use enclosure::Enclosure;
 use enclosure::EnclosureAnswer;
-use saftvrqmie_alpha_ends::PairEnclosures;
+use saftvrqmie_parameters::FeynmanHibbsOrder;
+use saftvrqmie_parameters::OrderRecord;
+use sizes::SHEET;
+use sizes::SHEETS;
+
+// The parameters of a pair, and the temperature.
+pub struct PairEnclosures {
+    pub sigma: Enclosure,
+    pub epsilon_k: Enclosure,
+    pub c: Enclosure,
+    pub lr: Enclosure,
+    pub la: Enclosure,
+    pub mass: Enclosure,
+    pub order: FeynmanHibbsOrder,
+    pub temperature: Enclosure,
+}
 
 // The potential and its two derivatives by the radius.
 pub struct PotentialEnclosures {
@@ -53,6 +70,57 @@ pub struct LinePowers {
 pub enum LineAnswer {
     Powers(LinePowers),
     Outside,
+}
+
+// The pair at entry e of a set's sheets, each number as it is. For the diameter and the energies; an entry comes from indexes that were tested, or are turns of loops over a count that was.
+pub fn pair_at(s: &[f64; SHEETS], orders: [OrderRecord; SHEET], t: f64, e: usize) -> PairEnclosures
+    requires { ⌜ e < sheet ⌝ }
+    ensures { λ r. ⌜ pairIn r ≡ pointsOf enclosures (pairAt (now (s .entry)) orders t e) ⌝ }
+{
+    let p = saftvrqmie_potential::pair_at(s, orders, t, e);
+    let order = p.order;
+    PairEnclosures {
+        sigma: enclosure::point(p.sigma),
+        epsilon_k: enclosure::point(p.epsilon_k),
+        c: enclosure::point(p.c),
+        lr: enclosure::point(p.lr),
+        la: enclosure::point(p.la),
+        mass: enclosure::point(p.mass),
+        order,
+        temperature: enclosure::point(p.temperature),
+    }
+}
+
+// D_QM_PREFACTOR, worked.
+fn prefactor() -> Enclosure
+    ensures { λ r. ⌜ r ≡ prefactor enclosures (calls enclosures port) ⌝ }
+{
+    let planck = enclosure::point(6.62607015e-34);
+    let kb = enclosure::point(1.380649e-23);
+    let tau = enclosure::point(6.283185307179586);
+    let scale = enclosure::point(1e20);
+    let twelve = enclosure::point(12.0);
+    enclosure::div(
+        enclosure::mul(
+            enclosure::div(
+                enclosure::div(enclosure::mul(planck, planck), enclosure::mul(tau, tau)),
+                twelve,
+            ),
+            scale,
+        ),
+        kb,
+    )
+}
+
+// `quantum_d_mass`.
+pub fn quantum_d(mass: Enclosure, temperature: Enclosure) -> Enclosure
+    ensures { λ r. ⌜ r ≡ quantumD enclosures (calls enclosures port) mass temperature ⌝ }
+{
+    let one = enclosure::point(1.0);
+    enclosure::mul(
+        enclosure::div(enclosure::div(one, temperature), mass),
+        prefactor(),
+    )
 }
 
 fn recip(x: Enclosure) -> Enclosure
@@ -347,7 +415,7 @@ pub fn share(p: PairEnclosures) -> PairSharedAnswer
     let EnclosureAnswer::Value(sa) = elementary_ends::powf(p.sigma, p.la) else {
         return PairSharedAnswer::Outside;
     };
-    let d = saftvrqmie_alpha_ends::quantum_d(p.mass, p.temperature);
+    let d = quantum_d(p.mass, p.temperature);
     PairSharedAnswer::At(PairShared {
         pair: p,
         sr: sr,

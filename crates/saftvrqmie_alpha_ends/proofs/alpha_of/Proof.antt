@@ -3,7 +3,7 @@ use lib.Ieee.{ofBits, neg}
 use Rattle.number.specs.Arith.{decimal}
 use Rattle.number.proofs.Walk.{told}
 use borrow.Author.Tests.{not-true, not-false}
-use Rattle.saftvrqmie_dispersion.proofs.Laws.{not-first}
+use Rattle.saftvrqmie_potential.proofs.Orders.{not-first}
 use Rattle.saftvrqmie_dispersion.specs.Alpha.{alphaOf}
 use borrow.Author.Needs.{needs}
 use Rattle.saftvrqmie_alpha_ends.proofs.alpha_of.Statement.{statement}

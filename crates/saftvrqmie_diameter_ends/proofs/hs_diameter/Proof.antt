@@ -6,9 +6,9 @@ use Rattle.elementary.specs.Port.{port}
 use Rattle.saftvrqmie_searches.specs.Diameter.{diameterBy, diameter}
 use Rattle.saftvrqmie_potential_ends.specs.Shared.{Shares}
 use Rattle.saftvrqmie_potential.specs.Potential.{potential}
-use Rattle.saftvrqmie_alpha_ends.specs.Pair.{pairIn}
+use Rattle.saftvrqmie_potential_ends.specs.Pair.{pairIn}
 use Rattle.saftvrqmie_diameter_ends.proofs.Nodes.{diameter-none}
-use Rattle.saftvrqmie_alpha_ends.specs.declared.PairEnclosures.{PairEnclosures}
+use Rattle.saftvrqmie_potential_ends.specs.declared.PairEnclosures.{PairEnclosures}
 use borrow.Author.Needs.{needs}
 use Rattle.saftvrqmie_diameter_ends.proofs.hs_diameter.Statement.{statement}
 use Rattle.saftvrqmie_diameter_ends.proofs.hs_diameter.Tie as tie

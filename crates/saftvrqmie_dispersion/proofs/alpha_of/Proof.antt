@@ -5,7 +5,7 @@ use Rattle.number.specs.Power.{powUp, powDigits, digits}
 use Rattle.number.proofs.Walk.{told}
 use borrow.Author.Tests.{not-true, not-false}
 use Rattle.saftvrqmie_dispersion.specs.Alpha.{alphaOf}
-use Rattle.saftvrqmie_dispersion.proofs.Laws.{not-first}
+use Rattle.saftvrqmie_potential.proofs.Orders.{not-first}
 use borrow.Author.Needs.{needs}
 use Rattle.saftvrqmie_dispersion.proofs.alpha_of.Statement.{statement}
 use Rattle.saftvrqmie_dispersion.proofs.alpha_of.Tie as tie

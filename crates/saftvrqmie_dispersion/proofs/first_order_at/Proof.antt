@@ -4,7 +4,7 @@ use Rattle.number.specs.Answer.{answer}
 use Rattle.number.proofs.Walk.{told, via}
 use borrow.Author.Tests.{not-true, not-false}
 use Rattle.saftvrqmie_dispersion.specs.Perturbation.{firstClosed, firstOrderBy}
-use Rattle.saftvrqmie_dispersion.proofs.Laws.{not-first}
+use Rattle.saftvrqmie_potential.proofs.Orders.{not-first}
 use borrow.Author.Needs.{needs}
 use Rattle.saftvrqmie_dispersion.proofs.first_order_at.Statement.{statement}
 use Rattle.saftvrqmie_dispersion.proofs.first_order_at.Tie as tie

@@ -3,7 +3,7 @@ use Rattle.number.specs.Ans.{_>>=_}
 use Rattle.number.proofs.Walk.{told, via}
 use Rattle.enclosure.specs.Answer.{answer}
 use borrow.Author.Tests.{not-true, not-false}
-use Rattle.saftvrqmie_dispersion.proofs.Laws.{not-first}
+use Rattle.saftvrqmie_potential.proofs.Orders.{not-first}
 use Rattle.saftvrqmie_dispersion.specs.Perturbation.{firstOrderBy}
 use borrow.Author.Needs.{needs}
 use Rattle.saftvrqmie_dispersion_ends.proofs.first_order_at.Statement.{statement}

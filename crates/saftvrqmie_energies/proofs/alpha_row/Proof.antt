@@ -1,5 +1,6 @@
 -- `saftvrqmie_energies::alpha_row` meets its contract. Assumes nothing.
 use Rattle.number.specs.Answer.{answer}
+use Rattle.saftvrqmie_potential.specs.Potential.{pairIn}
 use Rattle.saftvrqmie_energies.specs.Dispersion.{alphaTurn, alphaRow}
 use Rattle.saftvrqmie_energies.proofs.Turns.{alpha-held, alpha-outside}
 use Rattle.number.specs.Arith.{floats}
@@ -68,7 +69,7 @@ enum-told c = search needs
 
 returns : tie.Need-returns Inv-loop μ-loop
 unfolding alphaRow heldOr6
-returns c = rw (← ((c .before .before .before .before .before .before .before .loop) .inv .0)) (walk-stop _ _ _ _ _ _ ((c .before .before .before .before .before .before .loop-test) .taken) ((c .before .before .before .before .before .before .before .loop) .inv .2) (alpha-outside floats _ _ _ _ _ _ _ _ _ ((c .before .before .before .before .before .pair-at) .ensures) refl refl ((c .before .before .alpha-ij) .ensures) _ (ap answer ((c .enum-told) .given .1))))
+returns c = rw (← ((c .before .before .before .before .before .before .before .loop) .inv .0)) (walk-stop _ _ _ _ _ _ ((c .before .before .before .before .before .before .loop-test) .taken) ((c .before .before .before .before .before .before .before .loop) .inv .2) (alpha-outside floats _ _ _ _ _ _ _ _ _ (ap pairIn ((c .before .before .before .before .before .pair-at) .ensures)) refl refl ((c .before .before .alpha-ij) .ensures) _ (ap answer ((c .enum-told) .given .1))))
 
 mul-alphas : tie.Need-mul-alphas Inv-loop μ-loop
 mul-alphas c = search needs
@@ -98,7 +99,7 @@ loop-less : tie.Need-loop-less Inv-loop μ-loop
 loop-less c = search needs
 
 loop-again : tie.Need-loop-again Inv-loop μ-loop
-loop-again c = ((c .before .before .before .before .before .before .before .before .loop) .inv .0, search needs, walk-next _ _ _ _ _ ((c .before .before .before .before .before .before .before .before .loop) .inv .2) (alpha-held floats _ _ _ _ _ _ _ _ _ ((c .before .before .before .before .before .before .pair-at) .ensures) refl refl ((c .before .before .before .alpha-ij) .ensures) _ (ap answer ((c .before .a) .given .1))))
+loop-again c = ((c .before .before .before .before .before .before .before .before .loop) .inv .0, search needs, walk-next _ _ _ _ _ ((c .before .before .before .before .before .before .before .before .loop) .inv .2) (alpha-held floats _ _ _ _ _ _ _ _ _ (ap pairIn ((c .before .before .before .before .before .before .pair-at) .ensures)) refl refl ((c .before .before .before .alpha-ij) .ensures) _ (ap answer ((c .before .a) .given .1))))
 
 returns-2 : tie.Need-returns-2 Inv-loop μ-loop
 unfolding alphaRow heldOr6

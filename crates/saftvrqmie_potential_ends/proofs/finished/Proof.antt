@@ -7,7 +7,7 @@ use Rattle.number.specs.Ans.{held}
 use Rattle.number.specs.Functions.{calls}
 use Rattle.elementary.specs.Port.{port}
 use Rattle.saftvrqmie_potential_ends.specs.Values.{potentialIn}
-use Rattle.saftvrqmie_alpha_ends.specs.Pair.{pairIn}
+use Rattle.saftvrqmie_potential_ends.specs.Pair.{pairIn}
 use borrow.Author.Needs.{needs}
 use Rattle.saftvrqmie_potential_ends.proofs.finished.Statement.{statement}
 use Rattle.saftvrqmie_potential_ends.proofs.finished.Tie as tie

@@ -4,7 +4,7 @@ use Rattle.saftvrqmie_potential.specs.Potential.{mie, potential}
 use Rattle.number.specs.Ans.{_>>=_}
 use Rattle.saftvrqmie_potential_ends.specs.Values.{potentialAnswer}
 use borrow.Author.Tests.{not-true, not-false}
-use Rattle.saftvrqmie_dispersion.proofs.Laws.{not-first}
+use Rattle.saftvrqmie_potential.proofs.Orders.{not-first}
 use borrow.Author.Needs.{needs}
 use Rattle.saftvrqmie_potential_ends.proofs.potential_at.Statement.{statement}
 use Rattle.saftvrqmie_potential_ends.proofs.potential_at.Tie as tie

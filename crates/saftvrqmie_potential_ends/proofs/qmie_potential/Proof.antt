@@ -5,8 +5,8 @@ use Rattle.enclosure.specs.Enclosure.{enclosures}
 use Rattle.number.specs.Functions.{calls}
 use Rattle.elementary.specs.Port.{port}
 use Rattle.saftvrqmie_potential_ends.specs.Shared.{Shares}
-use Rattle.saftvrqmie_alpha_ends.specs.Pair.{pairIn}
-use Rattle.saftvrqmie_alpha_ends.specs.declared.PairEnclosures.{PairEnclosures}
+use Rattle.saftvrqmie_potential_ends.specs.Pair.{pairIn}
+use Rattle.saftvrqmie_potential_ends.specs.declared.PairEnclosures.{PairEnclosures}
 use borrow.Author.Needs.{needs}
 use Rattle.saftvrqmie_potential_ends.proofs.qmie_potential.Statement.{statement}
 use Rattle.saftvrqmie_potential_ends.proofs.qmie_potential.Tie as tie

@@ -1,10 +1,10 @@
--- `saftvrqmie_alpha_ends::prefactor` meets its contract. Assumes nothing.
+-- `saftvrqmie_potential_ends::prefactor` meets its contract. Assumes nothing.
 use lib.Ieee.{ofBits, neg}
 use Rattle.number.specs.Arith.{decimal}
 use Rattle.saftvrqmie_potential.specs.Potential.{prefactor}
 use borrow.Author.Needs.{needs}
-use Rattle.saftvrqmie_alpha_ends.proofs.prefactor.Statement.{statement}
-use Rattle.saftvrqmie_alpha_ends.proofs.prefactor.Tie as tie
+use Rattle.saftvrqmie_potential_ends.proofs.prefactor.Statement.{statement}
+use Rattle.saftvrqmie_potential_ends.proofs.prefactor.Tie as tie
 
 point-requires : tie.Need-point-requires
 point-requires c κs = search needs
