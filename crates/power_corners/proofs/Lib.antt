@@ -1,0 +1,6 @@
+pub mod Sheets
+pub mod Numbers
+pub mod Integral
+pub mod Quantum
+pub mod Mie
+pub mod Whole
