@@ -12,6 +12,7 @@ use lib.IntN.{pos}
 use borrow.Author.Tests.{eq-eqb, eqb-true}
 use lib.Ieee.{Float, fin, binary64, fits, ofBits, toBits, isNan}
 use lib.Ieee.Bits.{ofBits-toBits}
+use lib.Ieee.Fits.{sub-fits}
 use Rattle.number.specs.Ans.{Ans, held, demand}
 use Rattle.number.specs.Arith.{floats, decimal, bits, zero64, one64}
 use Rattle.number.specs.Functions.{calls}
@@ -31,7 +32,8 @@ use Rattle.saftvrmie_parameters.specs.declared.SaftVRMiePars.{SaftVRMiePars}
 use Rattle.saftvrmie_parameters.proofs.Laws.{lengths, Within, sheetsIn}
 use Rattle.power_corners.specs.Corners.{ComponentsAt, MieSet}
 use Rattle.power_corners.proofs.Sheets.{Stands, rows}
-use Rattle.power_corners.proofs.Numbers.{c-12-6, lambda-6, lr-12, zero-leaves, demanded}
+use Rattle.power_corners.proofs.Only.{only-one}
+use Rattle.power_corners.proofs.Numbers.{c-12-6, lambda-6, lr-12, lr-by, zero-leaves, demanded}
 
 -- the sheets' order
 abbrev entry : PairParameters → ℕ → Float
@@ -144,6 +146,12 @@ module _ (l : Lists) where
         let gamma = square (l .count) (l .gamma-ij) i j in
         lr-is ∙ held-inj _ _ (sym (from .lr) ∙ ap (λ (x : Float). lrIj floats (calls floats port) x (at (l .lr) j) gamma) (w .lr-i) ∙ ap (λ (x : Float). lrIj floats (calls floats port) (decimal false 12 0) x gamma) (w .lr-j) ∙ lr-12 gamma g)
 
+    by-gamma : ComponentsAt (l .lr) (l .la) i j → at (s .sheets) (2 * sheet + cell i j) ≡ decimal false 12 0 → floats .sub one64 (square (l .count) (l .gamma-ij) i j) ≡ one64
+    by-gamma w p =
+        let gamma = square (l .count) (l .gamma-ij) i j in
+        only-one (floats .sub one64 gamma) (sub-fits binary64 one64 gamma)
+        (held-inj _ _ (sym (lr-by gamma) ∙ sym (ap (λ (x : Float). lrIj floats (calls floats port) (decimal false 12 0) x gamma) (w .lr-j)) ∙ sym (ap (λ (x : Float). lrIj floats (calls floats port) x (at (l .lr) j) gamma) (w .lr-i)) ∙ from .lr) ∙ sym lr-is ∙ p)
+
     six : ComponentsAt (l .lr) (l .la) i j → at (s .sheets) (3 * sheet + cell i j) ≡ decimal false 6 0
     six w = la-is ∙ held-inj _ _ (sym (from .la) ∙ ap (λ (x : Float). lambdaIj floats (calls floats port) x (at (l .la) j)) (w .la-i) ∙ ap (lambdaIj floats (calls floats port) (decimal false 6 0)) (w .la-j) ∙ lambda-6)
 
@@ -152,5 +160,6 @@ module _ (l : Lists) where
       record {
         four-at = four-at s h;
         pair = λ i j r c w g. let p = twelve s h i j r c w g in let q = six s h i j r c w in (p, q, four-at s h i j r c p q);
+        only = by-gamma s h;
         diagonal = λ i r f. let m = made s h in leaves (square (l .count) (l .gamma-ij)) (l .count) i (rw (m .count) r) f (gammas-within l (m .within));
       }

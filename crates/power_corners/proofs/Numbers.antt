@@ -46,7 +46,12 @@ pub lambda-6 : lambdaIj floats (calls floats port) (decimal false 6 0) (decimal 
 unfolding lambdaIj answered _>>=_ root positiveRoot wholeRoot decimal Ieee.round Ieee.ofBits Ieee.size Ieee.add Ieee.sub Ieee.mul Ieee.neg
 lambda-6 = refl
 
--- lr with a gamma_ij that leaves it
+-- lr with a gamma_ij
+pub lr-by : (gamma : Float) → lrIj floats (calls floats port) (decimal false 12 0) (decimal false 12 0) gamma ≡ held (floats .add (floats .mul (floats .sub one64 gamma) (decimal false 9 0)) (decimal false 3 0))
+unfolding lrIj answered _>>=_ root positiveRoot wholeRoot decimal Ieee.ofBits Ieee.size Ieee.add Ieee.sub Ieee.mul Ieee.neg
+lr-by gamma = refl
+
+-- one that leaves it
 pub lr-12 : (gamma : Float) → floats .sub one64 gamma ≡ one64 → lrIj floats (calls floats port) (decimal false 12 0) (decimal false 12 0) gamma ≡ held (decimal false 12 0)
 unfolding lrIj answered _>>=_ root positiveRoot wholeRoot decimal Ieee.round Ieee.ofBits Ieee.size Ieee.add Ieee.sub Ieee.mul Ieee.neg
 lr-12 gamma h = rw h

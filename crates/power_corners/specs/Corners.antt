@@ -78,6 +78,8 @@ pub record MieSet (l : Mie.Lists) (s : SaftVRMiePars) : Type 0 where
       → FourAt (at (s .sheets) (2 * sheet + cell i j)) (at (s .sheets) (3 * sheet + cell i j)) (at (s .sheets) (4 * sheet + cell i j))
   pub pair : (i j : ℕ) → i < s .count → j < s .count → ComponentsAt (l .lr) (l .la) i j → Leaves (square (l .count) (l .gamma-ij) i j)
       → (at (s .sheets) (2 * sheet + cell i j) ≡ twelve) × (at (s .sheets) (3 * sheet + cell i j) ≡ six) × (at (s .sheets) (4 * sheet + cell i j) ≡ four)
+  -- no other gamma_ij does
+  pub only : (i j : ℕ) → i < s .count → j < s .count → ComponentsAt (l .lr) (l .la) i j → at (s .sheets) (2 * sheet + cell i j) ≡ twelve → Leaves (square (l .count) (l .gamma-ij) i j)
   -- a component with itself has such a gamma_ij
   pub diagonal : (i : ℕ) → i < s .count → T (fits binary64 (square (l .count) (l .gamma-ij) i i)) → Leaves (square (l .count) (l .gamma-ij) i i)
 
