@@ -201,6 +201,26 @@ class Cases:
         yield compared("base 32", power(32.0, 2.0), ("held", 1024.0))
         yield compared("the base above 32", power(math.nextafter(32.0, 64.0), 2.0), ("refused", 6))
 
+    # ---- Slip 3, at some of the exponents, pair values and lists that it is about
+    def corners(self):
+        c = self.c
+        floats = c.get("number", "Arith", "floats")()
+        powf = c.get("number", "Functions", "calls")(floats, c.get("elementary", "Port", "port")()).powf
+        three, six, twelve, four = (c.get("power_corners", "Corners", name)() for name in ("three", "six", "twelve", "four"))
+        yield compared("its numbers", (three, six, twelve, four), (3.0, 6.0, 12.0, 4.0))
+        ilambda, zero = c.get("saftvrqmie_dispersion_terms", "Terms", "ilambda"), c.get("power_corners", "Corners", "zeroAt")
+        for x in (math.nextafter(3.0, 4.0), math.nextafter(3.0, 2.0), 0.0, -0.0, 6.0, 12.0, 195.0, -189.0):
+            yield compared(f"ilambda of {x!r} at ratio 1", (ilambda(floats, x, powf(1.0)), zero(x)), (("held", -0.0 if x > 3 else 0.0), -0.0 if x > 3 else 0.0))
+        for gamma, stays in ((0.0, True), (-0.0, True), (2.0**-54, True), (2.0**-53, False), (0.5, False)):
+            yield compared(f"gamma_ij of {gamma!r}", c.get("power_corners", "Corners", "Leaves")(gamma), stays)
+        lists = c.get("proved_table", "Table", "alike")((0, 1))
+        shared = {name: getattr(lists, name) for name in ("count", "m", "sigma", "lr", "la")}
+        mie = c.record(**shared, **{"epsilon-k": (30.0, 35.0), "k-ij": (0.0, 0.1, 0.1, 0.0), "gamma-ij": (0.0, -0.0, -0.0, 0.0)})
+        for crate, name, given, places in (("saftvrqmie_parameters", "saftVRQMiePars", lists, (3, 4, 2)), ("saftvrmie_parameters", "saftVRMiePars", mie, (2, 3, 4))):
+            sheets = c.get(crate, "Parameters", name)(given)[1].sheets
+            for e in (0, 1, SIDE, SIDE + 1):
+                yield compared(f"{crate}: lr, la and c at {e}", tuple(sheets[k * SIDE**2 + e] for k in places), (twelve, six, four))
+
     # ---- slopes: the rules on fractions, at floats that are short, beside the derivative of a power, a product and a quotient
     def slopes(self):
         c = self.c
@@ -225,10 +245,10 @@ class Cases:
                 said = tuple(Fraction(q.exact[1][1] - q.exact[1][2], q.exact[1][3]) for q in (d.re, d.eps))
                 yield "slopes", None if said == wanted[name] else f"{name} of {x}, {dx} and {y}, {dy}: {said}, and not {wanted[name]}"
 
-    # ---- that nothing was left out: what the boundary, demand 3, the table and the promises use was evaluated, but for statements about all values
+    # ---- that nothing was left out: what the boundary, demand 3, the table, Slip 3 and the promises use was evaluated, but for statements about all values
     def believed(self):
         c = self.c
-        files = [c.file(*f) for f in (("domthelv", "Operations"), ("domthelv", "Sets"), ("demand_three", "Demand"), ("proved_table", "Table"), ("elementary", "Promised"), ("elementary", "Port"))]
+        files = [c.file(*f) for f in (("domthelv", "Operations"), ("domthelv", "Sets"), ("demand_three", "Demand"), ("proved_table", "Table"), ("power_corners", "Corners"), ("elementary", "Promised"), ("elementary", "Port"))]
         for d in sorted((d for d in c.used_by(files) if isinstance(d, Definition)), key=lambda d: d.python):
             name = f"{d.file.name}.{d.name}"
             if not (d.is_type and c.states_of_all(d)):
@@ -307,7 +327,7 @@ class Exact:
         return {"value": value, "fraction": exact.exact[1] if exact.exact[0] == "some" else None}
 
 
-SECTIONS = ["decimals", "tables", "elementary", "promises", "intervals", "table", "quadrature", "slopes", "mie_ends", "quantum_ends", "mie", "quantum", "refusals", "stages", "exact", "believed"]
+SECTIONS = ["decimals", "tables", "elementary", "promises", "intervals", "table", "corners", "quadrature", "slopes", "mie_ends", "quantum_ends", "mie", "quantum", "refusals", "stages", "exact", "believed"]
 
 
 def load(folder, texts, whole=False):

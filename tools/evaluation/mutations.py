@@ -21,6 +21,7 @@ CHANGED = [
     ("work that is not counted for 8", "saftvrqmie_dispersion/specs/Alpha", "held (after dmt (alphaOf", "held ((alphaOf", "quantum_ends"),
     ("a count of evaluations", "saftvrqmie_searches/specs/Searches", "count = 19 - n", "count = 18 - n", "quantum_ends"),
     ("an exact quotient", "enclosure/specs/Exact", "some (divF p q)", "some (mulF p q)", "exact"),
+    ("the sign of a zero", "power_corners/specs/Corners", "zeroAt lambda = fin (lt three lambda)", "zeroAt lambda = fin (lt lambda three)", "corners"),
     ("an entry's place", "sizes/specs/Sizes", "cell i j = side * i + j", "cell i j = side * j + i", "mie"),
 ]
 # what the language has and specs/ has not: none of it may be passed over
