@@ -280,8 +280,8 @@ class Exact:
             self.ends, self.float = c.get(crate + "_diameter_ends", "Operations", "diameterEnds")(port, *handed), c.get(crate, "Pairs", "diameterIj")()
             self.run, self.exact = (c.get(crate, "Pairs", "diameterRun")(a, calls(a, port), *handed) for a in runs)
         else:
-            lent = m.diameters if call.what == 9 else m.table
-            handed = (s, chains.number(call.value), *map(chains.floats, call.cut(2)), lent[:call.lengths[2]], call.flag == 1)
+            lent = m.diameters[:call.lengths[2]] if call.what == 9 else m.table[:chains.lent(call.lengths[2], chains.TABLE)]
+            handed = (s, chains.number(call.value), *map(chains.floats, call.cut(2)), lent, call.flag == 1)
             crate, ends, run = ("saftvrmie_energies", "dispersionEnds", "energyRun") if call.what == 9 else ("saftvrqmie_energies", "energiesEnds", "contributionsOf")
             self.ends = c.get(crate + "_ends", "Operation", ends)(port, *handed)
             self.float = c.get(crate, "Energies", "energy" if call.what == 9 else "energies")()
