@@ -145,6 +145,12 @@ class Cases:
     def mie(self):
         return self.run("crates/vectors_main/data/mie.bin", chains.Mie, 1 if self.whole else EVERY)
 
+    def quantum_9_to_12(self):
+        return self.run("crates/vectors_main/data/quantum_9_to_12.bin", chains.Quantum, 1 if self.whole else 4 * EVERY)
+
+    def mie_9_to_12(self):
+        return self.run("crates/vectors_main/data/mie_9_to_12.bin", chains.Mie, 1 if self.whole else 4 * EVERY)
+
     def quantum_ends(self):
         return self.run("tools/evaluation/data/quantum_ends.bin", chains.Quantum, 1)
 
@@ -307,7 +313,7 @@ class Exact:
         return {"value": value, "fraction": exact.exact[1] if exact.exact[0] == "some" else None}
 
 
-SECTIONS = ["decimals", "tables", "elementary", "promises", "intervals", "table", "quadrature", "slopes", "mie_ends", "quantum_ends", "mie", "quantum", "refusals", "stages", "exact", "believed"]
+SECTIONS = ["decimals", "tables", "elementary", "promises", "intervals", "table", "quadrature", "slopes", "mie_ends", "quantum_ends", "mie", "quantum", "mie_9_to_12", "quantum_9_to_12", "refusals", "stages", "exact", "believed"]
 
 
 def load(folder, texts, whole=False):

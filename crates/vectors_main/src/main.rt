@@ -1,4 +1,4 @@
-// Runs the calls of data/quantum.bin and data/mie.bin and compares each answer, bit for bit, with the one in the file. A record is 24 words, least significant byte first, and a list of words; docs/VECTORS.md says which. Places of lists go by sheet, row and column, so that the files hold whatever the side is. Writes for each operation how often it gave each number (0 for accepted), and how many calls differ.
+// Runs the calls of data/quantum.bin and data/mie.bin, and of 9 to 12 components those of both files beside them, and compares each answer, bit for bit, with the one in the file. A record is 24 words, least significant byte first, and a list of words; docs/VECTORS.md says which. Places of lists go by sheet, row and column, so that the files hold whatever the side is. Writes for each operation how often it gave each number (0 for accepted), and how many calls differ.
 ghost use Prim.Native.Nat.{_<_, _≤_};
 use saftvrmie_energies::EnergyAnswer;
 use saftvrmie_parameters::SaftVRMiePars;
@@ -719,25 +719,7 @@ fn row(name: &[u8], tally: Tally, operation: usize) {
     io::write_all(1, b" differ\n");
 }
 
-fn main() {
-    let mut t = Tally {
-        met: [0; 63],
-        other: [0; 7],
-    };
-    let quantum = os::open_read(b"quantum.bin");
-    if quantum < 0 {
-        os::fail(b"quantum.bin");
-        return;
-    }
-    t = quantum_file(quantum, t);
-    libc::close(quantum);
-    let mie = os::open_read(b"mie.bin");
-    if mie < 0 {
-        os::fail(b"mie.bin");
-        return;
-    }
-    t = mie_file(mie, t);
-    libc::close(mie);
+fn rows(t: Tally) {
     row(b"quantum parameters   ", t, 0);
     row(b"quantum table        ", t, 1);
     row(b"quantum energies     ", t, 2);
@@ -745,4 +727,41 @@ fn main() {
     row(b"VR Mie diameters     ", t, 4);
     row(b"VR Mie dispersion    ", t, 5);
     row(b"VR Mie and chain     ", t, 6);
+}
+
+fn quantum_calls(name: &[u8], tally: Tally) -> Tally {
+    let fd = os::open_read(name);
+    if fd < 0 {
+        os::fail(name);
+        return tally;
+    }
+    let t = quantum_file(fd, tally);
+    libc::close(fd);
+    t
+}
+
+fn mie_calls(name: &[u8], tally: Tally) -> Tally {
+    let fd = os::open_read(name);
+    if fd < 0 {
+        os::fail(name);
+        return tally;
+    }
+    let t = mie_file(fd, tally);
+    libc::close(fd);
+    t
+}
+
+fn no_calls() -> Tally {
+    Tally {
+        met: [0; 63],
+        other: [0; 7],
+    }
+}
+
+fn main() {
+    let quantum = quantum_calls(b"quantum.bin", no_calls());
+    rows(mie_calls(b"mie.bin", quantum));
+    io::write_all(1, b"9 to 12 components\n");
+    let more = quantum_calls(b"quantum_9_to_12.bin", no_calls());
+    rows(mie_calls(b"mie_9_to_12.bin", more));
 }

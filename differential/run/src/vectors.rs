@@ -17,7 +17,9 @@ const NUMBERS: [(&str, &[u8]); 7] = [
     (MIE[2], &[0, 1, 2, 6, 7]),
     (MIE[3], &[0, 1, 2, 6, 7]),
 ];
-const OFTEN: u64 = 25;
+const OFTEN: u64 = 3;
+/// The files of 1 to 8 components were written when a side was 8, and are kept.
+const FEWEST: usize = 9;
 
 /// One record: 24 words, then its list.
 #[derive(Default)]
@@ -366,13 +368,11 @@ fn mie(g: &mut Random, n: usize, odd: bool) -> File {
 fn file(names: &[&'static str], seed: u64, chain: &dyn Fn(&mut Random, usize, usize, bool) -> File) -> File {
     let mut g = Random(seed);
     let mut file = File::default();
-    for n in 1..=SIDE {
-        for turn in 0..if n < 4 { 60 } else { 12 } {
-            file.join(chain(&mut g, n, turn, false));
-        }
+    for n in FEWEST..=SIDE {
+        (0..6).for_each(|turn| file.join(chain(&mut g, n, turn, false)));
     }
-    for _ in 0..300 {
-        let n = g.one_of(&[1, 1, 1, 2, 2, 3, 4]);
+    for _ in 0..40 {
+        let n = FEWEST + g.below(SIDE + 1 - FEWEST);
         file.join(chain(&mut g, n, 0, true));
     }
     let numbers = |name| NUMBERS.iter().find(|x| x.0 == name).unwrap().1;
@@ -383,7 +383,7 @@ fn file(names: &[&'static str], seed: u64, chain: &dyn Fn(&mut Random, usize, us
             break;
         }
         assert!(tries < 2_000_000, "not met: {lacking:?}");
-        let n = g.one_of(&[1, 1, 2]);
+        let n = FEWEST + g.below(SIDE + 1 - FEWEST);
         let one = chain(&mut g, n, 0, true);
         if lacking.iter().any(|x| one.met.contains_key(x)) {
             file.join(one);
@@ -405,6 +405,6 @@ pub fn write(folder: &str) {
     let quantum_file = file(&QUANTUM, 0x51, &|g, n, turn, odd| quantum(g, n, (!odd).then_some(turn as u8 % 3), odd));
     assert!(quantum_file.spent.iter().all(|n| *n >= OFTEN));
     let mie_file = file(&MIE, 0x52, &|g, n, _, odd| mie(g, n, odd));
-    save(folder, "quantum.bin", &quantum_file);
-    save(folder, "mie.bin", &mie_file);
+    save(folder, "quantum_9_to_12.bin", &quantum_file);
+    save(folder, "mie_9_to_12.bin", &mie_file);
 }
