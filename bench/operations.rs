@@ -365,25 +365,28 @@ fn print(title: &str, columns: [&str; 2], rows: &Rows) {
     rows.0.iter().flat_map(|r| &r.1).for_each(|line| println!("{line}"));
 }
 
+/// Components of the rows.
+const SIZES: [usize; 5] = [1, 2, 4, 8, SIDE];
+
 pub fn run() {
     let mut rows = Rows::default();
-    for n in [1, 2, 4, SIDE] {
+    for n in SIZES {
         for order in 0..3 {
             quantum(&mut rows, n, order);
         }
     }
-    for n in [1, 2, 4, SIDE] {
+    for n in SIZES {
         vr_mie(&mut rows, n);
     }
     let title = "operations: the Rust as it is on the platform's functions, and the port; order is Feynman-Hibbs'";
     print(title, ["Rust us", "port us"], &rows);
     let mut rows = Rows::default();
-    for n in [1, 2, 4, SIDE] {
+    for n in SIZES {
         for order in 0..3 {
             quantum_ends(&mut rows, n, order);
         }
     }
-    for n in [1, 2, 4, SIDE] {
+    for n in SIZES {
         vr_mie_ends(&mut rows, n);
     }
     print("two ends: the port's floats, and its ends", ["float us", "ends us"], &rows);

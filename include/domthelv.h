@@ -60,7 +60,7 @@
 #define DOMTHELV_VERSION_PATCH 0
 
 /* The most components, and the lengths that hang on it. */
-#define DOMTHELV_SIDE 8
+#define DOMTHELV_SIDE 12
 #define DOMTHELV_SHEET (DOMTHELV_SIDE * DOMTHELV_SIDE)
 #define DOMTHELV_M DOMTHELV_SIDE                /* m of a quantum set */
 #define DOMTHELV_ORDERS DOMTHELV_SHEET          /* orders of a quantum set, bytes */

@@ -1,7 +1,7 @@
 //! How many components, how long each list, and where each sheet of a set or table starts: crates/sizes for Rust.
 
 /// The side of a sheet: the most components. A sheet holds a number for each pair.
-pub const SIDE: usize = 8;
+pub const SIDE: usize = 12;
 pub const SHEET: usize = SIDE * SIDE;
 /// The six sheets of a set, in one array.
 pub const SHEETS: usize = 6 * SHEET;

@@ -145,6 +145,12 @@ class Cases:
     def mie(self):
         return self.run("crates/vectors_main/data/mie.bin", chains.Mie, 1 if self.whole else EVERY)
 
+    def quantum_9_to_12(self):
+        return self.run("crates/vectors_main/data/quantum_9_to_12.bin", chains.Quantum, 1 if self.whole else 4 * EVERY)
+
+    def mie_9_to_12(self):
+        return self.run("crates/vectors_main/data/mie_9_to_12.bin", chains.Mie, 1 if self.whole else 4 * EVERY)
+
     def quantum_ends(self):
         return self.run("tools/evaluation/data/quantum_ends.bin", chains.Quantum, 1)
 
@@ -300,8 +306,8 @@ class Exact:
             self.ends, self.float = c.get(crate + "_diameter_ends", "Operations", "diameterEnds")(port, *handed), c.get(crate, "Pairs", "diameterIj")()
             self.run, self.exact = (c.get(crate, "Pairs", "diameterRun")(a, calls(a, port), *handed) for a in runs)
         else:
-            lent = m.diameters if call.what == 9 else m.table
-            handed = (s, chains.number(call.value), *map(chains.floats, call.cut(2)), lent[:call.lengths[2]], call.flag == 1)
+            lent = m.diameters[:call.lengths[2]] if call.what == 9 else m.table[:chains.lent(call.lengths[2], chains.TABLE)]
+            handed = (s, chains.number(call.value), *map(chains.floats, call.cut(2)), lent, call.flag == 1)
             crate, ends, run = ("saftvrmie_energies", "dispersionEnds", "energyRun") if call.what == 9 else ("saftvrqmie_energies", "energiesEnds", "contributionsOf")
             self.ends = c.get(crate + "_ends", "Operation", ends)(port, *handed)
             self.float = c.get(crate, "Energies", "energy" if call.what == 9 else "energies")()
@@ -327,7 +333,7 @@ class Exact:
         return {"value": value, "fraction": exact.exact[1] if exact.exact[0] == "some" else None}
 
 
-SECTIONS = ["decimals", "tables", "elementary", "promises", "intervals", "table", "corners", "quadrature", "slopes", "mie_ends", "quantum_ends", "mie", "quantum", "refusals", "stages", "exact", "believed"]
+SECTIONS = ["decimals", "tables", "elementary", "promises", "intervals", "table", "corners", "quadrature", "slopes", "mie_ends", "quantum_ends", "mie", "quantum", "mie_9_to_12", "quantum_9_to_12", "refusals", "stages", "exact", "believed"]
 
 
 def load(folder, texts, whole=False):

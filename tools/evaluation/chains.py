@@ -22,6 +22,34 @@ def patterns(values):
     return [to_bits(F64, x) for x in values]
 
 
+# what a place is of: component lists, a set's sheets, its orders, the table's sheets or the diameters, the table's counts
+LIST, SET, ORDERS, WORKED, SPENT = (k * 1_000_000 for k in range(1, 6))
+
+
+def index(place):
+    """A place of a list by its number: 10000 for each sheet, 100 for each row, 1 for each column."""
+    return SHEET * (place // 10_000 % 100) + SIDE * (place // 100 % 100) + place % 100
+
+
+# the places that are not +0, each with its number and bits
+def filled(start, words):
+    return [x for k, w in enumerate(words) if w for x in (start + 10_000 * (k // SHEET) + 100 * (k % SHEET // SIDE) + k % SIDE, w)]
+
+
+# the same of component lists, one behind the other: a list's number is that of a sheet
+def filled_lists(words):
+    return [x for k in range(0, len(words), SIDE) for x in filled(LIST + 10_000 * (k // SIDE), words[k:k + SIDE])]
+
+
+def in_lists(place):
+    return SIDE * (place // 10_000 % 100) + place % 100
+
+
+# a length as it is stored of a list that is whole, one place shorter or empty
+def lent(short, whole):
+    return (whole, whole - 1, 0)[short]
+
+
 def hashed(*lists):
     h = START
     for words in lists:
@@ -93,16 +121,16 @@ class Quantum:
     def changed(self, call):
         m, sheets, orders, table = list(self.m), list(self.sheets), list(self.orders), list(self.table)
         for place, bits in zip(call.listed[::2], call.listed[1::2]):
-            if place == 0:
+            if place < LIST:
                 self.count = bits
-            elif place < 2000:
-                m[place - 1000] = number(bits)
-            elif place < 3000:
-                sheets[place - 2000] = number(bits)
-            elif place < 4000:
-                orders[place - 3000] = bits
+            elif place < SET:
+                m[in_lists(place)] = number(bits)
+            elif place < ORDERS:
+                sheets[index(place)] = number(bits)
+            elif place < WORKED:
+                orders[index(place)] = bits
             else:
-                table[place - 4000] = number(bits)
+                table[index(place)] = number(bits)
         self.m, self.sheets, self.orders, self.table = tuple(m), tuple(sheets), tuple(orders), tuple(table)
 
     # what a call gives: the number and the words that stand in the record
@@ -111,12 +139,13 @@ class Quantum:
         if call.what == 1:
             return self.parameters(self.lists(call))
         if call.what == 2:
-            before = self.c.record(values=self.table[:call.lengths[0]], numbers=self.counts[:call.lengths[1]])
+            values, numbers = lent(call.lengths[0], TABLE), lent(call.lengths[1], COUNTS)
+            before = self.c.record(values=self.table[:values], numbers=self.counts[:numbers])
             a = self.at("vrqTable", t, before)
             after = self.stored(before, a)
-            self.table = after.values + self.table[call.lengths[0]:]
-            self.counts = after.numbers + self.counts[call.lengths[1]:]
-            return refusal(a), [hashed(patterns(self.table)), hashed(self.counts)]
+            self.table = after.values + self.table[values:]
+            self.counts = after.numbers + self.counts[numbers:]
+            return refusal(a), [hashed(filled(WORKED, patterns(self.table))), hashed(filled(SPENT, self.counts))]
         if call.what == 8:
             handed = (*call.lengths[:2], t, *floats(call.listed))
             return around(self.at("vrqDiameter", *handed), self.at("vrqDiameterEnds", *handed, OUT[:2]))
@@ -124,7 +153,7 @@ class Quantum:
             a = self.at("vrqRadii", *call.lengths[:2], t, self.c.record(values=OUT[:6], numbers=(7,) * 3))
             return refusal(a), patterns(a[1].values) + list(a[1].numbers) if a[0] == "held" else []
         name, out = {3: ("vrqEnergies", OUT[:3]), 7: ("vrqEnergiesEnds", OUT[:6])}[call.what]
-        return told(self.at(name, t, *map(floats, call.cut(2)), self.table[:call.lengths[2]], call.flag == 1, out))
+        return told(self.at(name, t, *map(floats, call.cut(2)), self.table[:lent(call.lengths[2], TABLE)], call.flag == 1, out))
 
     def parameters(self, lists):
         a = self.c.get("saftvrqmie_parameters", "Parameters", "saftVRQMiePars")(lists)
@@ -132,7 +161,7 @@ class Quantum:
         written = operation(self.c, "vrqParameters")(lists, self.c.record(m=OUT[:SIDE], sheets=OUT, orders=(7,) * SHEET))
         if refusal(written) != refusal(a) or (a[0] == "held" and not same((written[1].m, written[1].sheets, written[1].orders), (self.m, self.sheets, self.orders))):
             return None, []
-        return refusal(a), [hashed(patterns(self.m), patterns(self.sheets), self.orders)]
+        return refusal(a), [hashed(filled_lists(patterns(self.m)), filled(SET, patterns(self.sheets)), filled(ORDERS, self.orders))]
 
     # parameters, a table and energies in one, for the lists, state and part of two calls
     def stage(self, first, last):
@@ -163,14 +192,14 @@ class Mie:
     def changed(self, call):
         lists, sheets, d = list(self.lists), list(self.sheets), list(self.diameters)
         for place, bits in zip(call.listed[::2], call.listed[1::2]):
-            if place == 0:
+            if place < LIST:
                 self.count = bits
-            elif place < 2000:
-                lists[place - 1000] = number(bits)
-            elif place < 4000:
-                sheets[place - 2000] = number(bits)
+            elif place < SET:
+                lists[in_lists(place)] = number(bits)
+            elif place < ORDERS:
+                sheets[index(place)] = number(bits)
             else:
-                d[place - 4000] = number(bits)
+                d[index(place)] = number(bits)
         self.lists, self.sheets, self.diameters = tuple(lists), tuple(sheets), tuple(d)
 
     def handed(self, call):
@@ -185,7 +214,7 @@ class Mie:
             before = self.diameters[:call.lengths[0]]
             a = self.at("vrDiameters", t, before)
             self.diameters = self.stored(before, a) + self.diameters[call.lengths[0]:]
-            return refusal(a), patterns(self.diameters)
+            return refusal(a), [hashed(filled(WORKED, patterns(self.diameters)))]
         if call.what == 13:
             handed = (*call.lengths[:2], t, *floats(call.listed))
             return around(self.at("vrDiameter", *handed), self.at("vrDiameterEnds", *handed, OUT[:2]))
@@ -202,7 +231,7 @@ class Mie:
         written = operation(self.c, "vrParameters")(lists, self.c.record(lists=OUT[:LISTS], sheets=OUT))
         if refusal(written) != refusal(a) or (a[0] == "held" and not same((written[1].lists, written[1].sheets), (self.lists, self.sheets))):
             return None, []
-        return refusal(a), [hashed(patterns(self.lists), patterns(self.sheets))]
+        return refusal(a), [hashed(filled_lists(patterns(self.lists)), filled(SET, patterns(self.sheets)))]
 
     def stage(self, first, last):
         return told(self.c.get("stages", "Stages", "mieStage")(self.handed(first), number(last.value), *map(floats, last.cut(2)), last.flag == 1))

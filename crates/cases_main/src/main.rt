@@ -3,6 +3,11 @@ ghost use Prim.Native.Nat.{_<_, _≤_};
 
 // ---- lines
 
+// Places for floats and for bytes: what is read, and each list that is lent.
+const FLOATS: usize = 2080;
+
+const BYTES: usize = 448;
+
 fn wide(x: u8) -> u64
     ensures { λ r. ⌜ r < 256 ⌝ }
 {
@@ -34,22 +39,22 @@ fn inside(k: u64, from: u64, times: u64) -> bool {
 }
 
 // The line's bits into its places of a list.
-fn fill(l: &mut [f64; 1088], line: &[u8; 32]) {
+fn fill(l: &mut [f64; FLOATS], line: &[u8; 32]) {
     let from = word(line, 1);
     let times = word(line, 2);
     let x = number::of_bits(word(line, 3));
-    for k in 0usize..1088 {
+    for k in 0usize..FLOATS {
         if inside(k as u64, from, times) {
             l[k] = x;
         }
     }
 }
 
-fn fill_bytes(l: &mut [u8; 208], line: &[u8; 32]) {
+fn fill_bytes(l: &mut [u8; BYTES], line: &[u8; 32]) {
     let from = word(line, 1);
     let times = word(line, 2);
     let x = line[24];
-    for k in 0usize..208 {
+    for k in 0usize..BYTES {
         if inside(k as u64, from, times) {
             l[k] = x;
         }
@@ -68,7 +73,7 @@ fn written(line: &[u8; 32]) {
 }
 
 // What a line says of what is read: 0 a name's next 24 bytes, 1 floats, 2 bytes.
-fn put_read(line: &[u8; 32], f: &mut [f64; 1088], b: &mut [u8; 208]) {
+fn put_read(line: &[u8; 32], f: &mut [f64; FLOATS], b: &mut [u8; BYTES]) {
     let kind = word(line, 0);
     match kind {
         0 => {
@@ -85,7 +90,7 @@ fn put_read(line: &[u8; 32], f: &mut [f64; 1088], b: &mut [u8; 208]) {
 }
 
 // What a line says of what is lent: 3 and 4 floats, 5 bytes.
-fn put_lent(line: &[u8; 32], x: &mut [f64; 1088], y: &mut [f64; 1088], z: &mut [u8; 208]) {
+fn put_lent(line: &[u8; 32], x: &mut [f64; FLOATS], y: &mut [f64; FLOATS], z: &mut [u8; BYTES]) {
     let kind = word(line, 0);
     match kind {
         3 => {
@@ -102,7 +107,7 @@ fn put_lent(line: &[u8; 32], x: &mut [f64; 1088], y: &mut [f64; 1088], z: &mut [
 }
 
 // What is to be left: what is lent, until 6, 7, 8 say otherwise.
-fn put_left(line: &[u8; 32], x: &mut [f64; 1088], y: &mut [f64; 1088], z: &mut [u8; 208]) {
+fn put_left(line: &[u8; 32], x: &mut [f64; FLOATS], y: &mut [f64; FLOATS], z: &mut [u8; BYTES]) {
     let kind = word(line, 0);
     match kind {
         3 | 6 => {
@@ -504,22 +509,22 @@ fn worked(f: &[f64], b: &[u8], x: &mut [f64], y: &mut [f64], z: &mut [u8]) -> u8
 // ---- a case
 
 // The first place that differs; past the last where there is none.
-fn other_float(a: &[f64; 1088], b: &[f64; 1088]) -> usize {
-    for k in 0usize..1088 {
+fn other_float(a: &[f64; FLOATS], b: &[f64; FLOATS]) -> usize {
+    for k in 0usize..FLOATS {
         if number::bits_of(a[k]) != number::bits_of(b[k]) {
             return k;
         }
     }
-    1088
+    FLOATS
 }
 
-fn other_byte(a: &[u8; 208], b: &[u8; 208]) -> usize {
-    for k in 0usize..208 {
+fn other_byte(a: &[u8; BYTES], b: &[u8; BYTES]) -> usize {
+    for k in 0usize..BYTES {
         if a[k] != b[k] {
             return k;
         }
     }
-    208
+    BYTES
 }
 
 // What is given at a place of a list, and what is not.
@@ -533,7 +538,7 @@ fn differs(label: &[u8], at: usize, given: u64, expected: u64) {
     io::write_all(1, b"\n");
 }
 
-fn same_number(given: u8, f: &[f64; 1088]) -> bool {
+fn same_number(given: u8, f: &[f64; FLOATS]) -> bool {
     let expected = whole_at(f, 1) as u64;
     if wide(given) == expected {
         return true;
@@ -547,18 +552,18 @@ fn same_number(given: u8, f: &[f64; 1088]) -> bool {
     false
 }
 
-fn same_floats(label: &[u8], a: &[f64; 1088], b: &[f64; 1088]) -> bool {
+fn same_floats(label: &[u8], a: &[f64; FLOATS], b: &[f64; FLOATS]) -> bool {
     let k = other_float(a, b);
-    if k < 1088 {
+    if k < FLOATS {
         differs(label, k, number::bits_of(a[k]), number::bits_of(b[k]));
         return false;
     }
     true
 }
 
-fn same_bytes(a: &[u8; 208], b: &[u8; 208]) -> bool {
+fn same_bytes(a: &[u8; BYTES], b: &[u8; BYTES]) -> bool {
     let k = other_byte(a, b);
-    if k < 208 {
+    if k < BYTES {
         differs(
             b"\n    DIFFERS in the bytes, place ",
             k,
@@ -588,11 +593,11 @@ fn lent(f: &[f64], b: &[u8], x: &mut [f64], y: &mut [f64], z: &mut [u8]) -> u8 {
 }
 
 fn called(
-    f: &[f64; 1088],
-    b: &[u8; 208],
-    x: &mut [f64; 1088],
-    y: &mut [f64; 1088],
-    z: &mut [u8; 208],
+    f: &[f64; FLOATS],
+    b: &[u8; BYTES],
+    x: &mut [f64; FLOATS],
+    y: &mut [f64; FLOATS],
+    z: &mut [u8; BYTES],
 ) -> u8 {
     lent(f, b, x, y, z)
 }
@@ -637,14 +642,14 @@ fn is_call(line: &[u8; 32]) -> bool {
 
 fn run(fd: i32) -> Tally {
     let mut line = [0u8; 32];
-    let mut f = [0.0; 1088];
-    let mut b = [0u8; 208];
-    let mut x = [0.0; 1088];
-    let mut y = [0.0; 1088];
-    let mut z = [0u8; 208];
-    let mut x_left = [0.0; 1088];
-    let mut y_left = [0.0; 1088];
-    let mut z_left = [0u8; 208];
+    let mut f = [0.0; FLOATS];
+    let mut b = [0u8; BYTES];
+    let mut x = [0.0; FLOATS];
+    let mut y = [0.0; FLOATS];
+    let mut z = [0u8; BYTES];
+    let mut x_left = [0.0; FLOATS];
+    let mut y_left = [0.0; FLOATS];
+    let mut z_left = [0u8; BYTES];
     let mut t = Tally { calls: 0, other: 0 };
     for turn in 0usize..10000000 {
         if !next_line(fd, &mut line) {

@@ -22,7 +22,7 @@ components sigma epsilon-k lr la i = record { sigma = at sigma i; «epsilon_k» 
 unfoldable pub within : Float → Float → Float → Bool
 within low high x = le low x && le x high
 
--- components 1 to 8
+-- components 1 to 12
 unfoldable pub countWithin : ℕ → Bool
 countWithin n = leb 1 n && leb n side
 

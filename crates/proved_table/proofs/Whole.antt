@@ -96,9 +96,9 @@ outside-0 : countWithin 0 ≡ false
 unfolding countWithin
 outside-0 = refl
 
-outside-9 : countWithin 9 ≡ false
+outside-13 : countWithin 13 ≡ false
 unfolding countWithin
-outside-9 = refl
+outside-13 = refl
 
 pub table : Table
 table =
@@ -112,9 +112,9 @@ table =
       orders-0-3 = λ l w m f. walked l _ _ w m f QuantumRows.orders-0-3;
       m-1-2 = λ l w m f. m-row l w m;
       count-0 = QuantumRows.count-0;
-      count-9 = QuantumRows.count-9;
+      count-13 = QuantumRows.count-13;
       mie-count-0 = λ l p. mie-outside l 0 p outside-0;
-      mie-count-9 = λ l p. mie-outside l 9 p outside-9;
+      mie-count-13 = λ l p. mie-outside l 13 p outside-13;
       root = root-row;
       root-zero = root-zero;
       base-32 = base-32;

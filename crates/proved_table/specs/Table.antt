@@ -60,11 +60,11 @@ pub record Table : Type 0 where
   pub orders-0-3 : Orders (0 ∷ 3 ∷ []) 4
   -- 'm (1,2) with orders (3,0) 3'
   pub m-1-2 : (l : Quantum.Lists) → Within l → l .m ≡ one64 ∷ decimal false 2 0 ∷ [] → l .fh ≡ 3 ∷ 0 ∷ [] → Quantum.saftVRQMiePars l ≡ refused 3
-  -- 'counts 0 and 9 give 1', whatever the lists, in both models
+  -- Slip 8: 'The proved table then has 0 and 13 instead of 0 and 9.' They give 1, whatever the lists, in both models
   pub count-0 : (l : Quantum.Lists) → l .count ≡ 0 → Quantum.saftVRQMiePars l ≡ refused 1
-  pub count-9 : (l : Quantum.Lists) → l .count ≡ 9 → Quantum.saftVRQMiePars l ≡ refused 1
+  pub count-13 : (l : Quantum.Lists) → l .count ≡ 13 → Quantum.saftVRQMiePars l ≡ refused 1
   pub mie-count-0 : (l : Mie.Lists) → l .count ≡ 0 → Mie.saftVRMiePars l ≡ refused 1
-  pub mie-count-9 : (l : Mie.Lists) → l .count ≡ 9 → Mie.saftVRMiePars l ≡ refused 1
+  pub mie-count-13 : (l : Mie.Lists) → l .count ≡ 13 → Mie.saftVRMiePars l ≡ refused 1
   -- 'root of 2.25 is 1.5', 'root of −0 is −0'
   pub root : port .sqrt (decimal false 225 2) ≡ held (decimal false 15 1)
   pub root-zero : port .sqrt (bits 0x8000_0000_0000_0000) ≡ held (bits 0x8000_0000_0000_0000)

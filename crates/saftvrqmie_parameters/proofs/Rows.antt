@@ -54,11 +54,11 @@ pub m-1-2 : saftVRQMiePars (lists 2 (one64 ∷ decimal false 2 0 ∷ []) (3 ∷ 
 unfolding saftVRQMiePars rightLengths countWithin withinLimits componentsWithin componentWithin within massesWithin allWithin pairsWithin pairWithin sameBits allOne every turns demand _>>=_ decimal Ieee.ofBits Ieee.le Ieee.lt Ieee.eq Ieee.isNan Ieee.toBits Ieee.neg
 m-1-2 = refl
 
--- counts 0 and 9 give 1, whatever the lists
+-- counts 0 and 13 give 1, whatever the lists
 pub count-0 : (l : Lists) → l .count ≡ 0 → saftVRQMiePars l ≡ refused 1
 unfolding saftVRQMiePars rightLengths countWithin demand _>>=_
 count-0 l p = rw p
 
-pub count-9 : (l : Lists) → l .count ≡ 9 → saftVRQMiePars l ≡ refused 1
+pub count-13 : (l : Lists) → l .count ≡ 13 → saftVRQMiePars l ≡ refused 1
 unfolding saftVRQMiePars rightLengths countWithin demand _>>=_
-count-9 l p = rw p
+count-13 l p = rw p

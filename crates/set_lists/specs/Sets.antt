@@ -24,7 +24,7 @@ copied n d from l = filled n (λ i. at d (from + i)) l
 abbrev pub taken : ℕ → List Float → ℕ → List Float
 taken n d from = copied n d from (replicate n zero64)
 
--- ---- a quantum set: its count, m (8), sheets (384) and orders (64 bytes)
+-- ---- a quantum set: its count, m (a side), six sheets and orders (a sheet of bytes)
 pub record QuantumLists : Type 0 where
   pub count : ℕ
   pub m : List Float
@@ -56,7 +56,7 @@ quantumSet right l =
     demand 4 (ordersWithin (l .count) (l .orders)) >>= λ _.
     held (quantumRead l)
 
--- ---- a set of SAFT-VR Mie: its count, lists (40: m, sigma, epsilon_k, lr, la, 8 each) and sheets (384)
+-- ---- a set of SAFT-VR Mie: its count, lists (m, sigma, epsilon_k, lr, la, a side each) and six sheets
 pub record MieLists : Type 0 where
   pub count : ℕ
   pub lists : List Float

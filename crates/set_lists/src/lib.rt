@@ -26,7 +26,7 @@ pub fn copy(n: usize, d: &[f64], from: usize, l: &mut [f64])
     }
 }
 
-// Eight places of a list, which has them.
+// A side of places of a list, which has them.
 pub fn places(list: &[f64], from: usize) -> [f64; SIDE]
     requires { ⌜ from + side ≤ length (now list) ⌝ }
     ensures { λ r. ⌜ r ≡ taken side (now (list .entry)) from ⌝ }

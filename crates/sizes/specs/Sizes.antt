@@ -1,8 +1,8 @@
--- Document 01's sizes: at most 8 components, sheets of 64, entry (i, j) at 8i + j.
+-- The sizes of Slip 8: 'The limit becomes 12 throughout.' 'Sheets grow to 144 places with entry (i, j) at 12i + j'
 use Prim.Native.Nat.{ℕ, _+_, _*_}
 
 abbrev pub side : ℕ
-side = 8
+side = 12
 
 abbrev pub sheet : ℕ
 sheet = side * side

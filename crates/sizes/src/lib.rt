@@ -1,11 +1,11 @@
-// Document 01's sizes, the one place that has them: how many components, how long each list, and where each sheet of a set or table starts.
+// Slip 8's sizes, the one place that has them: how many components, how long each list, and where each sheet of a set or table starts.
 pub mod counts;
 pub mod mie_set;
 pub mod quantum_set;
 pub mod table;
 
 // The side of a sheet: the most components. A sheet holds a number for each pair, entry (i, j) at SIDE * i + j.
-pub const SIDE: usize = 8;
+pub const SIDE: usize = 12;
 
 pub const SHEET: usize = SIDE * SIDE;
 

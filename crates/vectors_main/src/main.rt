@@ -1,4 +1,4 @@
-// Runs the calls of data/quantum.bin and data/mie.bin and compares each answer, bit for bit, with the one in the file. A record is 24 words, least significant byte first, and a list of words; docs/VECTORS.md says which. Writes for each operation how often it gave each number (0 for accepted), and how many calls differ.
+// Runs the calls of data/quantum.bin and data/mie.bin, and of 9 to 12 components those of both files beside them, and compares each answer, bit for bit, with the one in the file. A record is 24 words, least significant byte first, and a list of words; docs/VECTORS.md says which. Places of lists go by sheet, row and column, so that the files hold whatever the side is. Writes for each operation how often it gave each number (0 for accepted), and how many calls differ.
 ghost use Prim.Native.Nat.{_<_, _≤_};
 use saftvrmie_energies::EnergyAnswer;
 use saftvrmie_parameters::SaftVRMiePars;
@@ -6,6 +6,29 @@ use saftvrqmie_energies::EnergiesAnswer;
 use saftvrqmie_parameters::FeynmanHibbsOrder;
 use saftvrqmie_parameters::OrderRecord;
 use saftvrqmie_parameters::SaftVRQMiePars;
+use sizes::COUNTS;
+use sizes::SHEET;
+use sizes::SHEETS;
+use sizes::SIDE;
+use sizes::TABLE;
+
+// A record's head in bytes, and the most words of its list.
+const HEAD: usize = 192;
+
+const WORDS: usize = 512;
+
+const BYTES: usize = 4096;
+
+// What a place is of: component lists, a set's sheets, its orders, the table's sheets or the diameters, the table's counts.
+const LIST: u64 = 1000000;
+
+const SET: u64 = 2000000;
+
+const ORDERS: u64 = 3000000;
+
+const WORKED: u64 = 4000000;
+
+const SPENT: u64 = 5000000;
 
 // ---- records
 
@@ -23,7 +46,7 @@ fn half(a: u8, b: u8, c: u8, d: u8) -> u64
 
 // Eight bytes at 8 * k; 0 where there are none.
 fn word(b: &[u8], k: usize) -> u64 {
-    if 256 <= k {
+    if WORDS <= k {
         return 0;
     }
     let i = 8 * k;
@@ -34,19 +57,33 @@ fn word(b: &[u8], k: usize) -> u64 {
         + 4294967296 * half(b[i + 4], b[i + 5], b[i + 6], b[i + 7])
 }
 
-fn head_word(head: &[u8; 192], k: usize) -> u64 {
+fn head_word(head: &[u8; HEAD], k: usize) -> u64 {
     word(head, k)
 }
 
 // A length at a word of the head.
-fn length_at(head: &[u8; 192], k: usize) -> usize
-    ensures { λ r. ⌜ r ≤ 256 ⌝ }
+fn length_at(head: &[u8; HEAD], k: usize) -> usize
+    ensures { λ r. ⌜ r ≤ 512 ⌝ }
 {
     let n = word(head, k);
-    if 256 < n {
+    if 512 < n {
         return 0;
     }
     n as usize
+}
+
+// The length of a list that is whole, one place shorter, or empty, by a word of the head.
+fn lent(head: &[u8; HEAD], k: usize, whole: usize) -> usize {
+    match word(head, k) {
+        0 => whole,
+        1 => {
+            if whole == 0 {
+                return 0;
+            }
+            whole - 1
+        }
+        _ => 0,
+    }
 }
 
 fn read_list(fd: i32, bytes: &mut [u8], end: usize) -> bool {
@@ -61,18 +98,18 @@ fn read_list(fd: i32, bytes: &mut [u8], end: usize) -> bool {
 }
 
 // The next head and its list; false at the end.
-fn next_record(fd: i32, head: &mut [u8; 192], bytes: &mut [u8; 2048]) -> bool {
+fn next_record(fd: i32, head: &mut [u8; HEAD], bytes: &mut [u8; BYTES]) -> bool {
     let n = io::read_full(fd, head);
-    if n != 192 {
+    if n != HEAD {
         return false;
     }
     let end = 8 * length_at(head, 5);
     read_list(fd, bytes, end)
 }
 
-fn floats_of(bytes: &[u8; 2048]) -> [f64; 256] {
-    let mut l = [0.0; 256];
-    for k in 0usize..256 {
+fn floats_of(bytes: &[u8; BYTES]) -> [f64; WORDS] {
+    let mut l = [0.0; WORDS];
+    for k in 0usize..WORDS {
         l[k] = number::of_bits(word(bytes, k));
     }
     l
@@ -89,8 +126,8 @@ fn part(l: &[f64], from: usize, n: usize) -> &[f64] {
     &l[0..0]
 }
 
-fn byte_at(bytes: &[u8; 2048], from: usize, k: usize) -> u8 {
-    if 256 <= from {
+fn byte_at(bytes: &[u8; BYTES], from: usize, k: usize) -> u8 {
+    if WORDS <= from {
         return 0;
     }
     if 16 <= k {
@@ -100,7 +137,7 @@ fn byte_at(bytes: &[u8; 2048], from: usize, k: usize) -> u8 {
 }
 
 // The orders from a word of the list on, as bytes.
-fn orders_from(bytes: &[u8; 2048], from: usize) -> [u8; 16] {
+fn orders_from(bytes: &[u8; BYTES], from: usize) -> [u8; 16] {
     let mut l = [0u8; 16];
     for k in 0usize..16 {
         l[k] = byte_at(bytes, from, k);
@@ -117,6 +154,26 @@ fn first_bytes(l: &[u8], n: usize) -> &[u8] {
 
 fn part_of_orders(l: &[u8; 16], n: usize) -> &[u8] {
     first_bytes(l, n)
+}
+
+// ---- places
+
+// The number of a place: 10000 for each sheet, 100 for each row, 1 for each column.
+fn place_of(k: usize) -> u64
+    ensures { λ r. ⌜ r ≤ 1000000 ⌝ }
+{
+    let sheet = (k / SHEET % 64) as u64;
+    let row = (k % SHEET / SIDE) as u64;
+    let column = (k % SIDE) as u64;
+    10000 * sheet + 100 * row + column
+}
+
+// The place of a number, without what it is of.
+fn index_of(place: u64) -> usize {
+    let sheet = (place / 10000 % 100) as usize;
+    let row = (place / 100 % 100) as usize;
+    let column = (place % 100) as usize;
+    SHEET * sheet + SIDE * row + column
 }
 
 // ---- FNV-1a over the bytes of words
@@ -141,20 +198,28 @@ fn with_word(h: u64, w: u64) -> u64 {
 
 const START: u64 = 0xcbf2_9ce4_8422_2325;
 
-fn with_floats(h: u64, l: &[f64]) -> u64 {
+// A place of a list: its number and its bits, if it is not +0.
+fn with_place(h: u64, from: u64, k: usize, bits: u64) -> u64 {
+    if bits == 0 {
+        return h;
+    }
+    with_word(with_word(h, add(from, place_of(k))), bits)
+}
+
+fn with_floats(h: u64, from: u64, l: &[f64]) -> u64 {
     let n = l.len();
     let mut r = h;
     for i in 0usize..n {
-        r = with_word(r, number::bits_of(l[i]));
+        r = with_place(r, from, i, number::bits_of(l[i]));
     }
     r
 }
 
-fn with_bytes(h: u64, l: &[u8]) -> u64 {
+fn with_bytes(h: u64, from: u64, l: &[u8]) -> u64 {
     let n = l.len();
     let mut r = h;
     for i in 0usize..n {
-        r = with_word(r, wide(l[i]));
+        r = with_place(r, from, i, wide(l[i]));
     }
     r
 }
@@ -167,12 +232,12 @@ fn number_of_order(order: FeynmanHibbsOrder) -> u64 {
     }
 }
 
-fn with_orders(h: u64, orders: [OrderRecord; 64]) -> u64 {
+fn with_orders(h: u64, orders: [OrderRecord; SHEET]) -> u64 {
     let mut r = h;
-    for i in 0usize..64 {
+    for i in 0usize..SHEET {
         let record = orders[i];
         let order = record.order;
-        r = with_word(r, number_of_order(order));
+        r = with_place(r, ORDERS, i, number_of_order(order));
     }
     r
 }
@@ -181,7 +246,10 @@ fn hash_of_quantum(set: SaftVRQMiePars) -> u64 {
     let m = set.m;
     let sheets = set.sheets;
     let orders = set.orders;
-    with_orders(with_floats(with_floats(START, &m), &sheets), orders)
+    with_orders(
+        with_floats(with_floats(START, LIST, &m), SET, &sheets),
+        orders,
+    )
 }
 
 fn hash_of_mie(set: SaftVRMiePars) -> u64 {
@@ -191,9 +259,10 @@ fn hash_of_mie(set: SaftVRMiePars) -> u64 {
     let lr = set.lr;
     let la = set.la;
     let sheets = set.sheets;
-    let a = with_floats(with_floats(START, &m), &sigma);
-    let b = with_floats(with_floats(a, &epsilon_k), &lr);
-    with_floats(with_floats(b, &la), &sheets)
+    let a = with_floats(with_floats(START, LIST, &m), LIST + 10000, &sigma);
+    let b = with_floats(a, LIST + 20000, &epsilon_k);
+    let c = with_floats(with_floats(b, LIST + 30000, &lr), LIST + 40000, &la);
+    with_floats(c, SET, &sheets)
 }
 
 // ---- what was met
@@ -226,22 +295,22 @@ fn noted(tally: Tally, operation: usize, number: u64, same: bool) -> Tally {
 }
 
 // Whether a number and a word are the head's.
-fn as_told(head: &[u8; 192], number: u8, k: usize, bits: u64) -> bool {
+fn as_told(head: &[u8; HEAD], number: u8, k: usize, bits: u64) -> bool {
     (word(head, 1) == wide(number)) & (word(head, k) == bits)
 }
 
 // The number of the k-th place that was changed by hand; past the list's end one that no list has.
-fn place_at(head: &[u8; 192], bytes: &[u8; 2048], k: usize) -> u64 {
+fn place_at(head: &[u8; HEAD], bytes: &[u8; BYTES], k: usize) -> u64 {
     if 128 <= k {
-        return 9000;
+        return 9000000;
     }
     if length_at(head, 5) < 2 * k + 2 {
-        return 9000;
+        return 9000000;
     }
     word(bytes, 2 * k)
 }
 
-fn bits_at(bytes: &[u8; 2048], k: usize) -> u64 {
+fn bits_at(bytes: &[u8; BYTES], k: usize) -> u64 {
     if 128 <= k {
         return 0;
     }
@@ -251,9 +320,9 @@ fn bits_at(bytes: &[u8; 2048], k: usize) -> u64 {
 // ---- the quantum model
 
 fn quantum_parameters(
-    head: &[u8; 192],
-    bytes: &[u8; 2048],
-    l: &[f64; 256],
+    head: &[u8; HEAD],
+    bytes: &[u8; BYTES],
+    l: &[f64; WORDS],
 ) -> saftvrqmie_parameters::ParameterSet {
     let b = length_at(head, 6);
     let c = b + length_at(head, 7);
@@ -278,7 +347,7 @@ fn quantum_parameters(
     )
 }
 
-fn quantum_set_told(head: &[u8; 192], given: saftvrqmie_parameters::ParameterSet) -> bool {
+fn quantum_set_told(head: &[u8; HEAD], given: saftvrqmie_parameters::ParameterSet) -> bool {
     let answer = given.answer;
     let number = mie_parameters::number(answer);
     as_told(head, number, 15, hash_of_quantum(given.set))
@@ -309,29 +378,29 @@ fn table_into(
 }
 
 fn quantum_table(
-    head: &[u8; 192],
+    head: &[u8; HEAD],
     set: SaftVRQMiePars,
-    table: &mut [f64; 256],
-    counts: &mut [u8; 192],
+    table: &mut [f64; TABLE],
+    counts: &mut [u8; COUNTS],
 ) -> bool {
     let t = number::of_bits(word(head, 3));
     let number = table_into(
         set,
         t,
         table,
-        length_at(head, 6),
+        lent(head, 6, TABLE),
         counts,
-        length_at(head, 7),
+        lent(head, 7, COUNTS),
     );
-    as_told(head, number, 15, with_floats(START, table))
-        & as_told(head, number, 16, with_bytes(START, counts))
+    as_told(head, number, 15, with_floats(START, WORKED, table))
+        & as_told(head, number, 16, with_bytes(START, SPENT, counts))
 }
 
 fn quantum_energies(
-    head: &[u8; 192],
-    l: &[f64; 256],
+    head: &[u8; HEAD],
+    l: &[f64; WORDS],
     set: SaftVRQMiePars,
-    table: &[f64; 256],
+    table: &[f64; TABLE],
 ) -> bool {
     let n = length_at(head, 6);
     let answer = saftvrqmie_energies::helmholtz_energy_densities(
@@ -339,7 +408,7 @@ fn quantum_energies(
         number::of_bits(word(head, 3)),
         part(l, 0, n),
         part(l, n, length_at(head, 7)),
-        part(table, 0, length_at(head, 8)),
+        part(table, 0, lent(head, 8, TABLE)),
         word(head, 4) == 1,
     );
     match answer {
@@ -355,23 +424,23 @@ fn quantum_energies(
 // A place of the set changed by hand.
 fn quantum_place(set: SaftVRQMiePars, place: u64, bits: u64) -> SaftVRQMiePars {
     let mut s = set;
-    let at = (place % 1000) as usize;
-    let of = place / 1000;
+    let at = index_of(place);
+    let of = place / LIST;
     if of == 0 {
         s.count = bits as usize;
     }
     if of == 1 {
-        if at < 8 {
+        if at < SIDE {
             s.m[at] = number::of_bits(bits);
         }
     }
     if of == 2 {
-        if at < 384 {
+        if at < SHEETS {
             s.sheets[at] = number::of_bits(bits);
         }
     }
     if of == 3 {
-        if at < 64 {
+        if at < SHEET {
             let order = saftvrqmie_parameters::order_of((bits % 256) as u8);
             s.orders[at] = OrderRecord { order };
         }
@@ -379,7 +448,7 @@ fn quantum_place(set: SaftVRQMiePars, place: u64, bits: u64) -> SaftVRQMiePars {
     s
 }
 
-fn quantum_by_hand(head: &[u8; 192], bytes: &[u8; 2048], set: SaftVRQMiePars) -> SaftVRQMiePars {
+fn quantum_by_hand(head: &[u8; HEAD], bytes: &[u8; BYTES], set: SaftVRQMiePars) -> SaftVRQMiePars {
     let mut s = set;
     for k in 0usize..128 {
         s = quantum_place(s, place_at(head, bytes, k), bits_at(bytes, k));
@@ -388,8 +457,8 @@ fn quantum_by_hand(head: &[u8; 192], bytes: &[u8; 2048], set: SaftVRQMiePars) ->
 }
 
 fn store(list: &mut [f64], place: u64, bits: u64) {
-    let at = (place % 1000) as usize;
-    if place / 1000 == 4 {
+    let at = index_of(place);
+    if place / LIST == 4 {
         if at < list.len() {
             list[at] = number::of_bits(bits);
         }
@@ -397,23 +466,23 @@ fn store(list: &mut [f64], place: u64, bits: u64) {
 }
 
 // The places of the table, or of the diameters, that were changed by hand.
-fn list_by_hand(head: &[u8; 192], bytes: &[u8; 2048], list: &mut [f64]) {
+fn list_by_hand(head: &[u8; HEAD], bytes: &[u8; BYTES], list: &mut [f64]) {
     for k in 0usize..128 {
         store(list, place_at(head, bytes, k), bits_at(bytes, k));
     }
 }
 
-fn table_by_hand(head: &[u8; 192], bytes: &[u8; 2048], table: &mut [f64; 256]) {
+fn table_by_hand(head: &[u8; HEAD], bytes: &[u8; BYTES], table: &mut [f64; TABLE]) {
     list_by_hand(head, bytes, table);
 }
 
-fn diameters_by_hand(head: &[u8; 192], bytes: &[u8; 2048], d: &mut [f64; 8]) {
+fn diameters_by_hand(head: &[u8; HEAD], bytes: &[u8; BYTES], d: &mut [f64; SIDE]) {
     list_by_hand(head, bytes, d);
 }
 
 // ---- SAFT-VR Mie
 
-fn mie_parameters_of(head: &[u8; 192], l: &[f64; 256]) -> saftvrmie_parameters::ParameterSet {
+fn mie_parameters_of(head: &[u8; HEAD], l: &[f64; WORDS]) -> saftvrmie_parameters::ParameterSet {
     let b = length_at(head, 6);
     let c = b + length_at(head, 7);
     let d = c + length_at(head, 8);
@@ -432,27 +501,10 @@ fn mie_parameters_of(head: &[u8; 192], l: &[f64; 256]) -> saftvrmie_parameters::
     )
 }
 
-fn mie_set_told(head: &[u8; 192], given: saftvrmie_parameters::ParameterSet) -> bool {
+fn mie_set_told(head: &[u8; HEAD], given: saftvrmie_parameters::ParameterSet) -> bool {
     let answer = given.answer;
     let number = mie_parameters::number(answer);
     as_told(head, number, 15, hash_of_mie(given.set))
-}
-
-// An answer's word of the head.
-fn answer_at(head: &[u8; 192], i: usize) -> u64 {
-    if 8 < i {
-        return 0;
-    }
-    word(head, 15 + i)
-}
-
-// Whether the diameters are the head's.
-fn diameters_told(head: &[u8; 192], d: &[f64; 8]) -> bool {
-    let mut same = true;
-    for i in 0usize..8 {
-        same = same & (answer_at(head, i) == number::bits_of(d[i]));
-    }
-    same
 }
 
 fn diameters_into(set: SaftVRMiePars, t: f64, d: &mut [f64], n: usize) -> u8 {
@@ -463,13 +515,18 @@ fn diameters_into(set: SaftVRMiePars, t: f64, d: &mut [f64], n: usize) -> u8 {
     mie_parameters::number(answer)
 }
 
-fn mie_diameters(head: &[u8; 192], set: SaftVRMiePars, d: &mut [f64; 8]) -> bool {
+fn mie_diameters(head: &[u8; HEAD], set: SaftVRMiePars, d: &mut [f64; SIDE]) -> bool {
     let t = number::of_bits(word(head, 3));
     let number = diameters_into(set, t, d, length_at(head, 6));
-    (word(head, 1) == wide(number)) & diameters_told(head, d)
+    as_told(head, number, 15, with_floats(START, WORKED, d))
 }
 
-fn mie_dispersion(head: &[u8; 192], l: &[f64; 256], set: SaftVRMiePars, d: &[f64; 8]) -> bool {
+fn mie_dispersion(
+    head: &[u8; HEAD],
+    l: &[f64; WORDS],
+    set: SaftVRMiePars,
+    d: &[f64; SIDE],
+) -> bool {
     let n = length_at(head, 6);
     let answer = saftvrmie_energies::dispersion(
         set,
@@ -485,19 +542,19 @@ fn mie_dispersion(head: &[u8; 192], l: &[f64; 256], set: SaftVRMiePars, d: &[f64
     }
 }
 
-// A component list with one place changed, if the place is one of its eight.
-fn stored(l: [f64; 8], from: usize, at: usize, x: f64) -> [f64; 8] {
+// A component list with one place changed, if the place is one of this list's; the lists' places start at 100 to 104 times 10000.
+fn stored(l: [f64; SIDE], list: u64, place: u64, x: f64) -> [f64; SIDE] {
     let mut r = l;
-    if from <= at {
-        let i = at - from;
-        if i < 8 {
+    let i = (place % 100) as usize;
+    if place / 10000 == list {
+        if i < SIDE {
             r[i] = x;
         }
     }
     r
 }
 
-fn mie_lists(set: SaftVRMiePars, at: usize, x: f64) -> SaftVRMiePars {
+fn mie_lists(set: SaftVRMiePars, place: u64, x: f64) -> SaftVRMiePars {
     let m = set.m;
     let sigma = set.sigma;
     let epsilon_k = set.epsilon_k;
@@ -506,17 +563,17 @@ fn mie_lists(set: SaftVRMiePars, at: usize, x: f64) -> SaftVRMiePars {
     let sheets = set.sheets;
     SaftVRMiePars {
         count: set.count,
-        m: stored(m, 0, at, x),
-        sigma: stored(sigma, 8, at, x),
-        epsilon_k: stored(epsilon_k, 16, at, x),
-        lr: stored(lr, 24, at, x),
-        la: stored(la, 32, at, x),
+        m: stored(m, 100, place, x),
+        sigma: stored(sigma, 101, place, x),
+        epsilon_k: stored(epsilon_k, 102, place, x),
+        lr: stored(lr, 103, place, x),
+        la: stored(la, 104, place, x),
         sheets,
     }
 }
 
 // The row of the tally: dispersion alone, or with chain.
-fn dispersion_row(head: &[u8; 192]) -> usize {
+fn dispersion_row(head: &[u8; HEAD]) -> usize {
     if word(head, 4) == 1 {
         return 6;
     }
@@ -525,23 +582,23 @@ fn dispersion_row(head: &[u8; 192]) -> usize {
 
 fn mie_place(set: SaftVRMiePars, place: u64, bits: u64) -> SaftVRMiePars {
     let mut s = set;
-    let at = (place % 1000) as usize;
-    let of = place / 1000;
+    let at = index_of(place);
+    let of = place / LIST;
     if of == 0 {
         s.count = bits as usize;
     }
     if of == 1 {
-        s = mie_lists(s, at, number::of_bits(bits));
+        s = mie_lists(s, place, number::of_bits(bits));
     }
     if of == 2 {
-        if at < 384 {
+        if at < SHEETS {
             s.sheets[at] = number::of_bits(bits);
         }
     }
     s
 }
 
-fn mie_by_hand(head: &[u8; 192], bytes: &[u8; 2048], set: SaftVRMiePars) -> SaftVRMiePars {
+fn mie_by_hand(head: &[u8; HEAD], bytes: &[u8; BYTES], set: SaftVRMiePars) -> SaftVRMiePars {
     let mut s = set;
     for k in 0usize..128 {
         s = mie_place(s, place_at(head, bytes, k), bits_at(bytes, k));
@@ -553,10 +610,10 @@ fn mie_by_hand(head: &[u8; 192], bytes: &[u8; 2048], set: SaftVRMiePars) -> Saft
 
 fn quantum_file(fd: i32, tally: Tally) -> Tally {
     let mut t = tally;
-    let mut head = [0u8; 192];
-    let mut bytes = [0u8; 2048];
-    let mut table = [0.0; 256];
-    let mut counts = [0u8; 192];
+    let mut head = [0u8; HEAD];
+    let mut bytes = [0u8; BYTES];
+    let mut table = [0.0; TABLE];
+    let mut counts = [0u8; COUNTS];
     let none = saftvrqmie_parameters::refused_with(1);
     let mut set = none.set;
     for turn in 0usize..1000000 {
@@ -579,8 +636,8 @@ fn quantum_file(fd: i32, tally: Tally) -> Tally {
                 t = noted(t, 2, told, quantum_energies(&head, &l, set, &table));
             }
             10 => {
-                table = [0.0; 256];
-                counts = [0u8; 192];
+                table = [0.0; TABLE];
+                counts = [0u8; COUNTS];
             }
             _ => {
                 set = quantum_by_hand(&head, &bytes, set);
@@ -593,9 +650,9 @@ fn quantum_file(fd: i32, tally: Tally) -> Tally {
 
 fn mie_file(fd: i32, tally: Tally) -> Tally {
     let mut t = tally;
-    let mut head = [0u8; 192];
-    let mut bytes = [0u8; 2048];
-    let mut d = [0.0; 8];
+    let mut head = [0u8; HEAD];
+    let mut bytes = [0u8; BYTES];
+    let mut d = [0.0; SIDE];
     let none = saftvrmie_parameters::refused_with(1);
     let mut set = none.set;
     for turn in 0usize..1000000 {
@@ -618,7 +675,7 @@ fn mie_file(fd: i32, tally: Tally) -> Tally {
                 t = noted(t, dispersion_row(&head), told, same);
             }
             10 => {
-                d = [0.0; 8];
+                d = [0.0; SIDE];
             }
             _ => {
                 set = mie_by_hand(&head, &bytes, set);
@@ -662,25 +719,7 @@ fn row(name: &[u8], tally: Tally, operation: usize) {
     io::write_all(1, b" differ\n");
 }
 
-fn main() {
-    let mut t = Tally {
-        met: [0; 63],
-        other: [0; 7],
-    };
-    let quantum = os::open_read(b"quantum.bin");
-    if quantum < 0 {
-        os::fail(b"quantum.bin");
-        return;
-    }
-    t = quantum_file(quantum, t);
-    libc::close(quantum);
-    let mie = os::open_read(b"mie.bin");
-    if mie < 0 {
-        os::fail(b"mie.bin");
-        return;
-    }
-    t = mie_file(mie, t);
-    libc::close(mie);
+fn rows(t: Tally) {
     row(b"quantum parameters   ", t, 0);
     row(b"quantum table        ", t, 1);
     row(b"quantum energies     ", t, 2);
@@ -688,4 +727,41 @@ fn main() {
     row(b"VR Mie diameters     ", t, 4);
     row(b"VR Mie dispersion    ", t, 5);
     row(b"VR Mie and chain     ", t, 6);
+}
+
+fn quantum_calls(name: &[u8], tally: Tally) -> Tally {
+    let fd = os::open_read(name);
+    if fd < 0 {
+        os::fail(name);
+        return tally;
+    }
+    let t = quantum_file(fd, tally);
+    libc::close(fd);
+    t
+}
+
+fn mie_calls(name: &[u8], tally: Tally) -> Tally {
+    let fd = os::open_read(name);
+    if fd < 0 {
+        os::fail(name);
+        return tally;
+    }
+    let t = mie_file(fd, tally);
+    libc::close(fd);
+    t
+}
+
+fn no_calls() -> Tally {
+    Tally {
+        met: [0; 63],
+        other: [0; 7],
+    }
+}
+
+fn main() {
+    let quantum = quantum_calls(b"quantum.bin", no_calls());
+    rows(mie_calls(b"mie.bin", quantum));
+    io::write_all(1, b"9 to 12 components\n");
+    let more = quantum_calls(b"quantum_9_to_12.bin", no_calls());
+    rows(mie_calls(b"mie_9_to_12.bin", more));
 }

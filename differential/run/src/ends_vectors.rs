@@ -3,7 +3,7 @@ use crate::oracle::{self, State};
 use crate::random::Random;
 use crate::sizes::{SIDE, TABLE};
 use crate::states::{self, Kind};
-use crate::vectors::{File, Mie, Quantum, Record, all_bits, bits, length, save, wide};
+use crate::vectors::{File, Mie, Quantum, Record, all_bits, at_both_sides, bits, length, save, short, wide};
 
 const NAMES: [&str; 7] = [
     "quantum energies' ends",
@@ -27,12 +27,12 @@ fn answered(mut r: Record, answer: Result<Vec<u64>, u8>) -> Record {
     r
 }
 
-fn of_state(what: u64, s: &State, flag: bool, lent: usize) -> Record {
+fn of_state(what: u64, s: &State, flag: bool, lent: u64) -> Record {
     Record {
         what,
         value: bits(s.temperature),
         flag: flag as u64,
-        lengths: [s.fractions.len(), s.densities.len(), lent].map(|n| n as u64).to_vec(),
+        lengths: vec![s.fractions.len() as u64, s.densities.len() as u64, lent],
         list: all_bits(&s.fractions).into_iter().chain(all_bits(&s.densities)).collect(),
         ..Default::default()
     }
@@ -59,7 +59,7 @@ fn quantum(g: &mut Random, n: usize, order: u8, odd: bool) -> File {
     if odd && g.once_in(2) {
         let mut set = q.set.clone();
         states::quantum_set_by_hand(g, &mut set);
-        if set.lengths() == oracle::QUANTUM_SET && set.orders.iter().all(|o| *o <= 2) {
+        if set.lengths() == oracle::QUANTUM_SET && set.orders.iter().all(|o| *o <= 2) && at_both_sides(q.set.count, set.count) {
             q.by_hand(set, q.table.clone());
         }
     }
@@ -90,7 +90,7 @@ fn quantum(g: &mut Random, n: usize, order: u8, odd: bool) -> File {
         }
         let lent = length(g, odd, TABLE);
         let ends = oracle::vrq_energies_ends(&q.set, &state, &q.table[..lent], turn == 0, 6);
-        q.file.call(NAMES[0], answered(of_state(7, &state, turn == 0, lent), ends.map(|e| all_bits(&e))));
+        q.file.call(NAMES[0], answered(of_state(7, &state, turn == 0, short(lent, TABLE)), ends.map(|e| all_bits(&e))));
     }
     q.file
 }
@@ -106,7 +106,7 @@ fn mie(g: &mut Random, n: usize, odd: bool) -> File {
     if odd && g.once_in(2) {
         let mut set = v.set.clone();
         states::mie_set_by_hand(g, &mut set);
-        if set.lengths() == oracle::MIE_SET {
+        if set.lengths() == oracle::MIE_SET && at_both_sides(v.set.count, set.count) {
             v.by_hand(set, v.diameters.clone());
         }
     }
@@ -131,7 +131,7 @@ fn mie(g: &mut Random, n: usize, odd: bool) -> File {
     let lent = length(g, odd, n);
     for chain in [false, true] {
         let ends = oracle::vr_dispersion_ends(&v.set, &state, &v.diameters[..lent], chain, 2);
-        v.file.call(NAMES[3 + chain as usize], answered(of_state(9, &state, chain, lent), ends.map(|e| all_bits(&e))));
+        v.file.call(NAMES[3 + chain as usize], answered(of_state(9, &state, chain, lent as u64), ends.map(|e| all_bits(&e))));
     }
     v.file
 }

@@ -17,7 +17,9 @@ const NUMBERS: [(&str, &[u8]); 7] = [
     (MIE[2], &[0, 1, 2, 6, 7]),
     (MIE[3], &[0, 1, 2, 6, 7]),
 ];
-const OFTEN: u64 = 25;
+const OFTEN: u64 = 3;
+/// The files of 1 to 8 components were written when a side was 8, and are kept.
+const FEWEST: usize = 9;
 
 /// One record: 24 words, then its list.
 #[derive(Default)]
@@ -39,7 +41,7 @@ impl Record {
         words.resize(15, 0);
         words.extend(&self.answers);
         words.resize(24, 0);
-        assert!(self.lengths.len() <= 9 && self.answers.len() <= 9 && self.list.len() <= 256);
+        assert!(self.lengths.len() <= 9 && self.answers.len() <= 9 && self.list.len() <= 512);
         words.extend(&self.list);
         words
     }
@@ -55,10 +57,40 @@ pub fn all_bits(list: &[f64]) -> Vec<u64> {
 pub fn wide(list: &[u8]) -> Vec<u64> {
     list.iter().map(|b| *b as u64).collect()
 }
+
+/// What a list holds: component lists, a set's sheets, its orders, a table's sheets or diameters, a table's counts.
+const LIST: u64 = 1_000_000;
+const SET: u64 = 2_000_000;
+const ORDERS: u64 = 3_000_000;
+const WORKED: u64 = 4_000_000;
+const SPENT: u64 = 5_000_000;
+
+/// The number of a place, the same whatever the side: 10000 for each sheet, 100 for each row, 1 for each column.
+fn place(from: u64, k: usize) -> u64 {
+    from + (10_000 * (k / SHEET) + 100 * (k % SHEET / SIDE) + k % SIDE) as u64
+}
+/// The places that are not +0, each with its number and bits.
+fn filled(from: u64, list: &[u64]) -> Vec<u64> {
+    (0..list.len()).filter(|&k| list[k] != 0).flat_map(|k| [place(from, k), list[k]]).collect()
+}
+/// The five component lists, one behind the other: the number of a list is that of a sheet.
+fn filled_lists(lists: &[f64]) -> Vec<u64> {
+    lists.chunks(SIDE).enumerate().flat_map(|(k, l)| filled(LIST + 10_000 * k as u64, &all_bits(l))).collect()
+}
 /// FNV-1a over the words' bytes, least significant first.
-fn hash(lists: &[&[u64]]) -> u64 {
+fn hash(lists: &[Vec<u64>]) -> u64 {
     let bytes = lists.iter().flat_map(|l| l.iter()).flat_map(|w| w.to_le_bytes());
     bytes.fold(0xcbf2_9ce4_8422_2325, |h, b| (h ^ b as u64).wrapping_mul(0x100_0000_01b3))
+}
+/// How much shorter a list is than the right length: 0, 1, or 2 for an empty one.
+pub fn short(lent: usize, right: usize) -> u64 {
+    match right - lent {
+        0 | 1 => (right - lent) as u64,
+        _ => {
+            assert!(lent == 0);
+            2
+        }
+    }
 }
 
 /// A file's records, the calls in it by operation and number, and what its searches did.
@@ -98,7 +130,11 @@ impl File {
 }
 
 fn changed(from: u64, old: &[u64], new: &[u64]) -> Vec<(u64, u64)> {
-    (0..old.len()).filter(|&k| old[k] != new[k]).map(|k| (from + k as u64, new[k])).collect()
+    (0..old.len()).filter(|&k| old[k] != new[k]).map(|k| (place(from, k), new[k])).collect()
+}
+fn changed_lists(old: &[f64], new: &[f64]) -> Vec<(u64, u64)> {
+    let lists = old.chunks(SIDE).zip(new.chunks(SIDE)).enumerate();
+    lists.flat_map(|(k, (a, b))| changed(LIST + 10_000 * k as u64, &all_bits(a), &all_bits(b))).collect()
 }
 
 /// What the program holds between calls: a refused call of the parameters leaves a set of count 0, any other leaves all as it was.
@@ -126,24 +162,25 @@ impl Quantum {
         r.number = answer.as_ref().err().copied().unwrap_or(0) as u64;
         let held = answer.is_ok();
         self.set = answer.unwrap_or_else(|_| Quantum::new().set);
-        r.answers = vec![hash(&[&all_bits(&self.set.m), &all_bits(&self.set.sheets), &wide(&self.set.orders)])];
+        r.answers = vec![hash(&[filled_lists(&self.set.m), filled(SET, &all_bits(&self.set.sheets)), filled(ORDERS, &wide(&self.set.orders))])];
         self.file.call(QUANTUM[0], r);
         held
     }
 
     pub fn by_hand(&mut self, set: QuantumSet, table: Vec<f64>) {
         let mut places = changed(0, &[self.set.count as u64], &[set.count as u64]);
-        places.extend(changed(1000, &all_bits(&self.set.m), &all_bits(&set.m)));
-        places.extend(changed(2000, &all_bits(&self.set.sheets), &all_bits(&set.sheets)));
-        places.extend(changed(3000, &wide(&self.set.orders), &wide(&set.orders)));
-        places.extend(changed(4000, &all_bits(&self.table), &all_bits(&table)));
+        places.extend(changed_lists(&self.set.m, &set.m));
+        places.extend(changed(SET, &all_bits(&self.set.sheets), &all_bits(&set.sheets)));
+        places.extend(changed(ORDERS, &wide(&self.set.orders), &wide(&set.orders)));
+        places.extend(changed(WORKED, &all_bits(&self.table), &all_bits(&table)));
         self.file.edit(11, &places);
         (self.set, self.table) = (set, table);
     }
 
     pub fn table(&mut self, t: f64, lent: [usize; 2]) {
         let answer = oracle::vrq_table(&self.set, t, lent);
-        let mut r = Record { what: 2, value: bits(t), lengths: lent.map(|n| n as u64).to_vec(), ..Default::default() };
+        let lengths = vec![short(lent[0], TABLE), short(lent[1], COUNTS)];
+        let mut r = Record { what: 2, value: bits(t), lengths, ..Default::default() };
         match answer {
             Ok((table, counts)) => {
                 (self.table, self.counts) = (table.to_vec(), counts.to_vec());
@@ -151,14 +188,14 @@ impl Quantum {
             }
             Err(number) => r.number = number as u64,
         }
-        r.answers = vec![hash(&[&all_bits(&self.table)]), hash(&[&wide(&self.counts)])];
+        r.answers = vec![hash(&[filled(WORKED, &all_bits(&self.table))]), hash(&[filled(SPENT, &wide(&self.counts))])];
         self.file.call(QUANTUM[1], r);
     }
 
     fn energies(&mut self, s: &State, non_additive: bool, lent: usize) {
         let answer = oracle::vrq_energies(&self.set, s, &self.table[..lent], non_additive, 3);
         let mut r = Record { what: 3, value: bits(s.temperature), flag: non_additive as u64, ..Default::default() };
-        r.lengths = [s.fractions.len(), s.densities.len(), lent].map(|n| n as u64).to_vec();
+        r.lengths = vec![s.fractions.len() as u64, s.densities.len() as u64, short(lent, TABLE)];
         r.list = all_bits(&s.fractions).into_iter().chain(all_bits(&s.densities)).collect();
         match answer {
             Ok(energies) => r.answers = all_bits(&energies),
@@ -190,16 +227,16 @@ impl Mie {
         r.number = answer.as_ref().err().copied().unwrap_or(0) as u64;
         let held = answer.is_ok();
         self.set = answer.unwrap_or_else(|_| Mie::new().set);
-        r.answers = vec![hash(&[&all_bits(&self.set.lists), &all_bits(&self.set.sheets)])];
+        r.answers = vec![hash(&[filled_lists(&self.set.lists), filled(SET, &all_bits(&self.set.sheets))])];
         self.file.call(MIE[0], r);
         held
     }
 
     pub fn by_hand(&mut self, set: MieSet, diameters: Vec<f64>) {
         let mut places = changed(0, &[self.set.count as u64], &[set.count as u64]);
-        places.extend(changed(1000, &all_bits(&self.set.lists), &all_bits(&set.lists)));
-        places.extend(changed(2000, &all_bits(&self.set.sheets), &all_bits(&set.sheets)));
-        places.extend(changed(4000, &all_bits(&self.diameters), &all_bits(&diameters)));
+        places.extend(changed_lists(&self.set.lists, &set.lists));
+        places.extend(changed(SET, &all_bits(&self.set.sheets), &all_bits(&set.sheets)));
+        places.extend(changed(WORKED, &all_bits(&self.diameters), &all_bits(&diameters)));
         self.file.edit(12, &places);
         (self.set, self.diameters) = (set, diameters);
     }
@@ -210,7 +247,7 @@ impl Mie {
             Ok(d) => self.diameters[..lent].copy_from_slice(&d),
             Err(number) => r.number = number as u64,
         }
-        r.answers = all_bits(&self.diameters);
+        r.answers = vec![hash(&[filled(WORKED, &all_bits(&self.diameters))])];
         self.file.call(MIE[1], r);
     }
 
@@ -225,6 +262,11 @@ impl Mie {
         }
         self.file.call(MIE[2 + chain as usize], r);
     }
+}
+
+/// Whether a count that was set by hand means the same at a side of 8 and of 12.
+pub fn at_both_sides(old: usize, new: usize) -> bool {
+    new == old || new <= 8 || 12 < new
 }
 
 /// A length that is mostly right and never longer than what is there.
@@ -253,7 +295,7 @@ fn quantum(g: &mut Random, n: usize, order: Option<u8>, odd: bool) -> File {
     if odd && g.once_in(3) {
         let mut set = q.set.clone();
         states::quantum_set_by_hand(g, &mut set);
-        if set.lengths() == oracle::QUANTUM_SET && set.orders.iter().all(|o| *o <= 2) {
+        if set.lengths() == oracle::QUANTUM_SET && set.orders.iter().all(|o| *o <= 2) && at_both_sides(q.set.count, set.count) {
             q.by_hand(set, q.table.clone());
         }
     }
@@ -296,7 +338,7 @@ fn mie(g: &mut Random, n: usize, odd: bool) -> File {
     if odd && g.once_in(3) {
         let mut set = v.set.clone();
         states::mie_set_by_hand(g, &mut set);
-        if set.lengths() == oracle::MIE_SET {
+        if set.lengths() == oracle::MIE_SET && at_both_sides(v.set.count, set.count) {
             v.by_hand(set, v.diameters.clone());
         }
     }
@@ -326,13 +368,11 @@ fn mie(g: &mut Random, n: usize, odd: bool) -> File {
 fn file(names: &[&'static str], seed: u64, chain: &dyn Fn(&mut Random, usize, usize, bool) -> File) -> File {
     let mut g = Random(seed);
     let mut file = File::default();
-    for n in 1..=SIDE {
-        for turn in 0..if n < 4 { 60 } else { 12 } {
-            file.join(chain(&mut g, n, turn, false));
-        }
+    for n in FEWEST..=SIDE {
+        (0..6).for_each(|turn| file.join(chain(&mut g, n, turn, false)));
     }
-    for _ in 0..300 {
-        let n = g.one_of(&[1, 1, 1, 2, 2, 3, 4]);
+    for _ in 0..40 {
+        let n = FEWEST + g.below(SIDE + 1 - FEWEST);
         file.join(chain(&mut g, n, 0, true));
     }
     let numbers = |name| NUMBERS.iter().find(|x| x.0 == name).unwrap().1;
@@ -343,7 +383,7 @@ fn file(names: &[&'static str], seed: u64, chain: &dyn Fn(&mut Random, usize, us
             break;
         }
         assert!(tries < 2_000_000, "not met: {lacking:?}");
-        let n = g.one_of(&[1, 1, 2]);
+        let n = FEWEST + g.below(SIDE + 1 - FEWEST);
         let one = chain(&mut g, n, 0, true);
         if lacking.iter().any(|x| one.met.contains_key(x)) {
             file.join(one);
@@ -365,6 +405,6 @@ pub fn write(folder: &str) {
     let quantum_file = file(&QUANTUM, 0x51, &|g, n, turn, odd| quantum(g, n, (!odd).then_some(turn as u8 % 3), odd));
     assert!(quantum_file.spent.iter().all(|n| *n >= OFTEN));
     let mie_file = file(&MIE, 0x52, &|g, n, _, odd| mie(g, n, odd));
-    save(folder, "quantum.bin", &quantum_file);
-    save(folder, "mie.bin", &mie_file);
+    save(folder, "quantum_9_to_12.bin", &quantum_file);
+    save(folder, "mie_9_to_12.bin", &mie_file);
 }

@@ -5,10 +5,10 @@ use Rattle.cases_main.proofs.fill.Statement.{statement}
 use Rattle.cases_main.proofs.fill.Tie as tie
 
 abbrev Inv-loop : tie.InvT-loop
-Inv-loop l₀ line from times x k₀ l k = k ≤ 1088
+Inv-loop l₀ line from times x k₀ l k = k ≤ 2080
 
 abbrev μ-loop : tie.MeasureT-loop
-μ-loop l₀ line from times x k₀ l k = 1088 - k
+μ-loop l₀ line from times x k₀ l k = 2080 - k
 
 word-requires : tie.Need-word-requires Inv-loop μ-loop
 word-requires c κs = search needs

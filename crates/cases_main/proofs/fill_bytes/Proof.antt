@@ -5,10 +5,10 @@ use Rattle.cases_main.proofs.fill_bytes.Statement.{statement}
 use Rattle.cases_main.proofs.fill_bytes.Tie as tie
 
 abbrev Inv-loop : tie.InvT-loop
-Inv-loop l₀ line from times x k₀ l k = k ≤ 208
+Inv-loop l₀ line from times x k₀ l k = k ≤ 448
 
 abbrev μ-loop : tie.MeasureT-loop
-μ-loop l₀ line from times x k₀ l k = 208 - k
+μ-loop l₀ line from times x k₀ l k = 448 - k
 
 word-requires : tie.Need-word-requires Inv-loop μ-loop
 word-requires c κs = search needs

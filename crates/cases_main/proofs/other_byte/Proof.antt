@@ -5,10 +5,10 @@ use Rattle.cases_main.proofs.other_byte.Statement.{statement}
 use Rattle.cases_main.proofs.other_byte.Tie as tie
 
 abbrev Inv-loop : tie.InvT-loop
-Inv-loop a b k₀ k = k ≤ 208
+Inv-loop a b k₀ k = k ≤ 448
 
 abbrev μ-loop : tie.MeasureT-loop
-μ-loop a b k₀ k = 208 - k
+μ-loop a b k₀ k = 448 - k
 
 loop-holds : tie.Need-loop-holds Inv-loop μ-loop
 loop-holds c = search needs

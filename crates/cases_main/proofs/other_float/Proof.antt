@@ -5,10 +5,10 @@ use Rattle.cases_main.proofs.other_float.Statement.{statement}
 use Rattle.cases_main.proofs.other_float.Tie as tie
 
 abbrev Inv-loop : tie.InvT-loop
-Inv-loop a b k₀ k = k ≤ 1088
+Inv-loop a b k₀ k = k ≤ 2080
 
 abbrev μ-loop : tie.MeasureT-loop
-μ-loop a b k₀ k = 1088 - k
+μ-loop a b k₀ k = 2080 - k
 
 loop-holds : tie.Need-loop-holds Inv-loop μ-loop
 loop-holds c = search needs

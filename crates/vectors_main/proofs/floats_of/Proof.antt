@@ -5,10 +5,10 @@ use Rattle.vectors_main.proofs.floats_of.Statement.{statement}
 use Rattle.vectors_main.proofs.floats_of.Tie as tie
 
 abbrev Inv-loop : tie.InvT-loop
-Inv-loop bytes l₀ k₀ l k = k ≤ 256
+Inv-loop bytes l₀ k₀ l k = k ≤ 512
 
 abbrev μ-loop : tie.MeasureT-loop
-μ-loop bytes l₀ k₀ l k = 256 - k
+μ-loop bytes l₀ k₀ l k = 512 - k
 
 loop-holds : tie.Need-loop-holds Inv-loop μ-loop
 loop-holds c = search needs

@@ -5,10 +5,10 @@ use Rattle.vectors_main.proofs.with_bytes.Statement.{statement}
 use Rattle.vectors_main.proofs.with_bytes.Tie as tie
 
 abbrev Inv-loop : tie.InvT-loop
-Inv-loop h l n r₀ i₀ r i = i ≤ n
+Inv-loop h from l n r₀ i₀ r i = i ≤ n
 
 abbrev μ-loop : tie.MeasureT-loop
-μ-loop h l n r₀ i₀ r i = n - i
+μ-loop h from l n r₀ i₀ r i = n - i
 
 loop-holds : tie.Need-loop-holds Inv-loop μ-loop
 loop-holds c = search needs
@@ -19,8 +19,8 @@ shared-slice-read-wide c = search needs
 wide-requires : tie.Need-wide-requires Inv-loop μ-loop
 wide-requires c κs = search needs
 
-with-word-requires : tie.Need-with-word-requires Inv-loop μ-loop
-with-word-requires c κs = search needs
+with-place-requires : tie.Need-with-place-requires Inv-loop μ-loop
+with-place-requires c κs = search needs
 
 add-i : tie.Need-add-i Inv-loop μ-loop
 add-i c = search needs
@@ -43,7 +43,7 @@ with-bytes-spec =
     loop-holds
     shared-slice-read-wide
     wide-requires
-    with-word-requires
+    with-place-requires
     add-i
     loop-less
     loop-again

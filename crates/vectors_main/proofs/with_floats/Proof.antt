@@ -5,10 +5,10 @@ use Rattle.vectors_main.proofs.with_floats.Statement.{statement}
 use Rattle.vectors_main.proofs.with_floats.Tie as tie
 
 abbrev Inv-loop : tie.InvT-loop
-Inv-loop h l n r₀ i₀ r i = i ≤ n
+Inv-loop h from l n r₀ i₀ r i = i ≤ n
 
 abbrev μ-loop : tie.MeasureT-loop
-μ-loop h l n r₀ i₀ r i = n - i
+μ-loop h from l n r₀ i₀ r i = n - i
 
 loop-holds : tie.Need-loop-holds Inv-loop μ-loop
 loop-holds c = search needs
@@ -22,8 +22,8 @@ shared-slice-read-bits-of c = search needs
 bits-of-requires : tie.Need-bits-of-requires Inv-loop μ-loop
 bits-of-requires c κs = search needs
 
-with-word-requires : tie.Need-with-word-requires Inv-loop μ-loop
-with-word-requires c κs = search needs
+with-place-requires : tie.Need-with-place-requires Inv-loop μ-loop
+with-place-requires c κs = search needs
 
 add-i : tie.Need-add-i Inv-loop μ-loop
 add-i c = search needs
@@ -47,7 +47,7 @@ with-floats-spec =
     mul-bits-of
     shared-slice-read-bits-of
     bits-of-requires
-    with-word-requires
+    with-place-requires
     add-i
     loop-less
     loop-again

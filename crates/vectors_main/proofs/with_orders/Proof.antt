@@ -1,14 +1,15 @@
 -- `vectors_main::with_orders` meets its contract. Assumes nothing.
 use Prim.Native.Nat.{_≤_, _-_}
+use Rattle.sizes.specs.Sizes.{sheet}
 use borrow.Author.Needs.{needs}
 use Rattle.vectors_main.proofs.with_orders.Statement.{statement}
 use Rattle.vectors_main.proofs.with_orders.Tie as tie
 
 abbrev Inv-loop : tie.InvT-loop
-Inv-loop h orders r₀ i₀ r i = i ≤ 64
+Inv-loop h orders r₀ i₀ r i = i ≤ sheet
 
 abbrev μ-loop : tie.MeasureT-loop
-μ-loop h orders r₀ i₀ r i = 64 - i
+μ-loop h orders r₀ i₀ r i = sheet - i
 
 loop-holds : tie.Need-loop-holds Inv-loop μ-loop
 loop-holds c = search needs
@@ -19,8 +20,8 @@ array-copy-out-record c = search needs
 number-of-order-requires : tie.Need-number-of-order-requires Inv-loop μ-loop
 number-of-order-requires c κs = search needs
 
-with-word-requires : tie.Need-with-word-requires Inv-loop μ-loop
-with-word-requires c κs = search needs
+with-place-requires : tie.Need-with-place-requires Inv-loop μ-loop
+with-place-requires c κs = search needs
 
 add-i : tie.Need-add-i Inv-loop μ-loop
 add-i c = search needs
@@ -43,7 +44,7 @@ with-orders-spec =
     loop-holds
     array-copy-out-record
     number-of-order-requires
-    with-word-requires
+    with-place-requires
     add-i
     loop-less
     loop-again
