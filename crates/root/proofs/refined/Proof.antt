@@ -1,0 +1,27 @@
+-- `refined` meets its contract. Assumes nothing.
+use borrow.Author.Needs.{needs}
+use Prim.Native.Nat.{_*_, _≤_}
+use native.Mathlib.Nat.{le-of-lt, mul-le-mul}
+use native.Mathlib.Omega.{arith}
+use mir.Facts.{fits-bits}
+use Rattle.root.proofs.TwoSteps.{stepped-fits}
+use Rattle.root.proofs.refined.Statement.{statement}
+use Rattle.root.proofs.refined.Tie as tie
+
+mul-result : tie.Need-mul-result
+mul-result c = let h : c .args .y * c .args .y ≤ 131072 * 131072 = mul-le-mul (le-of-lt (c .pre .0)) (le-of-lt (c .pre .0)) in omega arith
+
+mul-result-2 : tie.Need-mul-result-2
+mul-result-2 c = search needs
+
+sub-result : tie.Need-sub-result
+sub-result c = search needs
+
+mul-result-3 : tie.Need-mul-result-3
+mul-result-3 c = fits-bits 64 tt (stepped-fits (c .args .y) (c .args .c) (c .pre .0) (c .pre .1))
+
+returns : tie.Need-returns
+returns c = search needs
+
+pub refined-spec : {M : Type 1} → statement M
+refined-spec = tie.close (tie.spec mul-result mul-result-2 sub-result mul-result-3 returns)
