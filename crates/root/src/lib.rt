@@ -88,12 +88,14 @@ fn nearest_root(m: u64, e: u64) -> f64
 pub fn sqrt(x: f64) -> FloatAnswer
     ensures { λ r. ⌜ answer r ≡ root x ⌝ }
 {
-    if x == 0.0 {
-        return FloatAnswer::Value(x);
+    if !(0.0 < x) {
+        if x == 0.0 {
+            return FloatAnswer::Value(x);
+        }
+        return FloatAnswer::Outside;
     }
     let infinity = f64::from_bits(0x7ff0_0000_0000_0000);
-    let inside = (0.0 < x) & (x < infinity);
-    if !inside {
+    if !(x < infinity) {
         return FloatAnswer::Outside;
     }
     let b = f64::to_bits(x);
