@@ -1,5 +1,5 @@
 -- Two steps of Newton's from the table's entry: how near they come, 2 ^ 62 being one. Assumes nothing.
-use mathlib.Core.Path.{_≡_, refl}
+use mathlib.Core.Path.{_≡_}
 use Prim.Native.Nat.{ℕ, _+_, _-_, _*_, _/_, _^_, _≤_, _<_}
 use native.Mathlib.Nat.{le-trans, le-of-eq, le-of-lt, mul-le-mul, mul-le-mul-left, mul-le-mul-right, div-mul-le-self, lt-div-mul-add, lt-of-not-le, mul-one}
 use native.Mathlib.Decide.{decLe}
@@ -9,34 +9,25 @@ use Rattle.root.specs.Inverse.{Inverse}
 use Rattle.root.proofs.Newton.{step-over, step-near}
 use Rattle.root.proofs.Square.{root-lt, root-le}
 
--- what `refined` gives
+-- 3 - y² c, and what `refined` gives
+abbrev gap : ℕ → ℕ → ℕ
+gap y c = 13835058055282163712 - y * y * c
+
 abbrev pub stepped : ℕ → ℕ → ℕ
-stepped y c = (13835058055282163712 - y * y * c) / 262144 * y
+stepped y c = gap y c / 262144 * y
 
 module _ (y c : ℕ) (few : y < 2 ^ 17) (small : y * y * c ≤ 2 ^ 62 + 2 ^ 55) where
-  abbrev v : ℕ
-  v = 13835058055282163712 - y * y * c
-
-  sum : y * y * c + v ≡ 3 * 2 ^ 62
+  sum : y * y * c + gap y c ≡ 3 * 2 ^ 62
   sum = lin (y * y * c) small
     where
       lin : (u : ℕ) → u ≤ 2 ^ 62 + 2 ^ 55 → u + (13835058055282163712 - u) ≡ 13835058055282163712
       lin u h = omega arith
 
-  not-above : stepped y c * 2 ^ 18 ≤ v * y
-  not-above = let h = simp ring at (mul-le-mul-right y (div-mul-le-self v 262144)) in simp ring (omega arith)
+  not-above : stepped y c * 2 ^ 18 ≤ gap y c * y
+  not-above = let h = simp ring at (mul-le-mul-right y (div-mul-le-self (gap y c) 262144)) in simp ring (omega arith)
 
-  not-below : v * y ≤ stepped y c * 2 ^ 18 + 2 ^ 35
-  not-below = let h = simp ring at (mul-le-mul-right y (le-of-lt (lt-div-mul-add {a = v} {b = 262144} (omega arith)))) in simp ring (omega arith)
-
-  pub stepped-fits : stepped y c < 2 ^ 64
-  stepped-fits =
-      let h : v / 262144 ≤ 70368744177664 = lin (y * y * c) in
-      let k : v / 262144 * y ≤ 70368744177664 * 131072 = mul-le-mul h (le-of-lt few) in
-      omega arith
-    where
-      lin : (u : ℕ) → (13835058055282163712 - u) / 262144 ≤ 70368744177664
-      lin u = omega arith
+  not-below : gap y c * y ≤ stepped y c * 2 ^ 18 + 2 ^ 35
+  not-below = let h = simp ring at (mul-le-mul-right y (le-of-lt (lt-div-mul-add {a = gap y c} {b = 262144} (omega arith)))) in simp ring (omega arith)
 
 -- y c from y² c
 times : (y c d e : ℕ) → y * y * c ≤ d → c ≤ e → (m : ℕ) → d * e ≤ m * m → y * c ≤ m
@@ -51,7 +42,7 @@ module _ (y c : ℕ) (few : y < 2 ^ 17) (C : c ≤ 2 ^ 30) (over : y * y * c ≤
   z = stepped y c / 35184372088832
 
   pub first-over : z * z * c ≤ 2 ^ 62
-  first-over = simp (mul-one) at (step-over y c (2 ^ 62) (v y c few over) 1 (sum y c few over) (omega arith) z (lin (stepped y c) (v y c few over * y) (not-above y c few over)))
+  first-over = simp (mul-one) at (step-over y c (2 ^ 62) (gap y c) 1 (sum y c few over) (omega arith) z (lin (stepped y c) (gap y c * y) (not-above y c few over)))
     where
       lin : (r x : ℕ) → r * 2 ^ 18 ≤ x → r / 35184372088832 * (2 * 2 ^ 62) ≤ x * 1
       lin r x h = omega arith
@@ -59,7 +50,7 @@ module _ (y c : ℕ) (few : y < 2 ^ 17) (C : c ≤ 2 ^ 30) (over : y * y * c ≤
   pub first-near : 2 ^ 62 ≤ z * z * c + 325 * 2 ^ 40
   first-near =
       end z (times z c (2 ^ 62) (2 ^ 30) first-over C (2 ^ 46) (omega arith))
-      (step-near y c (2 ^ 62) (v y c few over) 1048576 (sum y c few over) (omega arith) ((z + 1) * 1048576 + 1) (2 ^ 55) (49 * 2 ^ 42) (lin (stepped y c) (v y c few over * y) (not-below y c few over)) near over (omega arith) (omega arith))
+      (step-near y c (2 ^ 62) (gap y c) 1048576 (sum y c few over) (omega arith) ((z + 1) * 1048576 + 1) (2 ^ 55) (49 * 2 ^ 42) (lin (stepped y c) (gap y c * y) (not-below y c few over)) near over (omega arith) (omega arith))
     where
       lin : (r x : ℕ) → x ≤ r * 2 ^ 18 + 2 ^ 35 → x * 1048576 ≤ ((r / 35184372088832 + 1) * 1048576 + 1) * (2 * 2 ^ 62)
       lin r x h = omega arith
@@ -76,7 +67,7 @@ module _ (y c : ℕ) (few : y < 2 ^ 17) (C : c ≤ 2 ^ 30) (over : y * y * c ≤
   over' = le-trans over (omega arith)
 
   pub second-over : w * w * c ≤ 2 ^ 90
-  second-over = step-over y c (2 ^ 62) (v y c few over') 16384 (sum y c few over') (omega arith) w (lin (stepped y c) (v y c few over' * y) (not-above y c few over'))
+  second-over = step-over y c (2 ^ 62) (gap y c) 16384 (sum y c few over') (omega arith) w (lin (stepped y c) (gap y c * y) (not-above y c few over'))
     where
       lin : (r x : ℕ) → r * 2 ^ 18 ≤ x → r / 2147483648 * (2 * 2 ^ 62) ≤ x * 16384
       lin r x h = omega arith
@@ -84,7 +75,7 @@ module _ (y c : ℕ) (few : y < 2 ^ 17) (C : c ≤ 2 ^ 30) (over : y * y * c ≤
   pub second-near : 2 ^ 90 ≤ w * w * c + 7 * 2 ^ 60
   second-near =
       end w (times w c (2 ^ 90) (2 ^ 30) second-over C (2 ^ 60) (omega arith))
-      (step-near y c (2 ^ 62) (v y c few over') 16777216 (sum y c few over') (omega arith) ((w + 1) * 1024 + 1) (325 * 2 ^ 40) (80870 * 2 ^ 18) (lin (stepped y c) (v y c few over' * y) (not-below y c few over')) near (le-trans over (omega arith)) (omega arith) (omega arith))
+      (step-near y c (2 ^ 62) (gap y c) 16777216 (sum y c few over') (omega arith) ((w + 1) * 1024 + 1) (325 * 2 ^ 40) (80870 * 2 ^ 18) (lin (stepped y c) (gap y c * y) (not-below y c few over')) near (le-trans over (omega arith)) (omega arith) (omega arith))
     where
       lin : (r x : ℕ) → x ≤ r * 2 ^ 18 + 2 ^ 35 → x * 16777216 ≤ ((r / 2147483648 + 1) * 1024 + 1) * (2 * 2 ^ 62)
       lin r x h = omega arith

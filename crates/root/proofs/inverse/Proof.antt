@@ -1,7 +1,7 @@
 -- `inverse` meets its contract: the table's entry and two steps of Newton's. Assumes nothing.
 use borrow.Author.Needs.{needs}
 use mathlib.Core.Path.{_≡_, ap, _∙_}
-use Prim.Native.Nat.{ℕ, _/_, _^_, _≤_, _<_}
+use Prim.Native.Nat.{ℕ, _/_, _^_, _<_}
 use Rattle.root.proofs.Start.{chosen, scaled, start-few, start-over, start-near, scaled-size}
 use Rattle.root.proofs.TwoSteps.{stepped, mid-few, mid-fits, inverse-is}
 use Rattle.root.proofs.inverse.Statement.{statement}
