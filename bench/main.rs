@@ -133,7 +133,7 @@ fn main() {
     intervals();
     println!("elementary functions: independent calls on random arguments");
     println!("{:<14} {:>9} {:>9} {:>7} {:>6}", "function", "platf. ns", "port ns", "ratio", "goal");
-    elementary("sqrt", 0.5, 4.5, 12.0, port::SQRT, f64::sqrt);
+    elementary("sqrt", 0.5, 4.5, 4.0, port::SQRT, f64::sqrt);
     elementary("ln", 0.001, 1000.0, 6.0, port::LN, f64::ln);
     elementary("ln_1p", -0.9, 10.0, 6.0, port::LN_1P, f64::ln_1p);
     elementary("exp", -20.0, 20.0, 1.6, port::EXP, f64::exp);

@@ -5,6 +5,7 @@ use Prim.Native.Nat.{ℕ, zero, suc, _+_, _-_, _*_, _/_, _%_, _^_, _≤_, _<_}
 use native.Mathlib.Nat.{mul-pos, zero-mul, mul-div-cancel, zero-lt-suc, lt-of-not-le, add-comm}
 use native.Mathlib.Omega.{arith}
 use native.Mathlib.Decide.{decLe}
+use borrow.Author.Tests.{not-false}
 use lib.Dec.{T, leb, ltb, eqb, leb→le, le→leb, lt→ltb, eqb→eq, not-T}
 use lib.IntN.{ℤ}
 use lib.Ieee.{Float, nan, inf, fin, fits, isNan, binary64, odd, ofFields, ofBits, toBits, up, down, lt, eq}
@@ -42,26 +43,34 @@ above-zero m e = is-true (ltb (0 * 1 * down e) (suc m * up e * 1)) (lt→ltb (0 
     go : (u d : ℕ) → 0 < u → 0 * 1 * d < u * 1
     go u d h = omega arith
 
--- the code's test
-abbrev outside : Float → Bool
-outside x = not (lt (ofBits binary64 0) x && lt x (ofBits binary64 9218868437227405312))
-
-pub outside-root : (x : Float) → eq x (ofBits binary64 0) ≡ false → outside x ≡ true → refused 6 ≡ root x
-unfolding lt ofBits root
-outside-root nan z h = refl
-outside-root (inf s) z h = refl
-outside-root (fin s zero e) z h = absurd (is-zero s e z)
-outside-root (fin true (suc m) e) z h = refl
-outside-root (fin false (suc m) e) z h = absurd (subst T (sym (rw (above-zero m e) at h)) tt)
-
-pub inside-positive : (x : Float) → eq x (ofBits binary64 0) ≡ false → outside x ≡ false → T (positive x)
+not-above : (s : Bool) (e : ℤ) → lt (ofBits binary64 0) (fin s zero e) ≡ true → ⊥
 unfolding lt ofBits
-inside-positive nan z h = absurd (subst T h tt)
-inside-positive (inf true) z h = absurd (subst T h tt)
-inside-positive (inf false) z h = absurd (subst T h tt)
-inside-positive (fin s zero e) z h = absurd (is-zero s e z)
-inside-positive (fin true (suc m) e) z h = absurd (subst T h tt)
-inside-positive (fin false (suc m) e) z h = lt→ltb 0 (suc m) (zero-lt-suc m)
+not-above true e h = absurd (subst T (sym h) tt)
+not-above false e h = let k = simp zero-mul at h in absurd (subst T (sym k) tt)
+
+-- the code's tests
+pub below-root : (x : Float) → not (lt (ofBits binary64 0) x) ≡ true → eq x (ofBits binary64 0) ≡ false → refused 6 ≡ root x
+unfolding root
+below-root nan h z = refl
+below-root (inf s) h z = refl
+below-root (fin s zero e) h z = absurd (is-zero s e z)
+below-root (fin true (suc m) e) h z = refl
+below-root (fin false (suc m) e) h z = absurd (subst T (sym (rw (above-zero m e) at h)) tt)
+
+pub infinite-root : (x : Float) → not (lt x (ofBits binary64 9218868437227405312)) ≡ true → refused 6 ≡ root x
+unfolding lt ofBits root
+infinite-root nan h = refl
+infinite-root (inf s) h = refl
+infinite-root (fin s m e) h = absurd (subst T (sym h) tt)
+
+pub inside-positive : (x : Float) → not (lt (ofBits binary64 0) x) ≡ false → not (lt x (ofBits binary64 9218868437227405312)) ≡ false → T (positive x)
+unfolding lt ofBits
+inside-positive nan h k = absurd (subst T h tt)
+inside-positive (inf true) h k = absurd (subst T h tt)
+inside-positive (inf false) h k = absurd (subst T k tt)
+inside-positive (fin s zero e) h k = absurd (not-above s e (not-false _ h))
+inside-positive (fin true (suc m) e) h k = absurd (subst T h tt)
+inside-positive (fin false (suc m) e) h k = lt→ltb 0 (suc m) (zero-lt-suc m)
 
 pub positive-no-nan : (x : Float) → T (positive x) → T (not (isNan x))
 unfolding isNan

@@ -1,31 +1,19 @@
--- The rule of the table of reciprocals, by one computed test, and the stage from which the passes start. Assumes nothing.
+-- The rule of the table of reciprocals, by one computed test, and what it says of the entry for a number. Assumes nothing.
 use mathlib.Core.Path.{_≡_, subst}
 use mathlib.Core.Bool.{Bool, true, _&&_}
 use mathlib.Core.List.{List, [], _∷_}
-use Prim.Native.Nat.{ℕ, _+_, _-_, _*_, _/_, _%_, _^_, _≤_, _<_}
-use native.Mathlib.Nat.{le-trans, mul-one}
+use Prim.Native.Nat.{ℕ, _+_, _-_, _*_, _/_, _^_, _≤_, _<_}
+use native.Mathlib.Nat.{le-trans, mul-le-mul-left}
 use native.Mathlib.Omega.{arith}
 use lib.Dec.{T, leb, leb→le}
 use lib.ListN.{getD}
 use lib.Ieee.Fits.{and-l, and-r}
 use Rattle.root.specs.Reciprocals.{reciprocals}
-use Rattle.root.specs.Stage.{slack, Stage, digits}
 use Rattle.root.proofs.Table.{every, at}
 
--- the first 12 digits of the root
-abbrev pub guess : ℕ → ℕ → ℕ
-guess j y = (2 * j + 1) * y / 4096
-
--- what the passes ask of the entry y for the first eight digits j: of each pair that the left one is at most the right one
+-- what Newton's steps ask of the entry y for the first eight digits j: of each pair that the left one is at most the right one
 abbrev entry : ℕ → ℕ → List (ℕ × ℕ)
-entry j y =
-    (16384, y)
-    ∷ (y + 1, 65536)
-    ∷ ((j + 1) * 2 ^ 28, 2 ^ 33 / y * (2 ^ 33 / y))
-    ∷ (guess j y * guess j y, j * 65536)
-    ∷ ((j + 1) * 65536, guess j y * guess j y + 34 * guess j y)
-    ∷ (40629 * 2 ^ 34, 5242880 * (guess j y * y))
-    ∷ []
+entry j y = (y + 1, 2 ^ 17) ∷ (2 ^ 62, y * y * (j * 2 ^ 22) + 2 ^ 55) ∷ (y * y * ((j + 1) * 2 ^ 22), 2 ^ 62 + 2 ^ 55) ∷ []
 
 abbrev tests : List (ℕ × ℕ) → Bool
 tests [] = true
@@ -54,49 +42,36 @@ looked j h k =
     under j h k = omega arith
 
 -- ---- the start, for a number a of 63 or 64 digits
-abbrev pub first : ℕ → ℕ
-first a = a / 72057594037927936
-
 abbrev pub chosen : ℕ → ℕ
-chosen a = getD reciprocals (first a - 64) 0
+chosen a = getD reciprocals (a / 72057594037927936 - 64) 0
+
+abbrev pub scaled : ℕ → ℕ
+scaled a = a / 17179869184 + 1
 
 module _ (a : ℕ) (long : 2 ^ 62 ≤ a) (fits : a < 2 ^ 64) where
-  abbrev g : ℕ
-  g = guess (first a) (chosen a)
+  holds : Holds (entry (a / 72057594037927936) (chosen a))
+  holds = looked (a / 72057594037927936) (omega arith) (omega arith)
 
-  holds : Holds (entry (first a) (chosen a))
-  holds = looked (first a) (omega arith) (omega arith)
-
-  pub start-y : chosen a < 65536
-  start-y = lin (chosen a) (holds .1 .0)
+  pub start-few : chosen a < 2 ^ 17
+  start-few = lin (chosen a) (holds .0)
     where
-      lin : (y : ℕ) → y + 1 ≤ 65536 → y < 65536
+      lin : (y : ℕ) → y + 1 ≤ 131072 → y < 131072
       lin y h = omega arith
 
-  pub start-square : g * g ≤ a / 1099511627776
-  start-square = le-trans (holds .1 .1 .1 .0) (digits-le a)
+  pub start-over : chosen a * chosen a * scaled a ≤ 2 ^ 62 + 2 ^ 55
+  start-over = le-trans (mul-le-mul-left (chosen a * chosen a) (lin a)) (holds .1 .1 .0)
     where
-      digits-le : (a : ℕ) → a / 72057594037927936 * 65536 ≤ a / 1099511627776
-      digits-le a = omega arith
+      lin : (a : ℕ) → a / 17179869184 + 1 ≤ (a / 72057594037927936 + 1) * 4194304
+      lin a = omega arith
 
-  pub start-stage : Stage (chosen a) 0 g (a / 1099511627776 - g * g)
-  unfolding slack
-  start-stage = record {
-    few = start-y;
-    many = holds .0;
-    rest = left a g (g * g) (holds .1 .1 .1 .1 .0);
-    over = rw (mul-one (2 ^ 33 / chosen a)) (le-trans (over a (g * g) start-square) (holds .1 .1 .0));
-    near = holds .1 .1 .1 .1 .1 .0;
-  }
+  pub start-near : 2 ^ 62 ≤ chosen a * chosen a * scaled a + 2 ^ 55
+  start-near = end _ _ (mul-le-mul-left (chosen a * chosen a) (lin a)) (holds .1 .0)
     where
-      left : (a g gg : ℕ) → (a / 72057594037927936 + 1) * 65536 ≤ gg + 34 * g → a / 1099511627776 - gg ≤ 34 * g
-      left a g gg h = omega arith
+      lin : (a : ℕ) → a / 72057594037927936 * 4194304 ≤ a / 17179869184 + 1
+      lin a = omega arith
 
-      over : (a gg : ℕ) → gg ≤ a / 1099511627776 → (gg + (a / 1099511627776 - gg) + 1) * 4096 ≤ (a / 72057594037927936 + 1) * 268435456
-      over a gg h = omega arith
+      end : (x y : ℕ) → x ≤ y → 2 ^ 62 ≤ x + 2 ^ 55 → 2 ^ 62 ≤ y + 2 ^ 55
+      end x y h k = omega arith
 
-  pub start-digits : digits g (a / 1099511627776 - g * g) (a % 1099511627776 * 16777216) ≡ a * 2 ^ 24
-  start-digits = go a (g * g) start-square
-    where
-      go : (a gg : ℕ) → gg ≤ a / 1099511627776 → (gg + (a / 1099511627776 - gg)) * 18446744073709551616 + a % 1099511627776 * 16777216 ≡ a * 16777216
-      go a gg h = omega arith
+  pub scaled-size : (2 ^ 28 < scaled a) × (scaled a ≤ 2 ^ 30) × (a ≤ scaled a * 2 ^ 34) × (scaled a * 2 ^ 34 ≤ a + 2 ^ 34)
+  scaled-size = (omega arith, omega arith, omega arith, omega arith)

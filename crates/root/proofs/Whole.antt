@@ -7,7 +7,7 @@ use native.Mathlib.Omega.{arith}
 use lib.Dec.{T, leb, leb→le, nleb→lt}
 use Rattle.number.proofs.Frac.{ring}
 use Rattle.root.specs.Root.{wholeRoot}
-use Rattle.root.proofs.Digit.{root-lt}
+use Rattle.root.proofs.Square.{root-lt}
 
 -- r is the whole root of n
 abbrev pub Whole : ℕ → ℕ → Type 0
@@ -41,44 +41,30 @@ whole-root (suc k) n h =
     go r w true p q = (p tt, high r n (w .1))
     go r w false p q = (low r n (w .0), q tt)
 
--- ---- the corrections, of a root r with rest left of the number a 2 ^ 44
+-- ---- the correction, of a root r with rest left of the number a 2 ^ 44
 pub short : (a r rest : ℕ) → a < 2 ^ 64 → r * r + rest ≡ a * 2 ^ 44 → r < 2 ^ 54
 short a r rest h e = root-lt r 18014398509481984 (lt-of-le-of-lt (le-trans (more (r * r) rest) (le-of-eq e)) (mul-lt-mul-of-pos-right {k = 17592186044416} h (omega arith)))
   where
     more : (u v : ℕ) → u ≤ u + v
     more u v = omega arith
 
--- after k turns
-abbrev pub Turned : ℕ → ℕ → ℕ → ℕ → Type 0
-Turned a k r rest = (k ≤ 2) × (r < 2 ^ 54) × (r * r + rest ≡ a * 2 ^ 44) × (rest + 2 * (k * r) ≤ 6 * r)
+whole-is : (a r : ℕ) → a < 2 ^ 64 → Whole r (a * 2 ^ 44) → r ≡ wholeRoot 54 (a * 2 ^ 44)
+whole-is a r h w = whole-unique r (wholeRoot 54 (a * 2 ^ 44)) (a * 2 ^ 44) w (whole-root 54 (a * 2 ^ 44) (mul-lt-mul-of-pos-right {k = 17592186044416} h (omega arith)))
 
-pub one-up : (a k r rest r' rest' : ℕ) → a < 2 ^ 64 → k < 2 → Turned a k r rest → 2 * r < rest → r' ≡ r + 1 → rest' ≡ rest - (2 * r + 1) → Turned a (k + 1) r' rest'
-one-up a k r rest r' rest' al kl t h e f =
-    let sq : r' * r' + rest' ≡ a * 2 ^ 44 = rw (e, f) (square r rest (a * 2 ^ 44) h (t .2)) in
-    (omega arith, short a r' rest' al sq, sq, rw (e, f) (left k r rest kl h (t .3)))
+pub stays : (a r rest : ℕ) → a < 2 ^ 64 → r * r + rest ≡ a * 2 ^ 44 → rest ≤ 2 * r → r ≡ wholeRoot 54 (a * 2 ^ 44)
+stays a r rest h e k = whole-is a r h (go r rest (a * 2 ^ 44) e k)
   where
-    square : (r rest n : ℕ) → 2 * r < rest → r * r + rest ≡ n → (r + 1) * (r + 1) + (rest - (2 * r + 1)) ≡ n
-    square r rest n h e = let s : (r + 1) * (r + 1) ≡ r * r + 2 * r + 1 = simp ring (omega arith) in omega arith
+    go : (r rest n : ℕ) → r * r + rest ≡ n → rest ≤ 2 * r → Whole r n
+    go r rest n e k = let s : (r + 1) * (r + 1) ≡ r * r + 2 * r + 1 = simp ring (omega arith) in (omega arith, omega arith)
 
-    left : (k r rest : ℕ) → k < 2 → 2 * r < rest → rest + 2 * (k * r) ≤ 6 * r → rest - (2 * r + 1) + 2 * ((k + 1) * (r + 1)) ≤ 6 * (r + 1)
-    left k r rest h l m = let s : (k + 1) * (r + 1) ≡ k * r + k + r + 1 = simp ring (omega arith) in omega arith
-
-pub stays : (a k r rest r' rest' : ℕ) → k < 2 → Turned a k r rest → rest ≤ 2 * r → r' ≡ r → rest' ≡ rest → Turned a (k + 1) r' rest'
-stays a k r rest r' rest' kl t h e f = rw (e, f) (omega arith, t .1, t .2, let s : (k + 1) * r ≤ 2 * r = mul-le-mul-right r (next k kl) in omega arith)
+pub one-up : (a r rest : ℕ) → a < 2 ^ 64 → r * r + rest ≡ a * 2 ^ 44 → 2 * r < rest → rest ≤ 4 * r → r + 1 ≡ wholeRoot 54 (a * 2 ^ 44)
+one-up a r rest h e k l = whole-is a (r + 1) h (go r rest (a * 2 ^ 44) e k l)
   where
-    next : (k : ℕ) → k < 2 → k + 1 ≤ 2
-    next k h = omega arith
-
-pub corrected : (a k r rest : ℕ) → a < 2 ^ 64 → k ≡ 2 → Turned a k r rest → r ≡ wholeRoot 54 (a * 2 ^ 44)
-corrected a k r rest h e t =
-    whole-unique r (wholeRoot 54 (a * 2 ^ 44)) (a * 2 ^ 44) (low (r * r) rest (a * 2 ^ 44) (t .2), high (subst (λ (z : ℕ). rest + 2 * (z * r) ≤ 6 * r) e (t .3)))
-    (whole-root 54 (a * 2 ^ 44) (mul-lt-mul-of-pos-right {k = 17592186044416} h (omega arith)))
-  where
-    low : (u v n : ℕ) → u + v ≡ n → u ≤ n
-    low u v n e = omega arith
-
-    high : rest + 2 * (2 * r) ≤ 6 * r → a * 2 ^ 44 < (r + 1) * (r + 1)
-    high m = subst (λ (z : ℕ). z < (r + 1) * (r + 1)) (t .2) (let s : (r + 1) * (r + 1) ≡ r * r + 2 * r + 1 = simp ring (omega arith) in omega arith)
+    go : (r rest n : ℕ) → r * r + rest ≡ n → 2 * r < rest → rest ≤ 4 * r → Whole (r + 1) n
+    go r rest n e k l =
+        let s : (r + 1) * (r + 1) ≡ r * r + 2 * r + 1 = simp ring (omega arith) in
+        let t : (r + 1 + 1) * (r + 1 + 1) ≡ r * r + 4 * r + 4 = simp ring (omega arith) in
+        (omega arith, omega arith)
 
 -- the whole root has 54 digits
 pub digits-54 : (a : ℕ) → 2 ^ 62 ≤ a → a < 2 ^ 64 → (2 ^ 53 ≤ wholeRoot 54 (a * 2 ^ 44)) × (wholeRoot 54 (a * 2 ^ 44) < 2 ^ 54)

@@ -1,3 +1,3 @@
 pub mod Root
 pub mod Reciprocals
-pub mod Stage
+pub mod Inverse

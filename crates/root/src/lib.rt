@@ -1,84 +1,72 @@
-// The square root, correctly rounded, in whole numbers alone: no division or remainder but by fixed powers of two, nine passes of loops.
+// The square root, correctly rounded, in whole numbers alone: no division or remainder but by fixed powers of two, and no passes of loops.
 // Method: x is m 2^e units of 2^-1074. a is m with its leading digit moved to the top of 64 places, or one lower to make the exponent even.
-// The whole root of a 2^44 has 54 digits. It starts from 12 digits and a reciprocal looked up by a's first eight, gains six digits a pass
-// in seven passes, and is corrected twice. Half of it, rounded up, is the result's significand.
-// Error budget: none. A pass's digit is never too large, what all passes leave is at most 6 times the root, so that two corrections reach
-// the whole root, and no midpoint of two floats is the root of a float.
+// The whole root of a 2^44 has 54 digits. The reciprocal of a's root is looked up by a's first eight digits and refined by two steps of
+// Newton's. It gives the root's first 32 digits, and 22 more from what these leave; one correction follows. Half of the whole root, rounded up,
+// is the result's significand.
+// Error budget: none. A step of Newton's never comes out above the reciprocal, so that no digits are too large; what all of them leave is at
+// most 4 times the root, so that one correction reaches the whole root, and no midpoint of two floats is the root of a float.
 ghost use mathlib.Core.Path.{_≡_};
-ghost use Prim.Native.Nat.{_+_, _*_, _^_, _≤_, _<_};
+ghost use Prim.Native.Nat.{_+_, _-_, _*_, _/_, _^_, _≤_, _<_};
 ghost use lib.ListN.{getD};
 ghost use Rattle.number.specs.Answer.{answer};
 ghost use Rattle.root.specs.Root.{root, positiveRoot, wholeRoot};
 ghost use Rattle.root.specs.Reciprocals.{reciprocals};
-ghost use Rattle.root.specs.Stage.{Stage, digits};
+ghost use Rattle.root.specs.Inverse.{Inverse};
 use number::FloatAnswer;
 
-const TWO_24: u64 = 1 << 24;
+const TWO_18: u64 = 1 << 18;
+
+const TWO_21: u64 = 1 << 21;
+
+const TWO_22: u64 = 1 << 22;
+
+const TWO_23: u64 = 1 << 23;
+
+const TWO_31: u64 = 1 << 31;
 
 const TWO_34: u64 = 1 << 34;
 
-const TWO_40: u64 = 1 << 40;
+const TWO_37: u64 = 1 << 37;
+
+const TWO_45: u64 = 1 << 45;
 
 const TWO_52: u64 = 1 << 52;
 
 const TWO_56: u64 = 1 << 56;
 
-// A root's first digits, what is left of the number's first digits, and the number's further digits, the next ones at the top.
-struct Digits {
-    root: u64,
-    rest: u64,
-    further: u64,
-}
+const THREE: u64 = 3 << 62;
 
-// Six more digits t of the root, from the reciprocal y: with R = 64 root, (R + t)² takes 2 R t + t² from what is left.
-fn pass(d: Digits, y: u64, i: u64) -> Digits
-    requires { ⌜ i < 7 ⌝ }
-    requires { ⌜ Stage y i (d .root) (d .rest) ⌝ }
-    ensures stage { λ r. ⌜ Stage y (i + 1) (r .root) (r .rest) ⌝ }
-    ensures same { λ r. ⌜ digits (r .root) (r .rest) (r .further) ≡ digits (d .root) (d .rest) (d .further) * 4096 ⌝ }
-    ensures few { λ r. ⌜ r .further < 2 ^ 64 ⌝ }
+// Newton's step y (3 - y² c) / 2 towards the reciprocal root of c, 2^62 being one, in units that the caller takes off.
+fn refined(y: u64, c: u64) -> u64
+    requires { ⌜ (y < 2 ^ 17) × (y * y * c ≤ 129 * 2 ^ 55) ⌝ }
+    ensures { λ r. ⌜ r ≡ (3 * 2 ^ 62 - y * y * c) / 2 ^ 18 * y ⌝ }
 {
-    let n = d.rest * 4096 + d.further / TWO_52;
-    let t = (n >> (6 * i)) * y / TWO_34;
-    Digits {
-        root: d.root * 64 + t,
-        rest: n - t * (d.root * 128 + t),
-        further: d.further % TWO_52 * 4096,
-    }
+    (THREE - y * y * c) / TWO_18 * y
 }
 
-// The root's digits after all passes, from a first guess of 12.
-fn leading(a: u64) -> Digits
+// A little less than 2^62 / √a.
+fn inverse(a: u64) -> u64
     requires { ⌜ 2 ^ 62 ≤ a ⌝ }
-    ensures { λ r. ⌜ (r .root * r .root + r .rest ≡ a * 2 ^ 44) × (r .rest ≤ 6 * r .root) ⌝ }
+    ensures { λ r. ⌜ Inverse a r ⌝ }
 {
-    let j = a / TWO_56;
-    let y = reciprocal(j - 64);
-    let s = (2 * j + 1) * y / 4096;
-    let mut d = Digits {
-        root: s,
-        rest: a / TWO_40 - s * s,
-        further: a % TWO_40 * TWO_24,
-    };
-    for i in 0u64..7u64 {
-        d = pass(d, y, i);
-    }
-    d
+    let c = a / TWO_34 + 1;
+    let y = refined(reciprocal(a / TWO_56 - 64), c) / TWO_45;
+    refined(y, c) / TWO_31
 }
 
-// The whole root of a 2^44: what the passes leave is worth two units at most.
+// The whole root of a 2^44: s has its first 32 digits, t the other 22, and what they leave is worth one unit at most.
 fn whole_root(a: u64) -> u64
     requires { ⌜ 2 ^ 62 ≤ a ⌝ }
     ensures { λ r. ⌜ r ≡ wholeRoot 54 (a * 2 ^ 44) ⌝ }
 {
-    let d = leading(a);
-    let mut r = d.root;
-    let mut rest = d.rest;
-    for k in 0u64..2u64 {
-        if 2 * r < rest {
-            rest = rest - (2 * r + 1);
-            r = r + 1;
-        }
+    let w = inverse(a);
+    let s = a / TWO_31 * w / TWO_31;
+    let n = a - s * s;
+    let t = n / 16 * w / TWO_37;
+    let r = s * TWO_22 + t;
+    let rest = (n * TWO_21 - s * t) * TWO_23 - t * t;
+    if 2 * r < rest {
+        return r + 1;
     }
     r
 }
@@ -100,12 +88,14 @@ fn nearest_root(m: u64, e: u64) -> f64
 pub fn sqrt(x: f64) -> FloatAnswer
     ensures { λ r. ⌜ answer r ≡ root x ⌝ }
 {
-    if x == 0.0 {
-        return FloatAnswer::Value(x);
+    if !(0.0 < x) {
+        if x == 0.0 {
+            return FloatAnswer::Value(x);
+        }
+        return FloatAnswer::Outside;
     }
     let infinity = f64::from_bits(0x7ff0_0000_0000_0000);
-    let inside = (0.0 < x) & (x < infinity);
-    if !inside {
+    if !(x < infinity) {
         return FloatAnswer::Outside;
     }
     let b = f64::to_bits(x);
@@ -119,203 +109,203 @@ pub fn sqrt(x: f64) -> FloatAnswer
     FloatAnswer::Value(r)
 }
 
-// A little less than 2^19 / √(65 + j): a match, since a constant array would be built anew at each call.
+// Near 2^20 / √(64.5 + j): a match, since a constant array would be built anew at each call.
 fn reciprocal(j: u64) -> u64
     requires { ⌜ j < 192 ⌝ }
     ensures { λ r. ⌜ r ≡ getD reciprocals j 0 ⌝ }
 {
     match j {
-        0 => 65029,
-        1 => 64535,
-        2 => 64051,
-        3 => 63579,
-        4 => 63116,
-        5 => 62664,
-        6 => 62221,
-        7 => 61787,
-        8 => 61363,
-        9 => 60947,
-        10 => 60539,
-        11 => 60139,
-        12 => 59747,
-        13 => 59363,
-        14 => 58986,
-        15 => 58617,
-        16 => 58254,
-        17 => 57897,
-        18 => 57547,
-        19 => 57204,
-        20 => 56866,
-        21 => 56535,
-        22 => 56209,
-        23 => 55889,
-        24 => 55574,
-        25 => 55264,
-        26 => 54960,
-        27 => 54660,
-        28 => 54365,
-        29 => 54076,
-        30 => 53790,
-        31 => 53509,
-        32 => 53233,
-        33 => 52960,
-        34 => 52692,
-        35 => 52428,
-        36 => 52168,
-        37 => 51912,
-        38 => 51659,
-        39 => 51410,
-        40 => 51164,
-        41 => 50923,
-        42 => 50684,
-        43 => 50449,
-        44 => 50217,
-        45 => 49988,
-        46 => 49762,
-        47 => 49540,
-        48 => 49320,
-        49 => 49103,
-        50 => 48890,
-        51 => 48678,
-        52 => 48470,
-        53 => 48264,
-        54 => 48061,
-        55 => 47860,
-        56 => 47662,
-        57 => 47466,
-        58 => 47273,
-        59 => 47082,
-        60 => 46893,
-        61 => 46707,
-        62 => 46522,
-        63 => 46340,
-        64 => 46160,
-        65 => 45982,
-        66 => 45807,
-        67 => 45633,
-        68 => 45461,
-        69 => 45291,
-        70 => 45123,
-        71 => 44957,
-        72 => 44792,
-        73 => 44630,
-        74 => 44469,
-        75 => 44310,
-        76 => 44152,
-        77 => 43997,
-        78 => 43842,
-        79 => 43690,
-        80 => 43539,
-        81 => 43390,
-        82 => 43242,
-        83 => 43096,
-        84 => 42951,
-        85 => 42807,
-        86 => 42665,
-        87 => 42525,
-        88 => 42386,
-        89 => 42248,
-        90 => 42111,
-        91 => 41976,
-        92 => 41842,
-        93 => 41710,
-        94 => 41578,
-        95 => 41448,
-        96 => 41319,
-        97 => 41191,
-        98 => 41065,
-        99 => 40939,
-        100 => 40815,
-        101 => 40692,
-        102 => 40570,
-        103 => 40449,
-        104 => 40329,
-        105 => 40210,
-        106 => 40093,
-        107 => 39976,
-        108 => 39860,
-        109 => 39746,
-        110 => 39632,
-        111 => 39519,
-        112 => 39407,
-        113 => 39297,
-        114 => 39187,
-        115 => 39078,
-        116 => 38969,
-        117 => 38862,
-        118 => 38756,
-        119 => 38650,
-        120 => 38546,
-        121 => 38442,
-        122 => 38339,
-        123 => 38237,
-        124 => 38136,
-        125 => 38035,
-        126 => 37936,
-        127 => 37837,
-        128 => 37739,
-        129 => 37641,
-        130 => 37544,
-        131 => 37449,
-        132 => 37353,
-        133 => 37259,
-        134 => 37165,
-        135 => 37072,
-        136 => 36980,
-        137 => 36888,
-        138 => 36797,
-        139 => 36707,
-        140 => 36617,
-        141 => 36528,
-        142 => 36440,
-        143 => 36352,
-        144 => 36265,
-        145 => 36179,
-        146 => 36093,
-        147 => 36008,
-        148 => 35923,
-        149 => 35839,
-        150 => 35756,
-        151 => 35673,
-        152 => 35590,
-        153 => 35509,
-        154 => 35427,
-        155 => 35347,
-        156 => 35267,
-        157 => 35187,
-        158 => 35108,
-        159 => 35030,
-        160 => 34952,
-        161 => 34875,
-        162 => 34798,
-        163 => 34721,
-        164 => 34645,
-        165 => 34570,
-        166 => 34495,
-        167 => 34421,
-        168 => 34347,
-        169 => 34273,
-        170 => 34200,
-        171 => 34128,
-        172 => 34056,
-        173 => 33984,
-        174 => 33913,
-        175 => 33842,
-        176 => 33772,
-        177 => 33702,
-        178 => 33632,
-        179 => 33564,
-        180 => 33495,
-        181 => 33427,
-        182 => 33359,
-        183 => 33292,
-        184 => 33225,
-        185 => 33158,
-        186 => 33092,
-        187 => 33027,
-        188 => 32961,
-        189 => 32896,
-        190 => 32832,
-        _ => 32767,
+        0 => 130563,
+        1 => 129562,
+        2 => 128585,
+        3 => 127629,
+        4 => 126694,
+        5 => 125779,
+        6 => 124884,
+        7 => 124007,
+        8 => 123149,
+        9 => 122308,
+        10 => 121485,
+        11 => 120678,
+        12 => 119886,
+        13 => 119110,
+        14 => 118349,
+        15 => 117602,
+        16 => 116870,
+        17 => 116151,
+        18 => 115444,
+        19 => 114751,
+        20 => 114070,
+        21 => 113401,
+        22 => 112744,
+        23 => 112097,
+        24 => 111462,
+        25 => 110838,
+        26 => 110224,
+        27 => 109620,
+        28 => 109026,
+        29 => 108441,
+        30 => 107866,
+        31 => 107300,
+        32 => 106742,
+        33 => 106193,
+        34 => 105653,
+        35 => 105121,
+        36 => 104596,
+        37 => 104080,
+        38 => 103571,
+        39 => 103069,
+        40 => 102575,
+        41 => 102088,
+        42 => 101607,
+        43 => 101134,
+        44 => 100667,
+        45 => 100206,
+        46 => 99751,
+        47 => 99303,
+        48 => 98861,
+        49 => 98424,
+        50 => 97993,
+        51 => 97568,
+        52 => 97149,
+        53 => 96734,
+        54 => 96325,
+        55 => 95921,
+        56 => 95523,
+        57 => 95129,
+        58 => 94740,
+        59 => 94355,
+        60 => 93976,
+        61 => 93600,
+        62 => 93230,
+        63 => 92863,
+        64 => 92501,
+        65 => 92144,
+        66 => 91790,
+        67 => 91440,
+        68 => 91094,
+        69 => 90753,
+        70 => 90415,
+        71 => 90080,
+        72 => 89750,
+        73 => 89423,
+        74 => 89099,
+        75 => 88780,
+        76 => 88463,
+        77 => 88150,
+        78 => 87840,
+        79 => 87533,
+        80 => 87230,
+        81 => 86930,
+        82 => 86633,
+        83 => 86338,
+        84 => 86047,
+        85 => 85759,
+        86 => 85474,
+        87 => 85191,
+        88 => 84911,
+        89 => 84634,
+        90 => 84360,
+        91 => 84088,
+        92 => 83819,
+        93 => 83553,
+        94 => 83289,
+        95 => 83027,
+        96 => 82768,
+        97 => 82511,
+        98 => 82257,
+        99 => 82005,
+        100 => 81755,
+        101 => 81508,
+        102 => 81263,
+        103 => 81020,
+        104 => 80779,
+        105 => 80541,
+        106 => 80304,
+        107 => 80070,
+        108 => 79837,
+        109 => 79607,
+        110 => 79378,
+        111 => 79152,
+        112 => 78927,
+        113 => 78705,
+        114 => 78484,
+        115 => 78265,
+        116 => 78048,
+        117 => 77833,
+        118 => 77619,
+        119 => 77407,
+        120 => 77197,
+        121 => 76989,
+        122 => 76782,
+        123 => 76577,
+        124 => 76374,
+        125 => 76172,
+        126 => 75972,
+        127 => 75773,
+        128 => 75576,
+        129 => 75381,
+        130 => 75187,
+        131 => 74994,
+        132 => 74803,
+        133 => 74613,
+        134 => 74425,
+        135 => 74238,
+        136 => 74053,
+        137 => 73869,
+        138 => 73686,
+        139 => 73505,
+        140 => 73325,
+        141 => 73147,
+        142 => 72969,
+        143 => 72793,
+        144 => 72618,
+        145 => 72445,
+        146 => 72273,
+        147 => 72102,
+        148 => 71932,
+        149 => 71763,
+        150 => 71596,
+        151 => 71429,
+        152 => 71264,
+        153 => 71100,
+        154 => 70937,
+        155 => 70775,
+        156 => 70615,
+        157 => 70455,
+        158 => 70297,
+        159 => 70139,
+        160 => 69983,
+        161 => 69828,
+        162 => 69673,
+        163 => 69520,
+        164 => 69368,
+        165 => 69216,
+        166 => 69066,
+        167 => 68917,
+        168 => 68768,
+        169 => 68621,
+        170 => 68474,
+        171 => 68329,
+        172 => 68184,
+        173 => 68041,
+        174 => 67898,
+        175 => 67756,
+        176 => 67615,
+        177 => 67475,
+        178 => 67335,
+        179 => 67197,
+        180 => 67060,
+        181 => 66923,
+        182 => 66787,
+        183 => 66652,
+        184 => 66518,
+        185 => 66384,
+        186 => 66252,
+        187 => 66120,
+        188 => 65989,
+        189 => 65858,
+        190 => 65729,
+        _ => 65600,
     }
 }
