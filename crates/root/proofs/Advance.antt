@@ -8,7 +8,7 @@ use native.Mathlib.Decide.{decLe}
 use lib.Dec.{lit≤}
 use lib.Pow.{pow-pos, pow-mono, pow-add, high, shl-shr}
 use Rattle.number.proofs.Frac.{ring}
-use Rattle.root.specs.Stage.{slack, Stage, digits}
+use Rattle.root.specs.Stage.{slack, Stage, stageDigits}
 use Rattle.root.proofs.Digit.{reach, takes, leaves}
 
 -- ---- what is left, in units of the root
@@ -107,7 +107,7 @@ module _ (y i r rho b : ℕ) (s : Stage y i r rho) (B : b < 4096) where
 pub next-digits : (y i r rho further : ℕ) (s : Stage y i r rho) (B : further / 4503599627370496 < 4096) →
     let n = extended rho (further / 4503599627370496) in
     let t = digit y i n in
-    digits (r * 64 + t) (n - t * (r * 128 + t)) (further % 4503599627370496 * 4096) ≡ digits r rho further * 4096
+    stageDigits (r * 64 + t) (n - t * (r * 128 + t)) (further % 4503599627370496 * 4096) ≡ stageDigits r rho further * 4096
 next-digits y i r rho further s B = rw next-square (shift (r * r + rho) further)
   where
     shift : (u f : ℕ) → (u * 4096 + f / 4503599627370496) * 18446744073709551616 + f % 4503599627370496 * 4096 ≡ (u * 18446744073709551616 + f) * 4096
@@ -117,7 +117,7 @@ pub one-more : (u v a i : ℕ) → u ≡ v * 4096 → v ≡ a * 4096 ^ i → u �
 one-more u v a i e f = e ∙ ap (λ (z : ℕ). z * 4096) f ∙ mul-assoc a (4096 ^ i) 4096 ∙ ap (λ (z : ℕ). a * z) (sym (pow-add 4096 i 1))
 
 -- after seven passes the number's digits are used up
-pub finish : (y i r rho further a : ℕ) → i ≡ 7 → further < 2 ^ 64 → Stage y i r rho → digits r rho further ≡ a * 2 ^ 24 * 4096 ^ i → (r * r + rho ≡ a * 2 ^ 44) × (rho ≤ 6 * r)
+pub finish : (y i r rho further a : ℕ) → i ≡ 7 → further < 2 ^ 64 → Stage y i r rho → stageDigits r rho further ≡ a * 2 ^ 24 * 4096 ^ i → (r * r + rho ≡ a * 2 ^ 44) × (rho ≤ 6 * r)
 unfolding slack
 finish y i r rho further a e h s d = (
   sym (high (r * r + rho) 64 h) ∙ ap (λ (z : ℕ). z / 2 ^ 64) (d ∙ ap (λ (z : ℕ). a * 2 ^ 24 * 4096 ^ z) e ∙ places) ∙ shl-shr (a * 2 ^ 44) 64,

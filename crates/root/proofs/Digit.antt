@@ -48,7 +48,7 @@ enough R n t k y w yp kp h l sq =
         let b = simp ring at (subst (λ (z : ℕ). R * R + n ≤ z * z) (sym e) sq) in
         subst (λ (z : ℕ). n ≤ 2 * z * g) e (simp ring (omega arith))
 
--- of what was left 34 of 4096 parts stay, and 129 times the root
+-- of what was left 34 of 4096 parts stay, plus 129 times the root
 fall : (r rho b n t y w e : ℕ) → 0 < w → n ≡ rho * 4096 + b → b < 4096 → 1024 ≤ r → n * y ≤ (t + 1) * w + e * y → 40629 * w ≤ 5242880 * (r * y) → 262144 * (e * y) ≤ w
     → n ≤ 34 * rho + 129 * r + 128 * (r * t)
 fall r rho b n t y w e wp en bl rl h k l =

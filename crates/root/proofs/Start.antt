@@ -9,7 +9,7 @@ use lib.Dec.{T, leb, leb→le}
 use lib.ListN.{getD}
 use lib.Ieee.Fits.{and-l, and-r}
 use Rattle.root.specs.Reciprocals.{reciprocals}
-use Rattle.root.specs.Stage.{slack, Stage, digits}
+use Rattle.root.specs.Stage.{slack, Stage, stageDigits}
 use Rattle.root.proofs.Table.{every, at}
 
 -- the first 12 digits of the root
@@ -95,7 +95,7 @@ module _ (a : ℕ) (long : 2 ^ 62 ≤ a) (fits : a < 2 ^ 64) where
       over : (a gg : ℕ) → gg ≤ a / 1099511627776 → (gg + (a / 1099511627776 - gg) + 1) * 4096 ≤ (a / 72057594037927936 + 1) * 268435456
       over a gg h = omega arith
 
-  pub start-digits : digits g (a / 1099511627776 - g * g) (a % 1099511627776 * 16777216) ≡ a * 2 ^ 24
+  pub start-digits : stageDigits g (a / 1099511627776 - g * g) (a % 1099511627776 * 16777216) ≡ a * 2 ^ 24
   start-digits = go a (g * g) start-square
     where
       go : (a gg : ℕ) → gg ≤ a / 1099511627776 → (gg + (a / 1099511627776 - gg)) * 18446744073709551616 + a % 1099511627776 * 16777216 ≡ a * 16777216

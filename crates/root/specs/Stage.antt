@@ -16,5 +16,5 @@ pub record Stage (y i r rho : ℕ) : Type 0 where
   pub near : 40629 * (2 ^ 34 * 2 ^ (6 * i)) ≤ 5242880 * (r * y)
 
 -- the number's digits: those that r and rho have used, and 64 further ones
-abbrev pub digits : ℕ → ℕ → ℕ → ℕ
-digits r rho further = (r * r + rho) * 2 ^ 64 + further
+abbrev pub stageDigits : ℕ → ℕ → ℕ → ℕ
+stageDigits r rho further = (r * r + rho) * 2 ^ 64 + further

@@ -10,7 +10,7 @@ ghost use lib.ListN.{getD};
 ghost use Rattle.number.specs.Answer.{answer};
 ghost use Rattle.root.specs.Root.{root, positiveRoot, wholeRoot};
 ghost use Rattle.root.specs.Reciprocals.{reciprocals};
-ghost use Rattle.root.specs.Stage.{Stage, digits};
+ghost use Rattle.root.specs.Stage.{Stage, stageDigits};
 use number::FloatAnswer;
 
 const TWO_24: u64 = 1 << 24;
@@ -35,7 +35,7 @@ fn pass(d: Digits, y: u64, i: u64) -> Digits
     requires { ⌜ i < 7 ⌝ }
     requires { ⌜ Stage y i (d .root) (d .rest) ⌝ }
     ensures stage { λ r. ⌜ Stage y (i + 1) (r .root) (r .rest) ⌝ }
-    ensures same { λ r. ⌜ digits (r .root) (r .rest) (r .further) ≡ digits (d .root) (d .rest) (d .further) * 4096 ⌝ }
+    ensures same { λ r. ⌜ stageDigits (r .root) (r .rest) (r .further) ≡ stageDigits (d .root) (d .rest) (d .further) * 4096 ⌝ }
     ensures few { λ r. ⌜ r .further < 2 ^ 64 ⌝ }
 {
     let n = d.rest * 4096 + d.further / TWO_52;

@@ -5,14 +5,14 @@ use Prim.Native.Nat.{_+_, _-_, _*_, _^_, _≤_, _<_}
 use native.Mathlib.Nat.{le-of-lt, lt-of-le-of-lt, mul-le-mul, mul-one}
 use native.Mathlib.Omega.{arith}
 use mir.Facts.{fits-bits}
-use Rattle.root.specs.Stage.{Stage, digits}
+use Rattle.root.specs.Stage.{Stage, stageDigits}
 use Rattle.root.proofs.Advance.{one-more, finish}
 use Rattle.root.proofs.Start.{first, chosen, start-y, start-square, start-stage, start-digits}
 use Rattle.root.proofs.leading.Statement.{statement}
 use Rattle.root.proofs.leading.Tie as tie
 
 abbrev Inv-loop : tie.InvT-loop
-Inv-loop a j y s d₀ i₀ d i = (i ≤ 7) × Stage y i (d .root) (d .rest) × (digits (d .root) (d .rest) (d .further) ≡ a * 2 ^ 24 * 4096 ^ i) × (d .further < 2 ^ 64)
+Inv-loop a j y s d₀ i₀ d i = (i ≤ 7) × Stage y i (d .root) (d .rest) × (stageDigits (d .root) (d .rest) (d .further) ≡ a * 2 ^ 24 * 4096 ^ i) × (d .further < 2 ^ 64)
 
 abbrev μ-loop : tie.MeasureT-loop
 μ-loop a j y s d₀ i₀ d i = 7 - i
