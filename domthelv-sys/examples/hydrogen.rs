@@ -24,8 +24,8 @@ fn main() -> Result<(), Refusal> {
     let table = set.table(state.temperature)?;
     let energies = set.energies(&state, &table.values, false)?;
     let ends = set.energies_ends(&state, &table.values, false)?;
-    let searches = set.searches(0, 0, state.temperature)?;
-    let diameter = set.diameter_ends(0, 0, state.temperature, searches.sigma[0], searches.zero[0])?;
+    let radii = set.radii(0, 0, state.temperature)?;
+    let diameter = set.diameter_ends(0, 0, state.temperature, radii.sigma[0], radii.zero[0])?;
     println!("hydrogen at {} K, {} molecules per cubic ångström", state.temperature, state.densities[0]);
     print("diameter", table.values[sizes::at(sizes::table::HS_DIAMETER, 0, 0)], diameter);
     print("hard sphere", energies.hard_sphere, ends.hard_sphere);

@@ -253,7 +253,7 @@ impl QuantumSet {
 
     /// The three searches of a pair.
     #[inline]
-    pub fn searches(&self, i: usize, j: usize, temperature: f64) -> Result<Searches, Refusal> {
+    pub fn radii(&self, i: usize, j: usize, temperature: f64) -> Result<Searches, Refusal> {
         let (mut out, mut counts) = ([0.0; 6], [0; 3]);
         #[rustfmt::skip]
         let number = unsafe {
@@ -492,7 +492,7 @@ mod tests {
         for (x, ends) in [(e.hard_sphere, ends.hard_sphere), (e.dispersion, ends.dispersion), (e.non_additive, ends.non_additive)] {
             assert!(ends.low <= x && x <= ends.high && ends.high - ends.low < 1e-9);
         }
-        let s = set.searches(0, 1, 30.0).unwrap();
+        let s = set.radii(0, 1, 30.0).unwrap();
         assert_eq!(s.sigma[0], table.values[at(sheets::SIGMA_EFF, 0, 1)]);
         let worked = table.values[at(sheets::HS_DIAMETER, 0, 1)];
         assert_eq!(set.diameter(0, 1, 30.0, s.sigma[0], s.zero[0]), Ok(worked));
@@ -529,8 +529,8 @@ mod tests {
         assert_eq!(set.energies(&state, &table, true), energies);
         set.orders[at(0, 0, 1)] = 3;
         assert_eq!(set.table(0.5).unwrap_err(), Refusal::Order);
-        assert_eq!(set.searches(0, 2, 30.0), Err(Refusal::Length));
-        assert_eq!(set.searches(1, 1, 30.0), Err(Refusal::Order));
+        assert_eq!(set.radii(0, 2, 30.0), Err(Refusal::Length));
+        assert_eq!(set.radii(1, 1, 30.0), Err(Refusal::Order));
         assert_eq!(set.diameter(2, 0, 0.5, 3.0, 2.5), Err(Refusal::Length));
         assert_eq!(set.diameter_ends(0, 0, 0.5, 3.0, 2.5), Err(Refusal::Order));
         assert_eq!(set.energies(&state, &table[1..], true), Err(Refusal::Length));

@@ -82,7 +82,7 @@ class Cases:
                 ("exponential", "Powers", "terms"): [two ** (64 - 7 * (i - 1)) * ln2**i / math.factorial(i) for i in range(1, 6)],
                 ("exponential", "ExpM1", "overTerms"): [(two**49 + Decimal(1) / 16) * k for k in (15120, 420, 1)],
                 ("exponential", "ExpM1", "underTerms"): [(two**49 + Decimal(1) / 16) * k for k in (15120, 1680, 15)],
-                ("binary_log", "Tables", "factors"): [two**18 / (129 + j) for j in range(128)],
+                ("binary_log", "Tables", "logFactors"): [two**18 / (129 + j) for j in range(128)],
                 ("binary_log", "Tables", "logs"): [-(two**61) * (Decimal(2**18 // (129 + j)) / 2048).ln() / ln2 for j in range(128)],
                 ("binary_log", "Tables", "oddTerms"): [two ** (63 - 6 * (i - 1)) / (i * ln2) for i in (1, 3, 5, 7)],
                 ("binary_log", "Tables", "evenTerms"): [two ** (63 - 6 * (i - 1)) / (i * ln2) for i in (2, 4, 6, 8)],

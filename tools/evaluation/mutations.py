@@ -7,7 +7,7 @@ CHANGED = [
     ("a coefficient of both models", "mie_parameters/specs/Tables", "decimal false 81096 5", "decimal false 81097 5", "mie_ends"),
     ("a digit of the exponential's constant", "exponential/specs/Exp", "* 13306513097844322491", "* 13306513097844322490", "elementary"),
     ("the rounding of a packed number", "fixed_point/specs/Pack", "/ 1024 + 1) / 2", "/ 1024) / 2", "elementary"),
-    ("an end that does not belong", "limits/specs/Limits", "within low high x = le low x", "within low high x = lt low x", "mie"),
+    ("an end that does not belong", "limits/specs/Limits", "inLimits low high x = le low x", "inLimits low high x = lt low x", "mie"),
     ("the operands of a difference", "saftvrqmie_potential/specs/Potential", "recip rr ⊗ sr ⊖ recip ra ⊗ sa", "recip ra ⊗ sa ⊖ recip rr ⊗ sr", "quantum_ends"),
     ("the order of a sum", "mie_parameters/specs/Sums", "a2 ⊗ pow t-inv 2 ⊕ a3 ⊗ pow t-inv 3", "(a2 ⊗ pow t-inv 2 ⊕ a3 ⊗ pow t-inv 3)", "mie_ends"),
     ("a precedence", "saftvrmie_dispersion/specs/Chain", "infixl 60 _⊖_", "infixl 70 _⊖_", "mie_ends"),

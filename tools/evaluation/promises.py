@@ -110,7 +110,7 @@ class Promises:
 
     # the root is nearer than its neighbours, by the text of `Nearest`
     def root(self, x, r):
-        midpoint, square, less = (self.c.get("root", "Root", "midpoint"), self.c.get("root", "Root", "square"), self.c.get("number", "Frac", "ltF"))
+        midpoint, square, less = (self.c.get("root", "Root", "midpoint"), self.c.get("root", "Root", "squareF"), self.c.get("number", "Frac", "ltF"))
         above, below = math.nextafter(r, math.inf), math.nextafter(r, 0.0)
         said = [] if less(self.value(x), square(midpoint(r, above))) else [f"{above!r} is as near"]
         return said + ([] if r == 0.0 or less(square(midpoint(below, r)), self.value(x)) else [f"{below!r} is as near"])

@@ -1,7 +1,7 @@
 -- What the tables' test says, in numbers: the lists' values, and the eight terms' floors beside them. Assumes nothing.
 use mathlib.Core.Path.{_≡_, sym, ap, _∙_}
 use mathlib.Core.List.{[], _∷_}
-use Prim.Native.Nat.{ℕ, _+_, _-_, _*_, _^_, _≤_, _<_}
+use Prim.Native.Nat.{ℕ, _+_, _*_, _^_, _≤_, _<_}
 use native.Mathlib.Nat.{le-trans, le-of-eq, add-mul, mul-assoc, mul-one, mul-zero, zero-mul, mul-le-mul-right, le-of-mul-le-mul-right, pow-zero}
 use native.Mathlib.Omega.{arith}
 use Rattle.fixed_point.proofs.Polynomial.{hom}

@@ -8,9 +8,10 @@ use lib.Ieee.{Float, binary64, fits, isNan, ofBits, toBits, le}
 use lib.Ieee.Bits.{is-true, is-false}
 use lib.Ieee.Fits.{and-l, and-r}
 use lib.Ieee.Positive.{positive, between}
+use Rattle.number.specs.Domain.{baseInside}
 use Rattle.fixed_point.proofs.Decode.{bits-from, bits-to}
 use Rattle.logarithm.proofs.Domain.{no-nan}
-use Rattle.binary_log.specs.BinaryLog.{baseInside, significandLog, logOf}
+use Rattle.binary_log.specs.BinaryLog.{significandLog, logOf}
 use Rattle.binary_log.specs.declared.Log.{Log}
 
 abbrev least : Float

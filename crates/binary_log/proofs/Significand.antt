@@ -16,7 +16,7 @@ use Rattle.fixed_point.proofs.Bernstein.{under, under-le}
 use Rattle.fixed_point.proofs.Table.{at}
 use Rattle.series.proofs.Constants.{mn, md}
 use Rattle.logarithm.proofs.CoreBounds.{common, tops}
-use Rattle.binary_log.specs.Tables.{factors, logs, oddTerms, evenTerms}
+use Rattle.binary_log.specs.Tables.{logFactors, logs, oddTerms, evenTerms}
 use Rattle.binary_log.specs.BinaryLog.{eightTerms, placeOf, gapOf, significandLog}
 use Rattle.binary_log.proofs.Terms.{ones, scale, terms-lo, terms-hi}
 use Rattle.binary_log.proofs.TableTest.{uL, vL, xL, cU, cV, cX, near0, near1, place0, place1, place, unless, all, rule, rules, small, smalls, lowest, units, sided, sides}
@@ -425,18 +425,18 @@ module _ (m : ℕ) (lo : 2 ^ 52 ≤ m) (hi : m < 2 ^ 53) where
   abbrev j : ℕ
   j = placeOf m
 
-  factor-is : getD factors j 0 ≡ factorAt j
-  factor-is = eqb→eq (getD factors j 0) (factorAt j) (at rule factors rules j (bin-j m lo hi))
+  factor-is : getD logFactors j 0 ≡ factorAt j
+  factor-is = eqb→eq (getD logFactors j 0) (factorAt j) (at rule logFactors rules j (bin-j m lo hi))
 
   -- the code's differences and products
-  pub product-fits : getD factors j 0 * m ≤ 2 ^ 63
+  pub product-fits : getD logFactors j 0 * m ≤ 2 ^ 63
   product-fits = le-trans (le-of-eq (ap (λ (z : ℕ). z * m) factor-is)) (le-trans (mul-le-mul-left (factorAt j) (lin m lo)) (le-trans (le-of-eq (sym (mul-assoc (factorAt j) (129 + j) (2 ^ 45)))) (mul-le-mul-right (2 ^ 45) (div-mul-le-self (2 ^ 18) (129 + j)))))
     where
       lin : (m : ℕ) → 2 ^ 52 ≤ m → m ≤ (129 + (m / 2 ^ 45 - 128)) * 2 ^ 45
       lin m h = omega arith
 
   pub gap-fits : gapOf m < 2 ^ 64
-  gap-fits = lin (2 ^ 63 - getD factors j 0 * m) (subst (λ (c : ℕ). 15 * ((2 ^ 63 - c * m) * 128) ≤ 8 * 2 ^ 64) (sym factor-is) (h15 j (m % 2 ^ 45) m (bin-j m lo hi) (bin-t m) (bin-m m lo)))
+  gap-fits = lin (2 ^ 63 - getD logFactors j 0 * m) (subst (λ (c : ℕ). 15 * ((2 ^ 63 - c * m) * 128) ≤ 8 * 2 ^ 64) (sym factor-is) (h15 j (m % 2 ^ 45) m (bin-j m lo hi) (bin-t m) (bin-m m lo)))
     where
       lin : (x : ℕ) → 15 * (x * 128) ≤ 8 * 2 ^ 64 → x * 128 < 2 ^ 64
       lin x h = omega arith

@@ -5,7 +5,7 @@ use Prim.Native.Nat.{ℕ, _+_, _-_, _*_, _/_, _^_}
 use lib.Dec.{T, leb, ltb, eqb}
 use Rattle.series.proofs.Constants.{mn, md}
 use Rattle.logarithm.proofs.CoreBounds.{common, tops}
-use Rattle.binary_log.specs.Tables.{factors, logs}
+use Rattle.binary_log.specs.Tables.{logFactors, logs}
 use Rattle.binary_log.proofs.Terms.{ones, scale}
 use Rattle.fixed_point.proofs.Table.{every}
 use Rattle.fixed_point.proofs.Bernstein.{times, fma, front, again, once, twice, under}
@@ -58,7 +58,7 @@ all = tt
 abbrev pub rule : ℕ → ℕ → Bool
 rule j c = eqb c (2 ^ 18 / (129 + j))
 
-pub rules : T (every rule 0 factors)
+pub rules : T (every rule 0 logFactors)
 rules = tt
 
 -- the gap is at most 8/15 of 2 ^ 64, and from the second place on the table's numbers are larger than the eight terms can be

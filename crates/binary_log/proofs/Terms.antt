@@ -187,7 +187,7 @@ module _ (dd : ℕ) (h15 : 15 * dd ≤ 8 * 2 ^ 64) where
   P-hi = le-trans (le-of-eq (ap (λ (z : ℕ). 2 ^ 63 * (dd * z)) (ones-split dd (2 ^ 64))))
       (join-hi a0 o0 (o0 * dd / 2 ^ 64) dd PP (2 ^ 64) lower-scale (WW ^ 4) (hom (skips 1 4) (dd * dd) WW) (hom (skips 2 4) (dd * dd) WW) (2 ^ 63) (lit< tt) even-hi odd-hi (succ-of (o0 * dd)) (succ-of (dd * (a0 + o0 * dd / 2 ^ 64))) h15)
 
-  -- one unit of 2 ^ -61 and a part in 32
+  -- one unit of 2 ^ -61 plus a part in 32
   pub terms-lo : eightTerms dd * (mn * scale * (2 ^ 64) ^ 8) ≤ 2 ^ 61 * (dd * hom (ones 1 8) dd (2 ^ 64))
   terms-lo = last (PP / 256) PP lower-scale (WW ^ 4) (2 ^ 61) (dd * hom (ones 1 8) dd (2 ^ 64)) (div-mul-le-self PP 256) P-lo
     where

@@ -1,16 +1,13 @@
--- The binary logarithm of a base: its domain and its value, in fixed point.
-use mathlib.Core.Bool.{Bool, true, false, _&&_, cond}
+-- The binary logarithm of a base: its value, in fixed point.
+use mathlib.Core.Bool.{true, false, cond}
 use Prim.Native.Nat.{ℕ, _+_, _-_, _*_, _/_, _%_, _^_}
 use lib.Dec.{leb}
 use lib.ListN.{getD}
-use lib.Ieee.{Float, binary64, ofBits, toBits, le}
+use lib.Ieee.{Float, binary64, toBits}
+use Rattle.number.specs.Domain.{baseInside}
 use Rattle.fixed_point.specs.Horner.{horner}
-use Rattle.binary_log.specs.Tables.{factors, logs, oddTerms, evenTerms}
+use Rattle.binary_log.specs.Tables.{logFactors, logs, oddTerms, evenTerms}
 use Rattle.binary_log.specs.declared.Log.{Log}
-
--- 'Power: base 1/32 to 32, .. Ends belong, NaN never'
-unfoldable pub baseInside : Float → Bool
-baseInside x = le (ofBits binary64 0x3fa0_0000_0000_0000) x && le x (ofBits binary64 0x4040_0000_0000_0000)
 
 -- minus log2 (1 - r) by eight terms in units of 2 ^ -61, at d = r 2 ^ 70: even and odd ones apart
 abbrev pub eightTerms : ℕ → ℕ
@@ -21,7 +18,7 @@ abbrev pub placeOf : ℕ → ℕ
 placeOf m = m / 2 ^ 45 - 128
 
 abbrev pub gapOf : ℕ → ℕ
-gapOf m = (2 ^ 63 - getD factors (placeOf m) 0 * m) * 128
+gapOf m = (2 ^ 63 - getD logFactors (placeOf m) 0 * m) * 128
 
 -- log2 (m / 2 ^ 52) in units of 2 ^ -61
 abbrev pub significandLog : ℕ → ℕ

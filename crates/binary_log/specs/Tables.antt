@@ -3,8 +3,8 @@ use Prim.Native.Nat.{ℕ}
 use mathlib.Core.List.{List, [], _∷_}
 
 -- 2 ^ 18 / (129 + j), rounded down, for j = 0 .. 127: in units of 2 ^ -11 the inverse of the upper end of the j-th of 128 parts of 1 .. 2
-abbrev pub factors : List ℕ
-factors =
+abbrev pub logFactors : List ℕ
+logFactors =
     2032 ∷ 2016 ∷ 2001 ∷ 1985 ∷ 1971 ∷ 1956 ∷ 1941 ∷ 1927 ∷ 1913 ∷ 1899 ∷ 1885 ∷ 1872 ∷ 1859 ∷ 1846 ∷ 1833 ∷ 1820
     ∷ 1807 ∷ 1795 ∷ 1783 ∷ 1771 ∷ 1759 ∷ 1747 ∷ 1736 ∷ 1724 ∷ 1713 ∷ 1702 ∷ 1691 ∷ 1680 ∷ 1669 ∷ 1659 ∷ 1648 ∷ 1638
     ∷ 1628 ∷ 1618 ∷ 1608 ∷ 1598 ∷ 1588 ∷ 1579 ∷ 1569 ∷ 1560 ∷ 1551 ∷ 1542 ∷ 1533 ∷ 1524 ∷ 1515 ∷ 1506 ∷ 1497 ∷ 1489

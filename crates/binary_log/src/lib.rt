@@ -4,8 +4,9 @@
 ghost use mathlib.Core.Path.{_≡_};
 ghost use Prim.Native.Nat.{_<_, _≤_, _^_};
 ghost use lib.ListN.{getD};
-ghost use Rattle.binary_log.specs.Tables.{factors, logs};
-ghost use Rattle.binary_log.specs.BinaryLog.{eightTerms, significandLog, baseInside, logOf};
+ghost use Rattle.number.specs.Domain.{baseInside};
+ghost use Rattle.binary_log.specs.Tables.{logFactors, logs};
+ghost use Rattle.binary_log.specs.BinaryLog.{eightTerms, significandLog, logOf};
 use fixed_point::high_product;
 use fixed_point::term_step;
 
@@ -19,7 +20,7 @@ pub struct Log {
 // The table's factors. A match, since a const array would be rebuilt at every call.
 fn log_factor(j: u64) -> u64
     requires { ⌜ j < 128 ⌝ }
-    ensures { λ r. ⌜ r ≡ getD factors j 0 ⌝ }
+    ensures { λ r. ⌜ r ≡ getD logFactors j 0 ⌝ }
 {
     match j {
         0 => 2032,

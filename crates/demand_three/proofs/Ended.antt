@@ -4,13 +4,13 @@ use mathlib.Core.Option.{Option, some, none}
 use lib.Ieee as Ieee
 use Rattle.number.specs.Frac.{Frac, valF}
 use Rattle.number.specs.Arith.{zero64}
-use Rattle.enclosure.specs.Exact.{Exact, exacts, exactly, both, quotient, divX, afterX}
+use Rattle.enclosure.specs.Exact.{Exact, exacts, exactly, both, quotientX, divX, afterX}
 
 pub by-zero : (x : Exact) → exacts .div x (exacts .lit zero64) .exact ≡ none
 unfolding divX exactly Ieee.ofBits
 by-zero x = go (x .exact)
   where
-    go : (p : Option Frac) → both quotient p (some (valF zero64)) ≡ none
+    go : (p : Option Frac) → both quotientX p (some (valF zero64)) ≡ none
     go none = refl
     go (some p) = refl
 

@@ -12,7 +12,7 @@ use Rattle.enclosure.specs.Exact.{Exact}
 use Rattle.enclosure.specs.Ends.{endsIn, endsOf, orUnsound, Encloses}
 use Rattle.enclosure.proofs.Relations.{Value, Contains}
 use Rattle.enclosure.proofs.TwoEnds.{operation-encloses}
-use Rattle.saftvrqmie_energies.specs.Energies.{EnergiesIn, allFinite}
+use Rattle.saftvrqmie_energies.specs.Energies.{EnergiesIn, energiesFinite}
 use Rattle.saftvrqmie_energies.proofs.Relation.{EnergiesR}
 use Rattle.saftvrqmie_energies_ends.specs.Operation.{allSound, eachEnds, eachEndsOf}
 use Rattle.saftvrqmie_energies_ends.specs.Encloses.{EachEncloses}
@@ -96,8 +96,8 @@ one-ended p q {a = a} {run = run} {exact = exact} K C =
 
 -- three
 pub three-ended : (p q : Bool) {a : Ans (EnergiesIn Float)} {run : Ans (EnergiesIn Enclosure)} {exact : Ans (EnergiesIn Exact)} → Both (EnergiesR Value) run a → Both (EnergiesR Contains) run exact
-    → TwoEnded allSound eachEnds EachEncloses (tested p q allFinite a) run exact (eachEndsOf (tested p q allFinite a) run)
+    → TwoEnded allSound eachEnds EachEncloses (tested p q energiesFinite a) run exact (eachEndsOf (tested p q energiesFinite a) run)
 three-ended p q {a = a} {run = run} {exact = exact} K C =
-    let float = tested p q allFinite a in
-    two-ended allSound eachEnds EachEncloses p q allFinite a run exact (eachEndsOf float run) refl K
-    (of-operation allSound eachEnds EachEncloses p q allFinite a run exact (eachEndsOf float run) refl (each-enclose K C float))
+    let float = tested p q energiesFinite a in
+    two-ended allSound eachEnds EachEncloses p q energiesFinite a run exact (eachEndsOf float run) refl K
+    (of-operation allSound eachEnds EachEncloses p q energiesFinite a run exact (eachEndsOf float run) refl (each-enclose K C float))

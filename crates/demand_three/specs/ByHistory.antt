@@ -6,7 +6,7 @@ use mathlib.Core.List.{List}
 use mathlib.Core.Bool.{Bool}
 use Rattle.number.specs.Ans.{Ans, held, _>>=_}
 use Rattle.number.specs.Arith.{Arith, floats}
-use Rattle.histories.specs.History.{HistoryAnswers, histories, asks, numberOf}
+use Rattle.histories.specs.History.{HistoryAnswers, histories, asks, withoutHistory}
 use Rattle.enclosure.specs.Enclosure.{enclosures}
 use Rattle.enclosure.specs.Exact.{exacts}
 use Rattle.enclosure.specs.Ends.{endsIn, endsOf, Encloses}
@@ -29,13 +29,13 @@ module _ (E : HistoryAnswers) (A : Arith) where
       held (together (e .hard-sphere .number) (e .dispersion .number) (e .non-additive .number))
 
   abbrev pub quantumDiameterRun : SaftVRQMiePars → ℕ → ℕ → Float → Float → Float → Ans (A .Num)
-  quantumDiameterRun s i j t sigma-eff r0 = numberOf (Quantum.diameterRun (histories A) (asks A E) s i j t sigma-eff r0)
+  quantumDiameterRun s i j t sigma-eff r0 = withoutHistory (Quantum.diameterRun (histories A) (asks A E) s i j t sigma-eff r0)
 
   abbrev pub dispersionRun : SaftVRMiePars → Float → List Float → List Float → List Float → Bool → Ans (A .Num)
-  dispersionRun s t x rho d chain = numberOf (MieEnergies.energyRun (histories A) (asks A E) s t x rho d chain)
+  dispersionRun s t x rho d chain = withoutHistory (MieEnergies.energyRun (histories A) (asks A E) s t x rho d chain)
 
   abbrev pub mieDiameterRun : SaftVRMiePars → ℕ → ℕ → Float → Float → Ans (A .Num)
-  mieDiameterRun s i j t r0 = numberOf (Mie.diameterRun (histories A) (asks A E) s i j t r0)
+  mieDiameterRun s i j t r0 = withoutHistory (Mie.diameterRun (histories A) (asks A E) s i j t r0)
 
 -- Each operation as it stands in its contract, on such runs.
 pub record Demand3ByHistory : Type 0 where

@@ -21,8 +21,8 @@ use Rattle.saftvrmie_parameters.specs.declared.SaftVRMiePars.{SaftVRMiePars}
 use Rattle.limits.specs.Limits.{indexWithin}
 use Rattle.saftvrqmie.specs.Table.{Lent, rightLists, temperatureTable, pairsOf}
 use Rattle.saftvrqmie.specs.Pairs as Pairs
-use Rattle.saftvrqmie.specs.Pairs.{SearchesIn, searches}
-use Rattle.saftvrqmie_energies.specs.Energies.{EnergiesIn, rightLengths, energies}
+use Rattle.saftvrqmie.specs.Pairs.{SearchesIn, radiiIj}
+use Rattle.saftvrqmie_energies.specs.Energies.{EnergiesIn, stateLengths, energies}
 use Rattle.elementary.specs.Port.{port}
 use Rattle.enclosure.specs.declared.Ends.{Ends}
 use Rattle.saftvrqmie_energies_ends.specs.Operation.{energiesEnds}
@@ -107,11 +107,11 @@ module _ (s : QuantumLists) (t : Float) (l : Lent) where
       radii-set k q = rw (p, q)
 
       module _ (x : SaftVRQMiePars) (q : quantumSet (indexWithin (s .count) i j) s ≡ held x) where
-        pub radii-refused : (k : ℕ) → searches x i j t ≡ refused k → vrqRadii s i j t l ≡ refused k
+        pub radii-refused : (k : ℕ) → radiiIj x i j t ≡ refused k → vrqRadii s i j t l ≡ refused k
         unfolding vrqRadii demand _>>=_
         radii-refused k r = rw (p, q, r)
 
-        pub radii-held : (r : SearchesIn Float) → searches x i j t ≡ held r → vrqRadii s i j t l ≡ held (radiiWritten r l)
+        pub radii-held : (r : SearchesIn Float) → radiiIj x i j t ≡ held r → vrqRadii s i j t l ≡ held (radiiWritten r l)
         unfolding vrqRadii demand _>>=_
         radii-held r h = rw (p, q, h)
 
@@ -121,11 +121,11 @@ module _ (s : QuantumLists) (t : Float) (x rho table : List Float) (wanted : Boo
   energies-1 p = rw p
 
   module _ (p : eqb (length l) 3 ≡ true) where
-    pub energies-set : (k : ℕ) → quantumSet (rightLengths (s .count) x rho table) s ≡ refused k → vrqEnergies s t x rho table wanted l ≡ refused k
+    pub energies-set : (k : ℕ) → quantumSet (stateLengths (s .count) x rho table) s ≡ refused k → vrqEnergies s t x rho table wanted l ≡ refused k
     unfolding vrqEnergies demand _>>=_
     energies-set k q = rw (p, q)
 
-    module _ (y : SaftVRQMiePars) (q : quantumSet (rightLengths (s .count) x rho table) s ≡ held y) where
+    module _ (y : SaftVRQMiePars) (q : quantumSet (stateLengths (s .count) x rho table) s ≡ held y) where
       pub energies-refused : (k : ℕ) → energies y t x rho table wanted ≡ refused k → vrqEnergies s t x rho table wanted l ≡ refused k
       unfolding vrqEnergies demand _>>=_
       energies-refused k r = rw (p, q, r)
@@ -140,11 +140,11 @@ module _ (s : QuantumLists) (t : Float) (x rho table : List Float) (wanted : Boo
   energies-ends-1 p = rw p
 
   module _ (p : eqb (length l) 6 ≡ true) where
-    pub energies-ends-set : (k : ℕ) → quantumSet (rightLengths (s .count) x rho table) s ≡ refused k → vrqEnergiesEnds s t x rho table wanted l ≡ refused k
+    pub energies-ends-set : (k : ℕ) → quantumSet (stateLengths (s .count) x rho table) s ≡ refused k → vrqEnergiesEnds s t x rho table wanted l ≡ refused k
     unfolding vrqEnergiesEnds demand _>>=_
     energies-ends-set k q = rw (p, q)
 
-    module _ (y : SaftVRQMiePars) (q : quantumSet (rightLengths (s .count) x rho table) s ≡ held y) where
+    module _ (y : SaftVRQMiePars) (q : quantumSet (stateLengths (s .count) x rho table) s ≡ held y) where
       pub energies-ends-refused : (k : ℕ) → energiesEnds port y t x rho table wanted ≡ refused k → vrqEnergiesEnds s t x rho table wanted l ≡ refused k
       unfolding vrqEnergiesEnds demand _>>=_
       energies-ends-refused k r = rw (p, q, r)

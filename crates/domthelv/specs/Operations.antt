@@ -15,8 +15,8 @@ use Rattle.saftvrqmie_properties.specs.Properties.{radiusOf, lastOf}
 use Rattle.limits.specs.Limits.{indexWithin}
 use Rattle.saftvrqmie.specs.Table.{Lent, rightLists, temperatureTable}
 use Rattle.saftvrqmie.specs.Pairs as Pairs
-use Rattle.saftvrqmie.specs.Pairs.{SearchesIn, searches}
-use Rattle.saftvrqmie_energies.specs.Energies.{EnergiesIn, rightLengths, energies}
+use Rattle.saftvrqmie.specs.Pairs.{SearchesIn, radiiIj}
+use Rattle.saftvrqmie_energies.specs.Energies.{EnergiesIn, stateLengths, energies}
 use Rattle.elementary.specs.Port.{port}
 use Rattle.enclosure.specs.declared.Ends.{Ends}
 use Rattle.saftvrqmie_energies_ends.specs.Operation.{energiesEnds}
@@ -66,7 +66,7 @@ unfoldable pub vrqRadii : QuantumLists → ℕ → ℕ → Float → Lent → An
 vrqRadii s i j t l =
     demand 1 (radiiLengths l) >>= λ _.
     quantumSet (indexWithin (s .count) i j) s >>= λ p.
-    searches p i j t >>= λ r.
+    radiiIj p i j t >>= λ r.
     held (radiiWritten r l)
 
 -- hard sphere, dispersion, non-additive
@@ -76,7 +76,7 @@ energiesWritten e l = set (set (set l 0 (e .hard-sphere)) 1 (e .dispersion)) 2 (
 unfoldable pub vrqEnergies : QuantumLists → Float → List Float → List Float → List Float → Bool → List Float → Ans (List Float)
 vrqEnergies s t x rho table wanted l =
     demand 1 (eqb (length l) 3) >>= λ _.
-    quantumSet (rightLengths (s .count) x rho table) s >>= λ p.
+    quantumSet (stateLengths (s .count) x rho table) s >>= λ p.
     energies p t x rho table wanted >>= λ e.
     held (energiesWritten e l)
 
@@ -88,7 +88,7 @@ endsWritten e l =
 unfoldable pub vrqEnergiesEnds : QuantumLists → Float → List Float → List Float → List Float → Bool → List Float → Ans (List Float)
 vrqEnergiesEnds s t x rho table wanted l =
     demand 1 (eqb (length l) 6) >>= λ _.
-    quantumSet (rightLengths (s .count) x rho table) s >>= λ p.
+    quantumSet (stateLengths (s .count) x rho table) s >>= λ p.
     energiesEnds port p t x rho table wanted >>= λ e.
     held (endsWritten e l)
 

@@ -306,7 +306,7 @@ pub extern "C" fn domthelv_vrq_radii(
         return mie_parameters::number(read);
     };
     let set = set_lists::quantum_set(count, m, sheets, orders);
-    let searched = saftvrqmie::searches_ij(set, i, j, temperature);
+    let searched = saftvrqmie::radii_ij(set, i, j, temperature);
     match searched {
         SearchesAnswer::Refused(n) => n,
         SearchesAnswer::Searched(p) => {

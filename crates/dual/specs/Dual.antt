@@ -1,4 +1,4 @@
--- A value and a slope over any arithmetic: document 01's slope rules. (The field says dual number: re is the value, eps the slope.)
+-- A value and a slope over any arithmetic: document 01's slope rules. (The literature says dual number: re is the value, eps the slope.)
 use Prim.Native.Nat.{ℕ, zero, suc}
 use lib.IntN.{pos}
 use lib.Ieee as Ieee

@@ -7,30 +7,30 @@ use mathlib.Core.Bool.{Bool, true, false, not, _&&_, cond}
 use lib.IntN.{pos}
 use lib.Dec.{T}
 use lib.Ieee.{Float, nan, inf, fin, up, down, binary64, fits, toBits, ofBits, ofFields, odd, le, lt, eq, neg, size, span, climb}
-use lib.Ieee.Fits.{up-pos, and-l, and-r}
+use lib.Ieee.Fits.{up-pos, and-l}
 use lib.Ieee.Scale.{finite}
 use Rattle.number.specs.Ans.{Ans, held, refused, _>>=_, demand}
 use Rattle.number.specs.Frac.{Frac, leF, ltF, zeroF, valF}
 use Rattle.number.proofs.Frac.{valF-pos}
+use Rattle.number.specs.Domain.{lnInside, ln1pInside, expInside, tanhInside, baseInside, exponentInside}
 use Rattle.series.specs.Exact.{LnValue, Ln1pValue, ExpValue, ExpM1Value, TanhValue, PowerValue}
-use Rattle.series.specs.Distance.{within, near}
+use Rattle.series.specs.Distance.{within}
 use Rattle.series.proofs.Close.{Close}
 use Rattle.root.specs.Root.{positiveRoot, root}
 use Rattle.root.proofs.Correct.{nearest}
-use Rattle.logarithm.specs.Logarithm.{lnTakes, lnOf, ln1pTakes, value1p, ln1pOf}
+use Rattle.logarithm.specs.Logarithm.{lnOf, value1p, ln1pOf}
 use Rattle.logarithm.proofs.LnNear.{ln-near}
 use Rattle.logarithm.proofs.PlusNear.{ln-1p-near}
 use Rattle.logarithm.proofs.Values.{ln-one}
 use Rattle.logarithm.proofs.Exists.{ln-has-value, ln-1p-has-value}
-use Rattle.exponential.specs.Exp.{expInside, expOf}
+use Rattle.exponential.specs.Exp.{expOf}
 use Rattle.exponential.specs.ExpM1.{expM1Of}
-use Rattle.exponential.specs.Tanh.{tanhInside, tanhOf}
+use Rattle.exponential.specs.Tanh.{tanhOf}
 use Rattle.exponential.proofs.ExpNear.{exp-distance}
 use Rattle.exponential.proofs.M1Distance.{exp-m1-distance}
 use Rattle.exponential.proofs.TanhDistance.{tanh-distance}
 use Rattle.exponential.proofs.Zeros.{exp-m1-zero, tanh-zero}
-use Rattle.binary_log.specs.BinaryLog.{baseInside}
-use Rattle.power.specs.Power.{exponentInside, powfOf}
+use Rattle.power.specs.Power.{powfOf}
 use Rattle.power.proofs.Corners.{exponent-zero, exponent-minus-zero, exponent-one, base-one}
 use Rattle.power.proofs.Distance.{power-distance, power-distance-50}
 use Rattle.power.proofs.Exists.{exp-has-value, power-has-value}
@@ -62,7 +62,7 @@ stays f h x minus p = ap f p ∙ h minus ∙ ap held (sym p)
 
 ln-at : (x : Float) → T (fits binary64 x) → LnAt x (lnOf x)
 unfolding lnOf
-ln-at x f = (tested _ (lnTakes x) (LnValue (valF x)) (lnOf x) _ refl (ln-has-value x f) (λ h e u. ln-near x f _ h e u), moved lnOf x _ _ ln-one)
+ln-at x f = (tested _ (lnInside x) (LnValue (valF x)) (lnOf x) _ refl (ln-has-value x f) (λ h e u. ln-near x f _ h e u), moved lnOf x _ _ ln-one)
 
 ln1p-zero : (minus : Bool) → ln1pOf (fin minus 0 (pos 0)) ≡ held (fin minus 0 (pos 0))
 unfolding ln1pOf value1p toBits ofBits ofFields odd le lt eq neg size span climb
@@ -71,7 +71,7 @@ ln1p-zero true = refl
 
 ln1p-at : (x : Float) → T (fits binary64 x) → Ln1pAt x (ln1pOf x)
 unfolding ln1pOf
-ln1p-at x f = (tested _ (ln1pTakes x) (Ln1pValue (valF x)) (ln1pOf x) _ refl (ln-1p-has-value x f) (λ h e u. ln-1p-near x f _ h e u), stays ln1pOf ln1p-zero x)
+ln1p-at x f = (tested _ (ln1pInside x) (Ln1pValue (valF x)) (ln1pOf x) _ refl (ln-1p-has-value x f) (λ h e u. ln-1p-near x f _ h e u), stays ln1pOf ln1p-zero x)
 
 exp-at : (x : Float) → T (fits binary64 x) → ExpAt x (expOf x)
 unfolding expOf

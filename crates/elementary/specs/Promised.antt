@@ -10,20 +10,16 @@ use lib.Ieee.Scale.{finite}
 use Rattle.number.specs.Ans.{Ans, held, refused}
 use Rattle.number.specs.Frac.{Frac, leF, ltF, zeroF, valF}
 use Rattle.number.specs.Functions.{Answers}
+use Rattle.number.specs.Domain.{lnInside, ln1pInside, expInside, tanhInside, baseInside, exponentInside}
 use Rattle.series.specs.Exact.{LnValue, Ln1pValue, ExpValue, ExpM1Value, TanhValue, PowerValue}
 use Rattle.series.specs.Distance.{within, near}
 use Rattle.root.specs.Root.{Nearest}
-use Rattle.logarithm.specs.Logarithm.{lnTakes, ln1pTakes}
-use Rattle.exponential.specs.Exp.{expInside}
-use Rattle.exponential.specs.Tanh.{tanhInside}
-use Rattle.binary_log.specs.BinaryLog.{baseInside}
-use Rattle.power.specs.Power.{exponentInside}
 
 -- An answer of the six: '6 if the argument is outside', else a finite value within the distance of every value in the bracket, which has one
-pub record Keeps (takes : Bool) (Value : Frac → Type 0) (Distance : Frac → Frac → Type 0) (a : Ans Float) : Type 0 where
-  pub outside : T (not takes) → a ≡ refused 6
-  pub inside : T takes → (r : Float) × (a ≡ held r) × T (finite r) × ((v : Frac) → Value v → Distance (valF r) v)
-  pub value : T takes → (v : Frac) × Value v
+pub record Keeps (isInside : Bool) (Value : Frac → Type 0) (Distance : Frac → Frac → Type 0) (a : Ans Float) : Type 0 where
+  pub outside : T (not isInside) → a ≡ refused 6
+  pub inside : T isInside → (r : Float) × (a ≡ held r) × T (finite r) × ((v : Frac) → Value v → Distance (valF r) v)
+  pub value : T isInside → (v : Frac) × Value v
 
 -- '.. of ±0 give the argument', -0 for `true`
 abbrev pub ZeroStays : Float → Ans Float → Type 0
@@ -42,10 +38,10 @@ pub record SqrtAt (x : Float) (a : Ans Float) : Type 0 where
 
 -- ln 1 is +0
 abbrev pub LnAt : Float → Ans Float → Type 0
-LnAt x a = Keeps (lnTakes x) (LnValue (valF x)) (within (2 ^ 48)) a × (x ≡ one → a ≡ held (ofBits binary64 0))
+LnAt x a = Keeps (lnInside x) (LnValue (valF x)) (within (2 ^ 48)) a × (x ≡ one → a ≡ held (ofBits binary64 0))
 
 abbrev pub Ln1pAt : Float → Ans Float → Type 0
-Ln1pAt x a = Keeps (ln1pTakes x) (Ln1pValue (valF x)) (within (2 ^ 48)) a × ZeroStays x a
+Ln1pAt x a = Keeps (ln1pInside x) (Ln1pValue (valF x)) (within (2 ^ 48)) a × ZeroStays x a
 
 abbrev pub ExpAt : Float → Ans Float → Type 0
 ExpAt x a = Keeps (expInside x) (ExpValue (valF x)) (within (2 ^ 48)) a

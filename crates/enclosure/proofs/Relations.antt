@@ -23,7 +23,7 @@ use Rattle.interval.specs.Interval.{mulI, negI, afterI, powI, downI}
 use Rattle.interval.proofs.Encloses.{In, point-in, rounded-in, add-in, sub-in, neg-in, mul-in, div-in, div-sign, sign-nonzero, add-sound, sub-sound, mul-sound, div-sound}
 use Rattle.enclosure.specs.declared.Enclosure.{Enclosure}
 use Rattle.enclosure.specs.Enclosure.{enclosures, point, addE, subE, mulE, divE, negE, afterE, powE, downE}
-use Rattle.enclosure.specs.Exact.{Exact, exacts, exactly, both, alone, isZero, quotient, addX, subX, mulX, divX, negX, afterX, powX, downX}
+use Rattle.enclosure.specs.Exact.{Exact, exacts, exactly, both, alone, isZero, quotientX, addX, subX, mulX, divX, negX, afterX, powX, downX}
 
 -- ---- the value is the float run's
 abbrev pub Value : Enclosure → Float → Type 0
@@ -180,7 +180,7 @@ module _ (x y : Enclosure) (u v : Exact) (h : Contains x u) (k : Contains y v) w
         let b = second g in
         let some-one = not-zero (b .exact) (div-sign (x .ends) (y .ends) t (b .exact) (b .exact-in)) in
         made (divE x y) _ (divF (a .exact) (b .exact)) (divF (valF (x .value)) (valF (y .value)))
-        (both-is quotient _ _ (a .exact) (b .exact) _ (a .is) (b .is) (cond-no (isZero (b .exact)) none (some (divF (a .exact) (b .exact))) some-one))
+        (both-is quotientX _ _ (a .exact) (b .exact) _ (a .is) (b .is) (cond-no (isZero (b .exact)) none (some (divF (a .exact) (b .exact))) some-one))
         (div-in (x .ends) (y .ends) t _ _ (a .exact-in) (b .exact-in)) (div-in (x .ends) (y .ends) t _ _ (a .run-in) (b .run-in))
         (div-rounds binary64 (x .value) (y .value) (a .run-finite) (sign-nonzero (y .value) (b .run-finite) (div-sign (x .ends) (y .ends) t (valF (y .value)) (b .run-in))));
   }

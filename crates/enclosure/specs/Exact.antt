@@ -31,8 +31,8 @@ alone f (some p) = some (f p)
 abbrev pub isZero : Frac → Bool
 isZero (frac p n d) = eqb p n
 
-abbrev pub quotient : Frac → Frac → Option Frac
-quotient p q = cond (isZero q) none (some (divF p q))
+abbrev pub quotientX : Frac → Frac → Option Frac
+quotientX p q = cond (isZero q) none (some (divF p q))
 
 unfoldable pub addX : Exact → Exact → Exact
 addX x y = record { value = Ieee.add binary64 (x .value) (y .value); exact = both (λ p q. some (addF p q)) (x .exact) (y .exact) }
@@ -44,7 +44,7 @@ unfoldable pub mulX : Exact → Exact → Exact
 mulX x y = record { value = Ieee.mul binary64 (x .value) (y .value); exact = both (λ p q. some (mulF p q)) (x .exact) (y .exact) }
 
 unfoldable pub divX : Exact → Exact → Exact
-divX x y = record { value = Ieee.div binary64 (x .value) (y .value); exact = both quotient (x .exact) (y .exact) }
+divX x y = record { value = Ieee.div binary64 (x .value) (y .value); exact = both quotientX (x .exact) (y .exact) }
 
 unfoldable pub negX : Exact → Exact
 negX x = record { value = Ieee.neg (x .value); exact = alone negF (x .exact) }

@@ -10,8 +10,9 @@ use lib.Ieee.{Float, fin, up, down, binary64, fits, isNan, toBits, ofBits, ofFie
 use lib.Ieee.Bits.{is-true, is-false}
 use lib.Ieee.Fits.{down-pos}
 use Rattle.number.specs.Ans.{held, refused}
+use Rattle.number.specs.Domain.{expInside}
 use Rattle.exponential.specs.Raise.{raiseOf}
-use Rattle.exponential.specs.Exp.{expInside, binaryOf, exponentAt, exponentOf, expOf}
+use Rattle.exponential.specs.Exp.{binaryOf, exponentAt, binaryExponentOf, expOf}
 use Rattle.exponential.proofs.Decode.{unitsOf, decoded, inside-is, field-lt, size-le-of}
 
 seven-hundred : ofBits binary64 0x4085_e000_0000_0000 ≡ fin false 175 (pos 2)
@@ -88,7 +89,7 @@ up-range v h = (omega arith, omega arith)
 
 -- ---- the answer
 module _ (x : Float) (t : Bool) (is : t ≡ expInside x) where
-  pub value-is : (w : ℕ) (v : Float) → t ≡ true → w ≡ exponentOf x → v ≡ raiseOf w → held v ≡ expOf x
+  pub value-is : (w : ℕ) (v : Float) → t ≡ true → w ≡ binaryExponentOf x → v ≡ raiseOf w → held v ≡ expOf x
   unfolding expOf
   value-is w v h p q = rw (← is, h, q, p)
 

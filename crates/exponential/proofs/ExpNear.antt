@@ -11,12 +11,13 @@ use lib.Ieee.{Float, fin, up, down, binary64, fits, toBits}
 use Rattle.number.specs.Ans.{Ans, held, refused}
 use Rattle.number.specs.Frac.{Frac, frac, Pos, leF, negF, subF, mulF, sgn, valF}
 use Rattle.number.proofs.Frac.{ring, valF-pos}
+use Rattle.number.specs.Domain.{expInside}
 use Rattle.series.specs.Exact.{ExpValue}
 use Rattle.series.specs.Distance.{within}
 use Rattle.series.proofs.Close.{Close}
 use Rattle.series.proofs.Constants.{mn, md}
 use Rattle.exponential.specs.Raise.{raiseOf}
-use Rattle.exponential.specs.Exp.{expInside, sizeOf, binaryOf, exponentAt, exponentOf, expOf}
+use Rattle.exponential.specs.Exp.{argumentSize, binaryOf, exponentAt, binaryExponentOf, expOf}
 use Rattle.exponential.proofs.Decode.{unitsOf, decoded, size-lo, size-hi, size-le-of, field-lt}
 use Rattle.exponential.proofs.Argument.{exp-inside-is, units-le, down-range, up-range}
 use Rattle.exponential.proofs.Bounds.{Bound}
@@ -140,7 +141,7 @@ module _ (s : Bool) (A D b : ℕ) (sign-is : s ≡ leb 9223372036854775808 b) (s
   field-ok : field < 1033
   field-ok = field-lt 700 field digits (lit< tt) digits-lt bound
 
-  size-le : sizeOf b ≤ 700 * 2 ^ 54
+  size-le : argumentSize b ≤ 700 * 2 ^ 54
   size-le = size-le-of 700 field digits (lit< tt) digits-lt bound
 
   unit-split : (x d : ℕ) → x * 2 ^ 1020 * d ≡ x * d * 2 ^ 1020
@@ -149,20 +150,20 @@ module _ (s : Bool) (A D b : ℕ) (sign-is : s ≡ leb 9223372036854775808 b) (s
   whole-split : A * 2 ^ 1074 ≡ A * 2 ^ 54 * 2 ^ 1020
   whole-split = ap (λ (z : ℕ). A * z) (pow-add 2 54 1020) ∙ sym (mul-assoc A (2 ^ 54) (2 ^ 1020))
 
-  size-below : sizeOf b * D ≤ A * 2 ^ 54
-  size-below = le-of-mul-le-mul-right {k = 2 ^ 1020} (le-trans (le-of-eq (sym (unit-split (sizeOf b) D))) (le-trans (mul-le-mul-right D (size-lo field digits field-ok digits-lt)) (le-of-eq (sym size-is ∙ whole-split)))) (pow-pos 1020)
+  size-below : argumentSize b * D ≤ A * 2 ^ 54
+  size-below = le-of-mul-le-mul-right {k = 2 ^ 1020} (le-trans (le-of-eq (sym (unit-split (argumentSize b) D))) (le-trans (mul-le-mul-right D (size-lo field digits field-ok digits-lt)) (le-of-eq (sym size-is ∙ whole-split)))) (pow-pos 1020)
 
-  size-above : A * 2 ^ 54 ≤ (sizeOf b + 1) * D
-  size-above = le-of-mul-le-mul-right {k = 2 ^ 1020} (le-trans (le-of-eq (sym whole-split ∙ size-is)) (le-trans (mul-le-mul-right D (size-hi field digits field-ok digits-lt)) (le-of-eq (unit-split (sizeOf b + 1) D)))) (pow-pos 1020)
+  size-above : A * 2 ^ 54 ≤ (argumentSize b + 1) * D
+  size-above = le-of-mul-le-mul-right {k = 2 ^ 1020} (le-trans (le-of-eq (sym whole-split ∙ size-is)) (le-trans (mul-le-mul-right D (size-hi field digits field-ok digits-lt)) (le-of-eq (unit-split (argumentSize b + 1) D)))) (pow-pos 1020)
 
   next : (x : ℕ) → x ≤ (x / 2 ^ 64 + 1) * 2 ^ 64
   next x = omega arith
 
   low : binaryOf b * mn * D ≤ A * (2 ^ 53 * md)
-  low = scaled-lo A D (sizeOf b) (binaryOf b) 13306513097844322491 mn md size-below size-above (le-trans size-le (lit≤ tt)) (div-mul-le-self (sizeOf b * 13306513097844322491) (2 ^ 64)) (next (sizeOf b * 13306513097844322491)) (lit≤ tt) (lit≤ tt)
+  low = scaled-lo A D (argumentSize b) (binaryOf b) 13306513097844322491 mn md size-below size-above (le-trans size-le (lit≤ tt)) (div-mul-le-self (argumentSize b * 13306513097844322491) (2 ^ 64)) (next (argumentSize b * 13306513097844322491)) (lit≤ tt) (lit≤ tt)
 
   high : A * (2 ^ 53 * md) * 2 ^ 60 ≤ binaryOf b * mn * D * 2 ^ 60 + 242 * (D * (2 ^ 53 * md))
-  high = room A D (binaryOf b) (scaled-hi A D (sizeOf b) (binaryOf b) 13306513097844322491 mn md size-below size-above (le-trans size-le (lit≤ tt)) (div-mul-le-self (sizeOf b * 13306513097844322491) (2 ^ 64)) (next (sizeOf b * 13306513097844322491)) (lit≤ tt) (lit≤ tt))
+  high = room A D (binaryOf b) (scaled-hi A D (argumentSize b) (binaryOf b) 13306513097844322491 mn md size-below size-above (le-trans size-le (lit≤ tt)) (div-mul-le-self (argumentSize b * 13306513097844322491) (2 ^ 64)) (next (argumentSize b * 13306513097844322491)) (lit≤ tt) (lit≤ tt))
 
   -- 700 / ln 2 is below 1010
   small : binaryOf b ≤ 1010 * 2 ^ 53
@@ -182,8 +183,8 @@ module _ (s : Bool) (A D b : ℕ) (sign-is : s ≡ leb 9223372036854775808 b) (s
 
 -- the same of an f64
 pub argument-near : (s : Bool) (m : ℕ) (e : ℤ) → T (fits binary64 (fin s m e)) → m * up e ≤ 700 * down e
-    → Bound (subF (valF (fin s m e)) (mulF (frac (exponentOf (fin s m e)) (1023 * 2 ^ 53) (2 ^ 53)) M)) (frac 242 0 (2 ^ 60)) × (2 ^ 53 ≤ exponentOf (fin s m e)) × (exponentOf (fin s m e) < 2046 * 2 ^ 53)
-unfolding exponentOf
+    → Bound (subF (valF (fin s m e)) (mulF (frac (binaryExponentOf (fin s m e)) (1023 * 2 ^ 53) (2 ^ 53)) M)) (frac 242 0 (2 ^ 60)) × (2 ^ 53 ≤ binaryExponentOf (fin s m e)) × (binaryExponentOf (fin s m e) < 2046 * 2 ^ 53)
+unfolding binaryExponentOf
 argument-near s m e f bound =
     let b = toBits binary64 (fin s m e) in
     let d = decoded s m e f b refl in
@@ -199,16 +200,16 @@ loosen (frac p n d) (frac q k c) R E h = go ((p * c + k * d - (n * c + q * d)) +
         let u = simp (ring, one-mul, mul-zero, zero-mul, add-zero, zero-add) at h in
         simp (ring, one-mul, mul-zero, zero-mul, add-zero, zero-add) (omega arith)
 
-pub exp-near : (x : Float) (e : Frac) → T (fits binary64 x) → T (expInside x) → ExpValue (valF x) e → Close (within (2 ^ 48)) (raiseOf (exponentOf x)) e
+pub exp-near : (x : Float) (e : Frac) → T (fits binary64 x) → T (expInside x) → ExpValue (valF x) e → Close (within (2 ^ 48)) (raiseOf (binaryExponentOf x)) e
 exp-near x e f h v = go (exp-inside-is x h)
   where
-    go : (s : Bool) × (m : ℕ) × (t : ℤ) × (x ≡ fin s m t) × (m * up t ≤ 700 * down t) → Close (within (2 ^ 48)) (raiseOf (exponentOf x)) e
-    go (s, m, t, p, q) = subst (λ (y : Float). Close (within (2 ^ 48)) (raiseOf (exponentOf y)) e) (sym p) (at s m t (subst (λ (y : Float). T (fits binary64 y)) p f) q (subst (λ (y : Float). ExpValue (valF y) e) p v))
+    go : (s : Bool) × (m : ℕ) × (t : ℤ) × (x ≡ fin s m t) × (m * up t ≤ 700 * down t) → Close (within (2 ^ 48)) (raiseOf (binaryExponentOf x)) e
+    go (s, m, t, p, q) = subst (λ (y : Float). Close (within (2 ^ 48)) (raiseOf (binaryExponentOf y)) e) (sym p) (at s m t (subst (λ (y : Float). T (fits binary64 y)) p f) q (subst (λ (y : Float). ExpValue (valF y) e) p v))
       where
-        at : (s : Bool) (m : ℕ) (t : ℤ) → T (fits binary64 (fin s m t)) → m * up t ≤ 700 * down t → ExpValue (valF (fin s m t)) e → Close (within (2 ^ 48)) (raiseOf (exponentOf (fin s m t))) e
+        at : (s : Bool) (m : ℕ) (t : ℤ) → T (fits binary64 (fin s m t)) → m * up t ≤ 700 * down t → ExpValue (valF (fin s m t)) e → Close (within (2 ^ 48)) (raiseOf (binaryExponentOf (fin s m t))) e
         at s m t f q v =
             let z = argument-near s m t f q in
-            let w = exponentOf (fin s m t) in
+            let w = binaryExponentOf (fin s m t) in
             (raise-finite w (z .2), loosen (valF (raiseOf w)) e (valF-pos (raiseOf w)) (v .proper .0) (raise-near w 242 (valF (fin s m t)) e (z .1) (z .2) (lit≤ tt) (valF-pos (fin s m t)) (z .0) v))
 
 -- 'The distance holds from every value in the bracket': whatever value exp holds, at each f64 x; and it is finite
@@ -216,10 +217,10 @@ pub exp-distance : (x v : Float) (e : Frac) → T (fits binary64 x) → expOf x 
 unfolding expOf
 exp-distance x v e f h w = go (expInside x) refl h
   where
-    go : (t : Bool) → t ≡ expInside x → cond t (held (raiseOf (exponentOf x))) (refused 6) ≡ held v → Close (within (2 ^ 48)) v e
+    go : (t : Bool) → t ≡ expInside x → cond t (held (raiseOf (binaryExponentOf x))) (refused 6) ≡ held v → Close (within (2 ^ 48)) v e
     go true p h = subst (λ (y : Float). Close (within (2 ^ 48)) y e) (same h) (exp-near x e f (subst T p tt) w)
       where
-        same : held (raiseOf (exponentOf x)) ≡ held v → raiseOf (exponentOf x) ≡ v
+        same : held (raiseOf (binaryExponentOf x)) ≡ held v → raiseOf (binaryExponentOf x) ≡ v
         same h = cc
     go false p h = absurd (never h)
       where

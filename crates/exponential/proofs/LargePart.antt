@@ -11,11 +11,12 @@ use lib.ListN.{getD}
 use lib.Ieee.{Float, binary64, toBits, fits}
 use lib.Ieee.Bits.{is-true, is-false}
 use Rattle.number.specs.Ans.{held, refused}
+use Rattle.number.specs.Domain.{expInside}
 use Rattle.fixed_point.specs.Pack.{packed}
 use Rattle.fixed_point.proofs.Table.{every, at}
 use Rattle.exponential.specs.Powers.{powers}
 use Rattle.exponential.specs.Raise.{significandOf}
-use Rattle.exponential.specs.Exp.{expInside, binaryOf, exponentOf}
+use Rattle.exponential.specs.Exp.{binaryOf, binaryExponentOf}
 use Rattle.exponential.specs.ExpM1.{fieldOf, smallOf, belowOf, aboveOf, awayOf, expM1Of}
 use Rattle.exponential.proofs.Digits.{place, significand-lo, significand-hi}
 use Rattle.exponential.proofs.Argument.{negative-at, positive-at}
@@ -97,15 +98,15 @@ binary-ge b h = le-div-iff-mul-le (lit< {m = 0} {n = 2 ^ 64} tt) .1 (le-trans (l
         most b = omega arith
 
 module _ (x : Float) (fit : T (fits binary64 x)) (inside : T (expInside x)) (far : 1021 ≤ fieldOf (toBits binary64 x)) where
-  pub far-below : 2 ^ 63 ≤ toBits binary64 x → (w : ℕ) → w ≡ exponentOf x → 2 ^ 53 ≤ w → (2 ^ 53 ≤ w) × (w < 1023 * 2 ^ 53)
-  unfolding exponentOf
+  pub far-below : 2 ^ 63 ≤ toBits binary64 x → (w : ℕ) → w ≡ binaryExponentOf x → 2 ^ 53 ≤ w → (2 ^ 53 ≤ w) × (w < 1023 * 2 ^ 53)
+  unfolding binaryExponentOf
   far-below h w e k = (k, subst (λ (y : ℕ). y < 1023 * 2 ^ 53) (negative-at (toBits binary64 x) (binaryOf (toBits binary64 x)) refl h ∙ sym e) (less (binaryOf (toBits binary64 x)) (binary-ge (toBits binary64 x) far)))
     where
       less : (v : ℕ) → 2 ^ 51 ≤ v → 1023 * 2 ^ 53 - v < 1023 * 2 ^ 53
       less v h = omega arith
 
-  pub far-above : toBits binary64 x < 2 ^ 63 → (w : ℕ) → w ≡ exponentOf x → w < 2046 * 2 ^ 53 → (1023 * 2 ^ 53 + 2 ^ 46 ≤ w) × (w < 2046 * 2 ^ 53)
-  unfolding exponentOf
+  pub far-above : toBits binary64 x < 2 ^ 63 → (w : ℕ) → w ≡ binaryExponentOf x → w < 2046 * 2 ^ 53 → (1023 * 2 ^ 53 + 2 ^ 46 ≤ w) × (w < 2046 * 2 ^ 53)
+  unfolding binaryExponentOf
   far-above h w e k = (subst (λ (y : ℕ). 1023 * 2 ^ 53 + 2 ^ 46 ≤ y) (positive-at (toBits binary64 x) (binaryOf (toBits binary64 x)) refl h ∙ sym e) (more (binaryOf (toBits binary64 x)) (binary-ge (toBits binary64 x) far)), k)
     where
       more : (v : ℕ) → 2 ^ 51 ≤ v → 1023 * 2 ^ 53 + 2 ^ 46 ≤ 1023 * 2 ^ 53 + v
@@ -126,11 +127,11 @@ module _ (x : Float) where
   unfolding awayOf
   away-small v h e = rw (holds (fieldOf b) 1021 h, e)
 
-  pub away-below : (w : ℕ) (v : Float) → 1021 ≤ fieldOf b → 2 ^ 63 ≤ b → w ≡ exponentOf x → v ≡ belowOf w → v ≡ awayOf x
+  pub away-below : (w : ℕ) (v : Float) → 1021 ≤ fieldOf b → 2 ^ 63 ≤ b → w ≡ binaryExponentOf x → v ≡ belowOf w → v ≡ awayOf x
   unfolding awayOf
   away-below w v h k e f = rw (fails (fieldOf b) 1021 h, is-true (leb (2 ^ 63) b) (le→leb (2 ^ 63) b k), f, e)
 
-  pub away-above : (w : ℕ) (v : Float) → 1021 ≤ fieldOf b → b < 2 ^ 63 → w ≡ exponentOf x → v ≡ aboveOf w → v ≡ awayOf x
+  pub away-above : (w : ℕ) (v : Float) → 1021 ≤ fieldOf b → b < 2 ^ 63 → w ≡ binaryExponentOf x → v ≡ aboveOf w → v ≡ awayOf x
   unfolding awayOf
   away-above w v h k e f = rw (fails (fieldOf b) 1021 h, is-false (leb (2 ^ 63) b) (not-T (leb (2 ^ 63) b) (λ (u : T (leb (2 ^ 63) b)). not-le-of-lt k (leb→le (2 ^ 63) b u))), f, e)
 

@@ -13,10 +13,11 @@ use lib.Ieee.Fits.{down-pos}
 use Rattle.number.specs.Ans.{Ans, held, refused}
 use Rattle.number.specs.Frac.{Frac, sgn, valF}
 use Rattle.number.proofs.Frac.{valF-pos}
+use Rattle.number.specs.Domain.{expInside}
 use Rattle.series.specs.Exact.{ExpValue, ExpM1Value}
 use Rattle.series.specs.Distance.{within}
 use Rattle.series.proofs.Close.{Close}
-use Rattle.exponential.specs.Exp.{expInside, binaryOf, exponentAt, exponentOf}
+use Rattle.exponential.specs.Exp.{binaryOf, exponentAt, binaryExponentOf}
 use Rattle.exponential.specs.ExpM1.{fieldOf, smallOf, belowOf, aboveOf, awayOf, expM1Of}
 use Rattle.exponential.proofs.Decode.{unitsOf, decoded}
 use Rattle.exponential.proofs.Argument.{exp-inside-is, negative-at, positive-at}
@@ -28,8 +29,8 @@ use Rattle.exponential.proofs.M1Small.{plus-near, minus-near}
 use Rattle.exponential.proofs.TinyNear.{tiny-near}
 
 -- the exponent is that of the bits
-of : (s : Bool) (m : ℕ) (e : ℤ) → exponentAt (toBits binary64 (fin s m e)) ≡ exponentOf (fin s m e)
-unfolding exponentOf
+of : (s : Bool) (m : ℕ) (e : ℤ) → exponentAt (toBits binary64 (fin s m e)) ≡ binaryExponentOf (fin s m e)
+unfolding binaryExponentOf
 of s m e = refl
 
 -- |x| over ln 2 from 1/4 on
@@ -104,34 +105,34 @@ module _ (s : Bool) (m : ℕ) (e : ℤ) (fit : T (fits binary64 (fin s m e))) (b
           (minus-near (m * up e) (down e) (fieldOf b) (b % 4503599627370496) (down-pos e) l h digits-lt size-is (fin s m e) (value .e) x (p, refl) (value .proper) (subst (λ (t : Bool). ExpValue (sgn t (m * up e) (down e)) (value .e)) p (value .isExp)) (value .same))
 
   -- ---- from 1/4 on
-  bracket : Bracket (exponentOf (fin s m e)) 242 (value .e)
+  bracket : Bracket (binaryExponentOf (fin s m e)) 242 (value .e)
   bracket =
       let z = argument-near s m e fit bound in
-      raise-bracket (exponentOf (fin s m e)) 242 (valF (fin s m e)) (value .e) (z .1) (z .2) (lit≤ tt) (valF-pos (fin s m e)) (z .0) (value .isExp)
+      raise-bracket (binaryExponentOf (fin s m e)) 242 (valF (fin s m e)) (value .e) (z .1) (z .2) (lit≤ tt) (valF-pos (fin s m e)) (z .0) (value .isExp)
 
-  near-below : 1021 ≤ fieldOf b → s ≡ true → Close (within (2 ^ 48)) (belowOf (exponentOf (fin s m e))) x
-  near-below l p = below-near (exponentOf (fin s m e)) (argument-near s m e fit bound .1) (subst (λ (w : ℕ). w < 1022 * 2 ^ 53 + 101 * 2 ^ 46) exponent (less (binaryOf b) (binary-least b l))) (value .e) x (value .isExp .proper .0) (value .proper) bracket (value .same)
+  near-below : 1021 ≤ fieldOf b → s ≡ true → Close (within (2 ^ 48)) (belowOf (binaryExponentOf (fin s m e))) x
+  near-below l p = below-near (binaryExponentOf (fin s m e)) (argument-near s m e fit bound .1) (subst (λ (w : ℕ). w < 1022 * 2 ^ 53 + 101 * 2 ^ 46) exponent (less (binaryOf b) (binary-least b l))) (value .e) x (value .isExp .proper .0) (value .proper) bracket (value .same)
     where
       less : (v : ℕ) → 42 * 2 ^ 46 ≤ v → 1023 * 2 ^ 53 - v < 1022 * 2 ^ 53 + 101 * 2 ^ 46
       less v h = omega arith
 
-      exponent : 1023 * 2 ^ 53 - binaryOf b ≡ exponentOf (fin s m e)
+      exponent : 1023 * 2 ^ 53 - binaryOf b ≡ binaryExponentOf (fin s m e)
       exponent = negative-at b (binaryOf b) refl (negative p) ∙ of s m e
 
-  near-above : 1021 ≤ fieldOf b → s ≡ false → Close (within (2 ^ 48)) (aboveOf (exponentOf (fin s m e))) x
-  near-above l p = above-near (exponentOf (fin s m e)) (subst (λ (w : ℕ). 1023 * 2 ^ 53 + 42 * 2 ^ 46 ≤ w) exponent (more (binaryOf b) (binary-least b l))) (argument-near s m e fit bound .2) (value .e) x (value .isExp .proper .0) (value .proper) bracket (value .same)
+  near-above : 1021 ≤ fieldOf b → s ≡ false → Close (within (2 ^ 48)) (aboveOf (binaryExponentOf (fin s m e))) x
+  near-above l p = above-near (binaryExponentOf (fin s m e)) (subst (λ (w : ℕ). 1023 * 2 ^ 53 + 42 * 2 ^ 46 ≤ w) exponent (more (binaryOf b) (binary-least b l))) (argument-near s m e fit bound .2) (value .e) x (value .isExp .proper .0) (value .proper) bracket (value .same)
     where
       more : (v : ℕ) → 42 * 2 ^ 46 ≤ v → 1023 * 2 ^ 53 + 42 * 2 ^ 46 ≤ 1023 * 2 ^ 53 + v
       more v h = omega arith
 
-      exponent : 1023 * 2 ^ 53 + binaryOf b ≡ exponentOf (fin s m e)
+      exponent : 1023 * 2 ^ 53 + binaryOf b ≡ binaryExponentOf (fin s m e)
       exponent = positive-at b (binaryOf b) refl (positive p) ∙ of s m e
 
   pub near-away : 969 ≤ fieldOf b → Close (within (2 ^ 48)) (awayOf (fin s m e)) x
   unfolding awayOf
   near-away l = by-field (decLe 1021 (fieldOf b))
     where
-      by-sign : 1021 ≤ fieldOf b → (t : Bool) → s ≡ t → Close (within (2 ^ 48)) (cond (leb (2 ^ 63) b) (belowOf (exponentOf (fin s m e))) (aboveOf (exponentOf (fin s m e)))) x
+      by-sign : 1021 ≤ fieldOf b → (t : Bool) → s ≡ t → Close (within (2 ^ 48)) (cond (leb (2 ^ 63) b) (belowOf (binaryExponentOf (fin s m e))) (aboveOf (binaryExponentOf (fin s m e)))) x
       by-sign h false p = rw (sym sign-is ∙ p) (near-above h p)
       by-sign h true p = rw (sym sign-is ∙ p) (near-below h p)
 

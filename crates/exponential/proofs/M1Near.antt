@@ -9,7 +9,7 @@ use lib.Dec.{T, leb, ltb, leb→le, lit<, lit≤}
 use lib.ListN.{getD}
 use lib.Pow.{pow-pos, pow-add, pow-mono}
 use lib.Ieee.Fits.{and-l, and-r}
-use Rattle.number.specs.Frac.{Frac, frac, Pos, leF, negF, subF, valF}
+use Rattle.number.specs.Frac.{Frac, frac, Pos, leF, negF, subF}
 use Rattle.number.proofs.Frac.{ring, le-transF, neg-antiF, addF-pos, negF-pos}
 use Rattle.series.specs.Sums.{natF, eqF}
 use Rattle.series.specs.Distance.{within}

@@ -8,7 +8,7 @@ use lib.Dec.{lit<, lit≤}
 use lib.Pow.{pow-pos, pow-add, pow-mono}
 use lib.Ieee.{Float, binary64, mul, div}
 use lib.Ieee.Exact.{HasValue}
-use Rattle.number.specs.Frac.{Frac, frac, Pos, leF, negF, addF, subF, mulF, valF}
+use Rattle.number.specs.Frac.{Frac, frac, Pos, leF, negF, addF, subF, mulF}
 use Rattle.number.proofs.Frac.{ring, neg-antiF, negF-pos}
 use Rattle.series.specs.Sums.{natF, eqF}
 use Rattle.series.specs.Exact.{ExpValue}

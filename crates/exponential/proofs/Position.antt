@@ -73,7 +73,7 @@ module _ (p n d m q a b w x T₁ c U : ℕ) (D : 0 < d) (Q : 0 < q) (M₁ : 0 < 
       let r = simp ring at (mul-le-mul-right (2 * c * d * T₁ * q) half) in
       le-of-mul-le-mul-right {k = m * d * q} (simp ring (omega arith)) (mul-pos (mul-pos M₁ D) Q)
 
--- the whole number a - b at which v is cut, and 1023: that of w, or the next one
+-- the whole number a - b at which v is cut, plus 1023: that of w, or the next one
 abbrev pub Same : ℕ → ℕ → ℕ → Type 0
 Same a b w = (a + 1023 ≡ b + w / 2 ^ 53) × (w % 2 ^ 53 ≤ 2 ^ 52 + 16)
 

@@ -14,13 +14,14 @@ use lib.Ieee.Fits.{down-pos}
 use Rattle.number.specs.Ans.{Ans, held, refused}
 use Rattle.number.specs.Frac.{Frac, frac, Pos, leF, negF, subF, mulF, sgn, valF}
 use Rattle.number.proofs.Frac.{le-reflF, add-monoF, mulF-pos, sgn-pos, valF-pos}
+use Rattle.number.specs.Domain.{tanhInside}
 use Rattle.series.specs.Sums.{natF, eqF}
 use Rattle.series.specs.Exact.{TanhValue}
 use Rattle.series.specs.Distance.{near}
 use Rattle.series.proofs.Close.{Close}
 use Rattle.exponential.specs.Exp.{exponentAt}
 use Rattle.exponential.specs.ExpM1.{fieldOf}
-use Rattle.exponential.specs.Tanh.{tanhInside, tanhRatioOf, tanhOf}
+use Rattle.exponential.specs.Tanh.{tanhRatioOf, tanhOf}
 use Rattle.exponential.proofs.Decode.{unitsOf, decoded}
 use Rattle.exponential.proofs.Argument.{units-le}
 use Rattle.exponential.proofs.Bounds.{Bound, bound-eq, sub-pos}

@@ -11,7 +11,7 @@ use lib.Ieee.{binary64, ofBits, ofFields, odd, round, units, size, span, climb, 
 use lib.Ieee.Exact.{HasValue}
 use lib.Ieee.Scale.{round-same}
 use Rattle.exponential.specs.Raise.{significandOf}
-use Rattle.exponential.specs.Exp.{sizeOf, binaryOf, exponentAt}
+use Rattle.exponential.specs.Exp.{argumentSize, binaryOf, exponentAt}
 use Rattle.exponential.specs.ExpM1.{fieldOf}
 use Rattle.exponential.specs.Tanh.{expPart, onePart, tanhRatioOf}
 use Rattle.exponential.proofs.Digits.{significand-lo, significand-hi}
@@ -79,7 +79,7 @@ module _ (w : ℕ) where
 
 -- ---- the exponent of 2x: 40 / ln 2 is above 57
 module _ (b : ℕ) (large : 4109 ≤ b / 2 ^ 50 % 8192) (top : fieldOf b ≤ 1031) where
-  twice-size : 40 * 2 ^ 54 ≤ sizeOf (b + 2 ^ 52)
+  twice-size : 40 * 2 ^ 54 ≤ argumentSize (b + 2 ^ 52)
   twice-size = le-div-iff-mul-le (pow-pos (1032 - fieldOf (b + 2 ^ 52))) .1 (go (decLe (1032 - fieldOf (b + 2 ^ 52)) 3))
     where
       most : (b : ℕ) → 40 * 2 ^ 54 * 2 ^ 3 ≤ ((b + 2 ^ 52) % 2 ^ 52 + 2 ^ 52) * 2048

@@ -10,10 +10,11 @@ use lib.Dec.{T, le→leb, lit≤, lit<}
 use lib.Pow.{pow-pos, pow-add}
 use lib.Ieee.{Float, fin, up, down, binary64, fits, isNan, toBits, ofBits, ofFields, odd, ofInt, inFloat, add, sub, div, le, neg}
 use Rattle.number.specs.Ans.{held, refused}
+use Rattle.number.specs.Domain.{tanhInside}
 use Rattle.exponential.specs.Raise.{significandOf}
 use Rattle.exponential.specs.Exp.{binaryOf, exponentAt}
 use Rattle.exponential.specs.ExpM1.{fieldOf}
-use Rattle.exponential.specs.Tanh.{tanhInside, tanhRatioOf, tanhOf}
+use Rattle.exponential.specs.Tanh.{tanhRatioOf, tanhOf}
 use Rattle.exponential.proofs.Digits.{significand-hi}
 use Rattle.exponential.proofs.Decode.{unitsOf, decoded, inside-is, field-lt, size-le-of}
 use Rattle.exponential.proofs.Argument.{units-le}

@@ -4,9 +4,9 @@ use mathlib.Core.Bool.{Bool, true, false}
 use lib.IntN.{pos}
 use lib.Ieee.{fin, toBits, ofBits, ofFields, odd, le, lt, eq, neg, size, span, climb}
 use Rattle.number.specs.Ans.{held}
-use Rattle.exponential.specs.Exp.{expInside}
+use Rattle.number.specs.Domain.{expInside, tanhInside}
 use Rattle.exponential.specs.ExpM1.{expM1Of}
-use Rattle.exponential.specs.Tanh.{tanhInside, tanhOf}
+use Rattle.exponential.specs.Tanh.{tanhOf}
 
 pub exp-m1-zero : (s : Bool) → expM1Of (fin s 0 (pos 0)) ≡ held (fin s 0 (pos 0))
 unfolding expM1Of expInside toBits ofBits ofFields odd le lt eq neg size span climb

@@ -6,10 +6,11 @@ use lib.IntN.{pos}
 use lib.Dec.{leb, ltb}
 use lib.Ieee.{Float, binary64, toBits, ofInt, mul, div}
 use Rattle.number.specs.Ans.{Ans, held, refused}
+use Rattle.number.specs.Domain.{expInside}
 use Rattle.fixed_point.specs.Horner.{horner}
 use Rattle.fixed_point.specs.Pack.{packed}
 use Rattle.exponential.specs.Raise.{significandOf}
-use Rattle.exponential.specs.Exp.{expInside, exponentOf}
+use Rattle.exponential.specs.Exp.{binaryExponentOf}
 
 -- of the bits of x: the exponent's field, and the digits with the leading one at 2 ^ 63
 abbrev pub fieldOf : ℕ → ℕ
@@ -49,7 +50,7 @@ aboveOf w = packed 0 (significandOf w - 2 ^ 63 / 2 ^ (w / 2 ^ 53 - 1023)) (w / 2
 unfoldable pub awayOf : Float → Float
 awayOf x =
     let b = toBits binary64 x in
-    cond (ltb (fieldOf b) 1021) (smallOf x b) (cond (leb (2 ^ 63) b) (belowOf (exponentOf x)) (aboveOf (exponentOf x)))
+    cond (ltb (fieldOf b) 1021) (smallOf x b) (cond (leb (2 ^ 63) b) (belowOf (binaryExponentOf x)) (aboveOf (binaryExponentOf x)))
 
 -- exp x - 1; below 2 ^ -54 in size it is x, either zero included
 unfoldable pub expM1Of : Float → Ans Float

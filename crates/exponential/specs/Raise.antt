@@ -1,4 +1,4 @@
--- The exponential in base 2, of an exponent in fixed point: w / 2 ^ 53 is the exponent and 1023.
+-- The exponential in base 2, of an exponent in fixed point: w / 2 ^ 53 is the exponent plus 1023.
 use Prim.Native.Nat.{ℕ, _+_, _-_, _*_, _/_, _%_, _^_}
 use lib.ListN.{getD}
 use lib.Ieee.{Float, binary64, ofBits}

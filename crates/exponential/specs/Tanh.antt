@@ -1,17 +1,14 @@
 -- tanh x = (exp 2x - 1) / (exp 2x + 1), from the exponential in base 2 of 2x.
-use mathlib.Core.Bool.{Bool, _&&_, cond}
+use mathlib.Core.Bool.{cond}
 use Prim.Native.Nat.{ℕ, _+_, _-_, _/_, _^_}
 use lib.IntN.{pos}
 use lib.Dec.{ltb}
-use lib.Ieee.{Float, binary64, ofBits, toBits, ofInt, add, sub, div, le, neg}
+use lib.Ieee.{Float, binary64, toBits, ofInt, add, sub, div}
 use Rattle.number.specs.Ans.{Ans, held, refused}
+use Rattle.number.specs.Domain.{tanhInside}
 use Rattle.exponential.specs.Raise.{significandOf}
 use Rattle.exponential.specs.Exp.{exponentAt}
 use Rattle.exponential.specs.ExpM1.{fieldOf}
-
--- '`tanh`: −350 to 350. .. Ends belong, NaN never'
-unfoldable pub tanhInside : Float → Bool
-tanhInside x = le (neg (ofBits binary64 0x4075_e000_0000_0000)) x && le x (ofBits binary64 0x4075_e000_0000_0000)
 
 -- exp 2x and 1 in one unit, whole numbers of at most 52 bits: exp 2x is y 2 ^ (k - 63), k + 1023 the whole part of the exponent w of 2x. For a k below 0 y is moved, for one above 0 the 1 (a difference of natural numbers is 0 where the second is larger)
 abbrev pub expPart : ℕ → ℕ

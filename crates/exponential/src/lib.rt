@@ -7,12 +7,13 @@ ghost use Prim.Native.Nat.{_+_, _-_, _*_, _/_, _%_, _^_, _≤_, _<_};
 ghost use lib.Dec.{T};
 ghost use lib.ListN.{getD};
 ghost use Rattle.number.specs.Answer.{answer};
+ghost use Rattle.number.specs.Domain.{expInside, tanhInside};
 ghost use Rattle.fixed_point.specs.Horner.{horner};
 ghost use Rattle.exponential.specs.Powers.{powers, terms};
 ghost use Rattle.exponential.specs.Raise.{significandOf, raiseOf};
-ghost use Rattle.exponential.specs.Exp.{expInside, binaryOf, exponentAt, exponentOf, expOf};
+ghost use Rattle.exponential.specs.Exp.{binaryOf, exponentAt, binaryExponentOf, expOf};
 ghost use Rattle.exponential.specs.ExpM1.{overTerms, fieldOf, underOf, smallOf, belowOf, aboveOf, awayOf, expM1Of};
-ghost use Rattle.exponential.specs.Tanh.{tanhInside, tanhRatioOf, tanhOf};
+ghost use Rattle.exponential.specs.Tanh.{tanhRatioOf, tanhOf};
 use fixed_point::high_product;
 use fixed_point::pack;
 use fixed_point::shift_right;
@@ -204,7 +205,7 @@ fn above_by(a: u64, b: u64) -> u64
     if b < a { a - b } else { 0 }
 }
 
-// x / ln 2 and 1023, in units of 2^-53, of the bits of an x from -700 to 700.
+// x / ln 2 plus 1023, in units of 2^-53, of the bits of an x from -700 to 700.
 fn exponent_bits(b: u64) -> u64
     requires { ⌜ (fieldOf b ≤ 1032) × (binaryOf b ≤ 1010 * 2 ^ 53) ⌝ }
     ensures value { λ r. ⌜ r ≡ exponentAt b ⌝ }
@@ -223,7 +224,7 @@ fn exponent_bits(b: u64) -> u64
 // The same of x itself.
 fn exponent(x: f64) -> u64
     requires { ⌜ T (expInside x) ⌝ }
-    ensures value { λ r. ⌜ r ≡ exponentOf x ⌝ }
+    ensures value { λ r. ⌜ r ≡ binaryExponentOf x ⌝ }
     ensures range { λ r. ⌜ (2 ^ 53 ≤ r) × (r < 2046 * 2 ^ 53) ⌝ }
 {
     exponent_bits(f64::to_bits(x))

@@ -6,7 +6,7 @@ use Rattle.number.specs.Ans.{Ans, held, refused, _>>=_}
 use Rattle.number.specs.Arith.{floats, one64}
 use Rattle.number.specs.Functions.{answered}
 use Rattle.histories.specs.History as Made
-use Rattle.histories.specs.History.{Elementary, History, HistoryAnswers, Traced, numberOf, histories, asks}
+use Rattle.histories.specs.History.{Elementary, History, HistoryAnswers, Traced, withoutHistory, histories, asks}
 
 -- the root of an input is the input; every other call gets 6
 abbrev of-input : History → Ans Float → Ans Float
@@ -44,14 +44,14 @@ pub one-float : histories floats .val input ≡ histories floats .val worked
 unfolding Ieee.neg Ieee.ofBits
 one-float = refl
 
-pub answered-once : numberOf (asks floats answers .sqrt input) ≡ held one64
+pub answered-once : withoutHistory (asks floats answers .sqrt input) ≡ held one64
 unfolding answered _>>=_
 answered-once = refl
 
-pub refused-twice : numberOf (asks floats answers .sqrt worked) ≡ refused 6
+pub refused-twice : withoutHistory (asks floats answers .sqrt worked) ≡ refused 6
 unfolding answered _>>=_
 refused-twice = refl
 
-pub another-function : numberOf (asks floats answers .ln input) ≡ refused 6
+pub another-function : withoutHistory (asks floats answers .ln input) ≡ refused 6
 unfolding answered _>>=_
 another-function = refl

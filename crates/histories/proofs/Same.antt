@@ -5,7 +5,7 @@ use Rattle.number.specs.Ans.{Ans, held, refused, _>>=_}
 use Rattle.number.specs.Arith.{Arith}
 use Rattle.number.specs.Functions.{Answers, calls, call, call₂}
 use Rattle.number.proofs.Rel.{Rel, FunRel, Both, both-held, both-refused, then-both, call-rel, call₂-rel}
-use Rattle.histories.specs.History.{Elementary, History, HistoryAnswers, Traced, numberOf, unlooking, histories, noted, ask, ask₂, asks}
+use Rattle.histories.specs.History.{Elementary, History, HistoryAnswers, Traced, withoutHistory, unlooking, histories, noted, ask, ask₂, asks}
 use Rattle.histories.specs.History as Made
 
 pub record Same {S T : Type 0} (R : S → T → Type 0) (x : Traced S) (u : Traced T) : Type 0 where
@@ -13,7 +13,7 @@ pub record Same {S T : Type 0} (R : S → T → Type 0) (x : Traced S) (u : Trac
   pub number : R (x .number) (u .number)
 
 -- what holds of two runs holds of their numbers
-pub numbers : {S T : Type 0} {R : S → T → Type 0} {a : Ans (Traced S)} {b : Ans (Traced T)} → Both (Same R) a b → Both R (numberOf a) (numberOf b)
+pub numbers : {S T : Type 0} {R : S → T → Type 0} {a : Ans (Traced S)} {b : Ans (Traced T)} → Both (Same R) a b → Both R (withoutHistory a) (withoutHistory b)
 numbers K = then-both K (λ _ _ r. both-held (r .number))
 
 module _ (A B : Arith) (K : Rel A B) where
@@ -66,7 +66,7 @@ module _ (A : Arith) where
   abbrev pub Forgets : Traced (A .Num) → A .Num → Type 0
   Forgets x u = x .number ≡ u
 
-  pub forgotten : {a : Ans (Traced (A .Num))} {b : Ans (A .Num)} → Both Forgets a b → numberOf a ≡ b
+  pub forgotten : {a : Ans (Traced (A .Num))} {b : Ans (A .Num)} → Both Forgets a b → withoutHistory a ≡ b
   unfolding _>>=_
   forgotten (both-held p) = ap held p
   forgotten both-refused = refl

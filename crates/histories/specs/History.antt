@@ -41,8 +41,8 @@ pub record Traced (N : Type 0) : Type 0 where
   pub number : N
 
 -- the run's own numbers, their histories forgotten
-abbrev pub numberOf : {N : Type 0} → Ans (Traced N) → Ans N
-numberOf a = a >>= λ x. held (x .number)
+abbrev pub withoutHistory : {N : Type 0} → Ans (Traced N) → Ans N
+withoutHistory a = a >>= λ x. held (x .number)
 
 -- an answer by the function's name
 abbrev pub named : Answers → Elementary → Float → Ans Float

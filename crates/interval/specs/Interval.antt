@@ -1,4 +1,4 @@
--- Document 01's two ends and its outward rules. The field says interval, lower and upper; document 01 says two ends.
+-- Document 01's two ends and its outward rules. The literature says interval, lower and upper; document 01 says two ends.
 use Prim.Native.Nat.{ℕ}
 use mathlib.Core.Bool.{Bool, _&&_, _||_}
 use lib.Ieee as Ieee

@@ -19,8 +19,8 @@ abbrev pub components : List Float → List Float → List Float → List Float 
 components sigma epsilon-k lr la i = record { sigma = at sigma i; «epsilon_k» = at epsilon-k i; lr = at lr i; la = at la i }
 
 -- ends belong, NaN never
-unfoldable pub within : Float → Float → Float → Bool
-within low high x = le low x && le x high
+unfoldable pub inLimits : Float → Float → Float → Bool
+inLimits low high x = le low x && le x high
 
 -- components 1 to 12
 unfoldable pub countWithin : ℕ → Bool
@@ -33,8 +33,8 @@ indexWithin n i j = countWithin n && ltb i n && ltb j n
 -- sigma 0.5 to 16 ångström; epsilon_k 0.1 to 5000 K; 3 < la < lr ≤ 64
 unfoldable pub componentWithin : Component → Bool
 componentWithin c =
-    within (decimal false 5 1) (decimal false 16 0) (c .sigma)
-    && within (decimal false 1 1) (decimal false 5000 0) (c .«epsilon_k»)
+    inLimits (decimal false 5 1) (decimal false 16 0) (c .sigma)
+    && inLimits (decimal false 1 1) (decimal false 5000 0) (c .«epsilon_k»)
     && (lt (decimal false 3 0) (c .la) && lt (c .la) (c .lr) && le (c .lr) (decimal false 64 0))
 
 unfoldable pub componentsWithin : ℕ → (ℕ → Component) → Bool
@@ -42,7 +42,7 @@ componentsWithin n c = every n (λ i. componentWithin (c i))
 
 -- each number of a list between two limits: masses, m of VR Mie, mole fractions, densities
 unfoldable pub allWithin : Float → Float → ℕ → (ℕ → Float) → Bool
-allWithin low high n l = every n (λ i. within low high (l i))
+allWithin low high n l = every n (λ i. inLimits low high (l i))
 
 -- mass 1e-27 to 1e-23 kg
 unfoldable pub massesWithin : ℕ → (ℕ → Float) → Bool
@@ -58,7 +58,7 @@ sharesWithin n x = allWithin (decimal false 0 0) (decimal false 1 0) n x
 
 -- temperature 1 to 2000 K
 unfoldable pub temperatureWithin : Float → Bool
-temperatureWithin t = within (decimal false 1 0) (decimal false 2000 0) t
+temperatureWithin t = inLimits (decimal false 1 0) (decimal false 2000 0) t
 
 -- what energies take beside a set: the temperature, mole fractions and densities
 unfoldable pub stateWithin : ℕ → Float → List Float → List Float → Bool
@@ -72,7 +72,7 @@ sameBits x y = not (isNan x) && not (isNan y) && eqb (toBits binary64 x) (toBits
 unfoldable pub pairWithin : (ℕ → ℕ → Float) → ℕ → ℕ → Bool
 pairWithin k i j =
     cond (eqb i j) (sameBits (k i j) (decimal false 0 0))
-    (within (neg (decimal false 9 1)) (decimal false 9 1) (k i j) && sameBits (k i j) (k j i))
+    (inLimits (neg (decimal false 9 1)) (decimal false 9 1) (k i j) && sameBits (k i j) (k j i))
 
 unfoldable pub pairsWithin : ℕ → (ℕ → ℕ → Float) → Bool
 pairsWithin n k = every n (λ i. every n (λ j. pairWithin k i j))

@@ -5,7 +5,7 @@ ghost use lib.ListN.{length};
 ghost use Rattle.number.specs.Lists.{at};
 ghost use Rattle.sizes.specs.Sizes.{side};
 ghost use Rattle.number.specs.Walk.{every};
-ghost use Rattle.limits.specs.Limits.{square, components, within, countWithin, indexWithin, componentWithin, componentsWithin, allWithin, massesWithin, segmentsWithin, sharesWithin, temperatureWithin, sameBits, pairWithin, pairsWithin, allOne};
+ghost use Rattle.limits.specs.Limits.{square, components, inLimits, countWithin, indexWithin, componentWithin, componentsWithin, allWithin, massesWithin, segmentsWithin, sharesWithin, temperatureWithin, stateWithin, sameBits, pairWithin, pairsWithin, allOne};
 
 // The numbers of one component that both models take.
 pub struct Component {
@@ -16,7 +16,7 @@ pub struct Component {
 }
 
 pub fn within(low: f64, high: f64, x: f64) -> bool
-    ensures { λ r. ⌜ r ≡ within low high x ⌝ }
+    ensures { λ r. ⌜ r ≡ inLimits low high x ⌝ }
 {
     (low <= x) & (x <= high)
 }
@@ -105,6 +105,14 @@ pub fn shares_within(n: usize, x: &[f64]) -> bool
     ensures { λ r. ⌜ r ≡ sharesWithin n (at (now (x .entry))) ⌝ }
 {
     all_within(0.0, 1.0, n, x)
+}
+
+// What energies take beside a set. The lists are as long as the count: an operation refuses others with 1 before it asks.
+pub fn state_within(n: usize, t: f64, x: &[f64], rho: &[f64]) -> bool
+    requires { ⌜ (length (now x) ≡ n) × (length (now rho) ≡ n) ⌝ }
+    ensures { λ r. ⌜ r ≡ stateWithin n t (now (x .entry)) (now (rho .entry)) ⌝ }
+{
+    temperature_within(t) & shares_within(n, x) & shares_within(n, rho)
 }
 
 pub fn same_bits(x: f64, y: f64) -> bool

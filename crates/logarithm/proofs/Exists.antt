@@ -14,6 +14,7 @@ use lib.Ieee.Bits.{ofBits-toBits, toBits-lt}
 use lib.Ieee.Exact.{HasValue}
 use Rattle.number.specs.Frac.{Frac, frac, Pos, leF, zeroF, negF, addF, subF, mulF, sgn, valF}
 use Rattle.number.proofs.Frac.{ring, le-reflF, le-transF, add-monoF, neg-antiF, addF-pos, negF-pos}
+use Rattle.number.specs.Domain.{lnInside, ln1pInside}
 use Rattle.fixed_point.proofs.Patterns64.{signBit, val, val-mono, bits-is}
 use Rattle.fixed_point.proofs.Packed.{flag}
 use Rattle.fixed_point.proofs.Decode.{small-is, sign-of, normal-value}
@@ -24,7 +25,6 @@ use Rattle.logarithm.proofs.Fractions.{eq-reflF, eq-symF, eq-transF, mu
 use Rattle.logarithm.proofs.OddSeries.{twice-pos, tail-pos, tail-above}
 use Rattle.logarithm.proofs.Split.{Part, z-is, z-pos}
 use Rattle.logarithm.proofs.Bracket.{times-mono}
-use Rattle.logarithm.specs.Logarithm.{lnTakes, ln1pTakes}
 use Rattle.logarithm.proofs.Joined.{times-pos}
 use Rattle.logarithm.proofs.LnNear.{cancel, taken-bits}
 use Rattle.logarithm.proofs.PlusNear.{plus-is, range-is, taken-range}
@@ -169,7 +169,7 @@ module _ (u : ℕ) (least : 2 ^ 52 ≤ u) (y : Frac) (given : eqF y (frac u 0 (2
       go (j, e, a, b) = kinds j a b (decLe (4 * 2 ^ j) (3 * u))
 
 -- ---- every number that `ln` takes has a logarithm
-pub ln-has-value : (x : Float) → T (fits binary64 x) → T (lnTakes x) → (v : Frac) × LnValue (valF x) v
+pub ln-has-value : (x : Float) → T (fits binary64 x) → T (lnInside x) → (v : Frac) × LnValue (valF x) v
 ln-has-value x f t =
     let b = taken-bits x f t in
     some-value (val (toBits binary64 x)) (le-trans (lit≤ tt) (val-mono 4503599627370496 (toBits binary64 x) (lit≤ tt) (b .0))) (valF x) (value-is x false (val (toBits binary64 x)) (2 ^ 1074) (normal-value x f (b .0) (b .1)))
@@ -220,7 +220,7 @@ module _ (x : Float) (s : Bool) (m : ℕ) (fit : m < 9223372036854775808) (is : 
       go false a e h = some-value (2 ^ 1074 + a) (le-trans (lit≤ tt) (more a (2 ^ 1074))) (addF (natF 1) (valF x)) (plus-is false (valF x) (2 ^ 1074 + a) a (2 ^ 1074) (pow-pos 1074) e refl) 2100 (lt-of-le-of-lt (Nat.add-le-add (Nat.le-refl (2 ^ 1074)) h) (lit< tt))
       go true a e h = some-value (2 ^ 1074 - a) (most a (val 4607182418800017407) (2 ^ 52) (2 ^ 1074) h (lit≤ tt)) (addF (natF 1) (valF x)) (plus-is true (valF x) (2 ^ 1074 - a) a (2 ^ 1074) (pow-pos 1074) e (back a (2 ^ 1074) (le-trans h (lit≤ tt)))) 2100 (less a (2 ^ 1074) (2 ^ 2100) (lit< tt))
 
-pub ln-1p-has-value : (x : Float) → T (fits binary64 x) → T (ln1pTakes x) → (v : Frac) × Ln1pValue (valF x) v
+pub ln-1p-has-value : (x : Float) → T (fits binary64 x) → T (ln1pInside x) → (v : Frac) × Ln1pValue (valF x) v
 ln-1p-has-value x f t = go (toBits binary64 x) (ofBits-toBits binary64 x f) (taken-range x f t) (sign-of (toBits binary64 x) (toBits-lt binary64 x f))
   where
     go : (b : ℕ) → ofBits binary64 b ≡ x → b / 2 ^ 52 % 2048 + 21 * (b / 2 ^ 63) ≤ 1043 → (s : Bool) × (m : ℕ) × (b ≡ signBit s + m) × (m < 9223372036854775808) → (v : Frac) × Ln1pValue (valF x) v

@@ -16,6 +16,7 @@ use borrow.Author.Tests.{lt-ltb, le-ltb}
 use Rattle.number.specs.Ans.{held, refused}
 use Rattle.number.specs.Frac.{Frac, frac, Pos, valF}
 use Rattle.number.proofs.Frac.{valF-pos}
+use Rattle.number.specs.Domain.{lnInside}
 use Rattle.fixed_point.specs.Horner.{horner}
 use Rattle.fixed_point.specs.Quotient.{quotient}
 use Rattle.fixed_point.proofs.Horner.{ac}
@@ -27,7 +28,7 @@ use Rattle.series.specs.Sums.{eqF}
 use Rattle.series.specs.Exact.{LnValue}
 use Rattle.series.specs.Distance.{within}
 use Rattle.series.proofs.Close.{Close}
-use Rattle.logarithm.specs.Logarithm.{coefficients, core, signed, reduced, lnBits, lnTakes, lnOf}
+use Rattle.logarithm.specs.Logarithm.{coefficients, core, signed, reduced, lnBits, lnOf}
 use Rattle.logarithm.proofs.CoreBounds.{core-lo, core-hi, q-small, series-small}
 use Rattle.logarithm.proofs.Ranges.{z-small, part-small, moved-lt, moved-ge, moved-few, moved-five}
 use Rattle.logarithm.proofs.Fractions.{eq-symF, eq-transF, value-is}
@@ -283,7 +284,7 @@ largest-positive : T (positive (ofBits binary64 0x7fef_ffff_ffff_ffff))
 unfolding ofBits
 largest-positive = tt
 
-pub taken-bits : (x : Float) → T (fits binary64 x) → T (lnTakes x) → (4503599627370496 ≤ toBits binary64 x) × (toBits binary64 x < 9218868437227405312)
+pub taken-bits : (x : Float) → T (fits binary64 x) → T (lnInside x) → (4503599627370496 ≤ toBits binary64 x) × (toBits binary64 x < 9218868437227405312)
 taken-bits x f t =
     let l = and-l (le (ofBits binary64 0x0010_0000_0000_0000) x) (le x (ofBits binary64 0x7fef_ffff_ffff_ffff)) t in
     let p = between (ofBits binary64 0x0010_0000_0000_0000) x (ofBits binary64 0x7fef_ffff_ffff_ffff) least-positive largest-positive l (and-r (le (ofBits binary64 0x0010_0000_0000_0000) x) (le x (ofBits binary64 0x7fef_ffff_ffff_ffff)) t) in
@@ -292,7 +293,7 @@ taken-bits x f t =
 -- THE THEOREM: for every f64 that `ln` takes, what it holds is finite and within 2 ^ -48 of every value in document 01's bracket of its logarithm
 pub ln-near : (x : Float) → T (fits binary64 x) → (r : Float) → lnOf x ≡ held r → (v : Frac) → LnValue (valF x) v → Close (within (2 ^ 48)) r v
 unfolding lnOf
-ln-near x f r e v value = go (lnTakes x) refl e
+ln-near x f r e v value = go (lnInside x) refl e
   where
     never : refused 6 ≡ held r → ⊥
     never e = let z : _≡_ {A = ℕ} 0 1 = cc in omega arith
@@ -300,7 +301,7 @@ ln-near x f r e v value = go (lnTakes x) refl e
     same : held (lnBits (toBits binary64 x)) ≡ held r → lnBits (toBits binary64 x) ≡ r
     same e = cc
 
-    go : (t : Bool) → lnTakes x ≡ t → cond t (held (lnBits (toBits binary64 x))) (refused 6) ≡ held r → Close (within (2 ^ 48)) r v
+    go : (t : Bool) → lnInside x ≡ t → cond t (held (lnBits (toBits binary64 x))) (refused 6) ≡ held r → Close (within (2 ^ 48)) r v
     go false q e = absurd (never e)
     go true q e =
         let b = taken-bits x f (subst T (sym q) tt) in

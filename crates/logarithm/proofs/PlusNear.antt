@@ -17,6 +17,7 @@ use borrow.Author.Tests.{lt-ltb, le-ltb}
 use Rattle.number.specs.Ans.{held, refused}
 use Rattle.number.specs.Frac.{Frac, frac, Pos, addF, sgn, valF}
 use Rattle.number.proofs.Frac.{ring, valF-pos, addF-pos, sgn-pos}
+use Rattle.number.specs.Domain.{ln1pInside}
 use Rattle.fixed_point.specs.Quotient.{quotient}
 use Rattle.fixed_point.proofs.Horner.{ac}
 use Rattle.fixed_point.proofs.TwoDigits.{quotient-lo, quotient-hi7}
@@ -27,7 +28,7 @@ use Rattle.series.specs.Sums.{natF, eqF}
 use Rattle.series.specs.Exact.{LnValue, Ln1pValue}
 use Rattle.series.specs.Distance.{within}
 use Rattle.series.proofs.Close.{Close, value-finite}
-use Rattle.logarithm.specs.Logarithm.{core, join, small1p, moved1p, large1p, bits1p, value1p, ln1pTakes, ln1pOf}
+use Rattle.logarithm.specs.Logarithm.{core, join, small1p, moved1p, large1p, bits1p, value1p, ln1pOf}
 use Rattle.logarithm.proofs.CoreBounds.{core-lo, core-hi}
 use Rattle.logarithm.proofs.Ranges.{zeros-from, fours, asked-1p, part-of-two, two-le, part-small, plus-lt, minus-lt, minus-pos}
 use Rattle.logarithm.proofs.Fractions.{eq-reflF, eq-symF, eq-transF, add-cong, value-is}
@@ -417,7 +418,7 @@ module _ (x : Float) (s : Bool) (m : ℕ) (fit : m < 9223372036854775808) (is : 
 pub range-is : (s : Bool) (m : ℕ) → m < 9223372036854775808 → (signBit s + m) / 2 ^ 52 % 2048 + 21 * ((signBit s + m) / 2 ^ 63) ≤ 1043 → m / 4503599627370496 + 21 * flag s ≤ 1043
 range-is s m h r = subst (λ (z : ℕ). z + 21 * flag s ≤ 1043) (field-is s m h) (subst (λ (z : ℕ). (signBit s + m) / 2 ^ 52 % 2048 + 21 * z ≤ 1043) (sign-is s m h) r)
 
-pub taken-range : (x : Float) → T (fits binary64 x) → T (ln1pTakes x) → toBits binary64 x / 2 ^ 52 % 2048 + 21 * (toBits binary64 x / 2 ^ 63) ≤ 1043
+pub taken-range : (x : Float) → T (fits binary64 x) → T (ln1pInside x) → toBits binary64 x / 2 ^ 52 % 2048 + 21 * (toBits binary64 x / 2 ^ 63) ≤ 1043
 taken-range x f t =
     range-1p x f (is-true (lt (neg (ofBits binary64 0x3ff0_0000_0000_0000)) x) (and-l (lt (neg (ofBits binary64 0x3ff0_0000_0000_0000)) x) (le x (ofBits binary64 0x4130_0000_0000_0000)) t))
     (is-true (le x (ofBits binary64 0x4130_0000_0000_0000)) (and-r (lt (neg (ofBits binary64 0x3ff0_0000_0000_0000)) x) (le x (ofBits binary64 0x4130_0000_0000_0000)) t))
@@ -425,7 +426,7 @@ taken-range x f t =
 -- THE THEOREM: for every f64 that `ln_1p` takes, what it holds is finite and within 2 ^ -48 of every value in document 01's bracket of ln (1 + v), 1 + v being exact
 pub ln-1p-near : (x : Float) → T (fits binary64 x) → (r : Float) → ln1pOf x ≡ held r → (v : Frac) → Ln1pValue (valF x) v → Close (within (2 ^ 48)) r v
 unfolding ln1pOf value1p
-ln-1p-near x f r e v value = go (ln1pTakes x) refl e
+ln-1p-near x f r e v value = go (ln1pInside x) refl e
   where
     never : refused 6 ≡ held r → ⊥
     never e = let z : _≡_ {A = ℕ} 0 1 = cc in omega arith
@@ -446,7 +447,7 @@ ln-1p-near x f r e v value = go (ln1pTakes x) refl e
         kinds (yes l) = rw (field-is s m h, le-ltb (m / 4503599627370496) 969 l) (above-near x s m h is' range' v value l)
         kinds (no l) = rw (field-is s m h, lt-ltb (m / 4503599627370496) 969 (lt-of-not-le l)) (below-near x s m h is' range' v value (lt-of-not-le l))
 
-    go : (t : Bool) → ln1pTakes x ≡ t → cond t (held (cond (ltb (toBits binary64 x / 2 ^ 52 % 2048) 969) x (bits1p (toBits binary64 x)))) (refused 6) ≡ held r → Close (within (2 ^ 48)) r v
+    go : (t : Bool) → ln1pInside x ≡ t → cond t (held (cond (ltb (toBits binary64 x / 2 ^ 52 % 2048) 969) x (bits1p (toBits binary64 x)))) (refused 6) ≡ held r → Close (within (2 ^ 48)) r v
     go false q e = absurd (never e)
     go true q e =
         subst (λ (z : Float). Close (within (2 ^ 48)) z v) (same (cond (ltb (toBits binary64 x / 2 ^ 52 % 2048) 969) x (bits1p (toBits binary64 x))) e)

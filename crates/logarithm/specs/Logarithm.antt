@@ -1,11 +1,12 @@
 -- The logarithm as it is worked, in fixed point on whole numbers; `proofs/` shows how near it comes to document 01's brackets.
-use mathlib.Core.Bool.{Bool, cond, _&&_}
+use mathlib.Core.Bool.{cond}
 use mathlib.Core.List.{List, [], _∷_}
 use Prim.Native.Nat.{ℕ, _+_, _-_, _*_, _/_, _%_, _^_}
 use lib.Dec.{ltb, eqb}
 use lib.Count.{leadingZeros}
-use lib.Ieee.{Float, binary64, ofBits, toBits, neg, lt, le}
+use lib.Ieee.{Float, binary64, ofBits, toBits}
 use Rattle.number.specs.Ans.{Ans, held, refused}
+use Rattle.number.specs.Domain.{lnInside, ln1pInside}
 use Rattle.fixed_point.specs.Horner.{horner}
 use Rattle.fixed_point.specs.Quotient.{quotient}
 use Rattle.fixed_point.specs.Pack.{packed}
@@ -24,11 +25,11 @@ core n d sh = quotient n d * horner coefficients (quotient n d / 2 ^ sh * (quoti
 unfoldable pub multiple : ℕ → ℕ
 multiple k = k * 12486629536330718 + k * 7525737178955839 / 2 ^ 54
 
--- k ln 2 and r / 2 ^ (62 + sh), a minus with the one where g is 1, with the other where s is; the first is the larger
+-- k ln 2 plus r / 2 ^ (62 + sh), the one negative where g is 1, the other where s is; the first is the larger
 unfoldable pub far : ℕ → ℕ → ℕ → ℕ → ℕ → Float
 far g k s r sh = cond (eqb s g) (packed g (multiple k + r / 2 ^ (sh + 8)) 1031) (packed g (multiple k - r / 2 ^ (sh + 8)) 1031)
 
--- (k - 1023) ln 2 and r / 2 ^ (62 + sh), a minus with the latter where s is 1
+-- (k - 1023) ln 2 plus r / 2 ^ (62 + sh), the latter negative where s is 1
 unfoldable pub join : ℕ → ℕ → ℕ → ℕ → Float
 join k s r sh =
     cond (eqb k 1023)
@@ -51,13 +52,9 @@ reduced k m =
 unfoldable pub lnBits : ℕ → Float
 lnBits b = reduced (b / 2 ^ 52 % 2048) ((b % 2 ^ 52 + 2 ^ 52) * 2048)
 
--- 'Logarithm: positive, normal, finite': from 2 ^ -1022 to the largest f64
-abbrev pub lnTakes : Float → Bool
-lnTakes x = le (ofBits binary64 0x0010_0000_0000_0000) x && le x (ofBits binary64 0x7fef_ffff_ffff_ffff)
-
 -- `ln`: 6 outside
 unfoldable pub lnOf : Float → Ans Float
-lnOf x = cond (lnTakes x) (held (lnBits (toBits binary64 x))) (refused 6)
+lnOf x = cond (lnInside x) (held (lnBits (toBits binary64 x))) (refused 6)
 
 -- ---- `ln_1p`, at v with the sign s (1 for a minus), the exponent's field f and the significand m, so |v| = m * 2 ^ (f - 1075)
 
@@ -84,10 +81,6 @@ bits1p b =
 unfoldable pub value1p : Float → Float
 value1p v = cond (ltb (toBits binary64 v / 2 ^ 52 % 2048) 969) v (bits1p (toBits binary64 v))
 
--- '`ln_1p`: above −1, at most 2^20'
-abbrev pub ln1pTakes : Float → Bool
-ln1pTakes v = lt (neg (ofBits binary64 0x3ff0_0000_0000_0000)) v && le v (ofBits binary64 0x4130_0000_0000_0000)
-
 -- `ln_1p`: 6 outside
 unfoldable pub ln1pOf : Float → Ans Float
-ln1pOf v = cond (ln1pTakes v) (held (value1p v)) (refused 6)
+ln1pOf v = cond (ln1pInside v) (held (value1p v)) (refused 6)

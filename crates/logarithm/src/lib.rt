@@ -50,7 +50,7 @@ fn multiple(k: u64) -> u64
     k * 12486629536330718 + ((k * 7525737178955839) >> 54)
 }
 
-// k ln 2 and r / 2^(62 + sh), a minus with the one where g is 1, with the other where s is. The first is the larger, so no difference wraps.
+// k ln 2 plus r / 2^(62 + sh), the one negative where g is 1, the other where s is. The first is the larger, so no difference wraps.
 fn far(g: u64, k: u64, s: u64, r: u64, sh: u64) -> f64
     requires { ⌜ (g ≤ 1) × (0 < k) × (k ≤ 1025) × (sh < 64) × (r / 2 ^ (sh + 8) ≤ 2 ^ 53) ⌝ }
     ensures { λ r'. ⌜ r' ≡ far g k s r sh ⌝ }
@@ -63,7 +63,7 @@ fn far(g: u64, k: u64, s: u64, r: u64, sh: u64) -> f64
     fixed_point::pack(g, a - c, 1031)
 }
 
-// (k - 1023) ln 2 and r / 2^(62 + sh), a minus with the latter where s is 1.
+// (k - 1023) ln 2 plus r / 2^(62 + sh), the latter negative where s is 1.
 fn join(k: u64, s: u64, r: u64, sh: u64) -> f64
     requires { ⌜ (k ≤ 2048) × (s ≤ 1) × (sh < 64) × (r / 2 ^ (sh + 8) ≤ 2 ^ 53) ⌝ }
     ensures { λ r'. ⌜ r' ≡ join k s r sh ⌝ }

@@ -1,4 +1,4 @@
-// What both models share: the constant tables of their dispersion; of their parameters the combining rules of a Mie pair, the answer, and lists in their places.
+// What both models share: constants, the tables of their dispersion; of their parameters the combining rules of a Mie pair, the answer, and lists in their places.
 ghost use mathlib.Core.Path.{_≡_};
 ghost use Prim.Native.Nat.{_≤_};
 ghost use lib.ListN.{length};
@@ -13,6 +13,13 @@ ghost use Rattle.mie_parameters.specs.Answer.{numberOf};
 ghost use Rattle.mie_parameters.specs.Places.{inPlaces};
 use number::FloatAnswer;
 use sizes::SIDE;
+
+// std::f64::consts. What they are in each run is `calls` of number/specs/Functions.
+pub const PI: f64 = 3.141592653589793;
+
+pub const FRAC_PI_6: f64 = 0.5235987755982989;
+
+pub const TAU: f64 = 6.283185307179586;
 
 // Lafitte et al. 2013, for both models; SAFT-VR Mie calls LAM_COEFF C.
 pub const PHI: [[f64; 7]; 6] = [

@@ -5,6 +5,7 @@ pub mod Neighbour
 pub mod Power
 pub mod Arith
 pub mod Functions
+pub mod Domain
 pub mod Walk
 pub mod Lists
 pub mod Inside

@@ -2,7 +2,7 @@
 use mathlib.Core.Path.{_≡_, refl, sym, ap, ap₂, _∙_, subst}
 use mathlib.Core.List.{List, [], _∷_}
 use mathlib.Core.Bool.{Bool, _&&_}
-use Prim.Native.Nat.{ℕ, zero, suc, _+_, _-_, _*_, _/_, _^_, _≤_, _<_}
+use Prim.Native.Nat.{ℕ, zero, suc, _+_, _*_, _/_, _^_, _≤_, _<_}
 use native.Mathlib.Nat.{le-trans, le-of-eq, add-le-add, mul-comm, mul-assoc, add-mul, mul-add, add-comm, mul-one, one-mul, zero-mul, mul-zero, add-zero, zero-add, mul-le-mul, mul-le-mul-left, mul-le-mul-right, le-of-mul-le-mul-right, le-dest, mul-pos, one-le-pow, pow-suc, pow-zero}
 use native.Mathlib.Omega.{arith}
 use lib.Dec.{T, lit<}

@@ -7,11 +7,12 @@ use lib.Dec.{T, leb}
 use lib.Ieee.{Float, binary64, ofBits, ofFields, odd, toBits, le, lt, eq, neg, sub, mul, div}
 use lib.Ieee.Bits.{is-true}
 use Rattle.number.specs.Ans.{held, refused, _>>=_, demand}
+use Rattle.number.specs.Domain.{baseInside, exponentInside}
 use Rattle.fixed_point.specs.Horner.{horner}
 use Rattle.exponential.specs.Raise.{raiseOf, significandOf}
-use Rattle.binary_log.specs.BinaryLog.{baseInside, logOf}
+use Rattle.binary_log.specs.BinaryLog.{logOf}
 use Rattle.binary_log.specs.declared.Log.{Log}
-use Rattle.power.specs.Power.{exponentInside, exponentOf, wordOf, powerOf, powfOf}
+use Rattle.power.specs.Power.{exponentOf, wordOf, powerOf, powfOf}
 use Rattle.power.specs.declared.FixedExponent.{FixedExponent}
 
 abbrev one : Float

@@ -11,11 +11,12 @@ use lib.Ieee.Scale.{finite}
 use Rattle.number.specs.Ans.{held, refused, _>>=_, demand}
 use Rattle.number.specs.Frac.{Frac, frac, valF}
 use Rattle.number.proofs.Frac.{ring}
+use Rattle.number.specs.Domain.{baseInside, exponentInside}
 use Rattle.series.specs.Exact.{PowerValue}
 use Rattle.series.specs.Distance.{within}
 use Rattle.series.proofs.Close.{Close}
-use Rattle.binary_log.specs.BinaryLog.{baseInside, logOf}
-use Rattle.power.specs.Power.{exponentInside, exponentOf, sizeOf, powerOf, powfOf}
+use Rattle.binary_log.specs.BinaryLog.{logOf}
+use Rattle.power.specs.Power.{exponentOf, exponentSize, powerOf, powfOf}
 use Rattle.power.specs.declared.FixedExponent.{FixedExponent}
 use Rattle.power.proofs.Exponents.{value-is}
 use Rattle.power.proofs.Corners.{exponent-one}
@@ -37,7 +38,7 @@ one-value = refl
 
 -- the exponent whose flag stands is 1
 flag-is : (y : Float) → T (fits binary64 y) → T (exponentInside y) → exponentOf y .one ≡ true → y ≡ ofBits binary64 0x3ff0_0000_0000_0000
-flag-is y f h e = sym (ofBits-toBits binary64 y f) ∙ ap (ofBits binary64) (eqb→eq (toBits binary64 y) 0x3ff0_0000_0000_0000 (subst T (sym e ∙ ap (λ (r : FixedExponent). r .one) (sym (value-is y true (sym (is-true (exponentInside y) h)) (sizeOf (toBits binary64 y)) refl refl))) tt))
+flag-is y f h e = sym (ofBits-toBits binary64 y f) ∙ ap (ofBits binary64) (eqb→eq (toBits binary64 y) 0x3ff0_0000_0000_0000 (subst T (sym e ∙ ap (λ (r : FixedExponent). r .one) (sym (value-is y true (sym (is-true (exponentInside y) h)) (exponentSize (toBits binary64 y)) refl refl))) tt))
 
 -- what is held is inside both domains
 inside : (x y r : Float) → powfOf x y ≡ held r → T (baseInside x) × T (exponentInside y)

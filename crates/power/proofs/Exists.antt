@@ -10,16 +10,15 @@ use lib.Ieee.{Float, binary64, fits, toBits, ofBits, le}
 use lib.Ieee.Bits.{ofBits-toBits}
 use Rattle.number.specs.Frac.{Frac, frac, Pos, leF, ltF, zeroF, negF, subF, mulF, sgn, valF}
 use Rattle.number.proofs.Frac.{ring, le-transF, le-lt-transF, lt-le-transF, lt-leF, neg-antiF, addF-pos, mulF-pos, negF-pos, sgn-pos, valF-pos}
+use Rattle.number.specs.Domain.{lnInside, baseInside}
 use Rattle.fixed_point.proofs.Patterns64.{bits-mono}
 use Rattle.series.specs.Sums.{natF, overF, eqF, powF, sumF, factorial, scaleF}
 use Rattle.series.specs.Exact.{LnValue, ExpValue, PowerValue, expSum, middle, rest}
 use Rattle.series.proofs.Constants.{mn, md, middle-is}
-use Rattle.logarithm.specs.Logarithm.{lnTakes}
 use Rattle.logarithm.proofs.Fractions.{add-cong, neg-cong, mul-cong, eq-reflF}
 use Rattle.logarithm.proofs.Exists.{ln-has-value}
 use Rattle.exponential.proofs.Bounds.{Bound, bound-eq, bound-up, sum-pos, exp-moves}
 use Rattle.exponential.proofs.Position.{M}
-use Rattle.binary_log.specs.BinaryLog.{baseInside}
 use Rattle.binary_log.proofs.Base.{base-bits}
 use Rattle.power.proofs.ExpLn.{middle-pos, half-is, half-pos, value-of}
 
@@ -139,8 +138,8 @@ exp-has-value v vp = go (cut-of v vp)
         )
 
 -- ---- the power
-takes : (x : Float) → T (fits binary64 x) → T (baseInside x) → T (lnTakes x)
-takes x f h = subst (λ (z : Float). T (lnTakes z)) (ofBits-toBits binary64 x f) (go (toBits binary64 x) (base-bits x f h .0) (base-bits x f h .1))
+takes : (x : Float) → T (fits binary64 x) → T (baseInside x) → T (lnInside x)
+takes x f h = subst (λ (z : Float). T (lnInside z)) (ofBits-toBits binary64 x f) (go (toBits binary64 x) (base-bits x f h .0) (base-bits x f h .1))
   where
     low : (b : ℕ) → 1018 * 2 ^ 52 ≤ b → 4503599627370496 ≤ b
     low b h = omega arith
@@ -151,7 +150,7 @@ takes x f h = subst (λ (z : Float). T (lnTakes z)) (ofBits-toBits binary64 x f)
     both : (a b : Bool) → T a → T b → T (a && b)
     both true true h k = tt
 
-    go : (b : ℕ) → 1018 * 2 ^ 52 ≤ b → b ≤ 1028 * 2 ^ 52 → T (lnTakes (ofBits binary64 b))
+    go : (b : ℕ) → 1018 * 2 ^ 52 ≤ b → b ≤ 1028 * 2 ^ 52 → T (lnInside (ofBits binary64 b))
     go b h k = both (le (ofBits binary64 0x0010_0000_0000_0000) (ofBits binary64 b)) (le (ofBits binary64 b) (ofBits binary64 0x7fef_ffff_ffff_ffff)) (bits-mono 0x0010_0000_0000_0000 b (lit≤ tt) (low b h) (high b k .1)) (bits-mono b 0x7fef_ffff_ffff_ffff (low b h) (high b k .0) (lit< tt))
 
 pub power-has-value : (x y : Float) → T (fits binary64 x) → T (baseInside x) → (e : Frac) × PowerValue (valF x) (valF y) e

@@ -10,6 +10,7 @@ use lib.Dec.{T, lit<, lit≤}
 use lib.Ieee.{Float, binary64, fits, toBits}
 use Rattle.number.specs.Frac.{Frac, frac, Pos, leF, ltF, zeroF, negF, addF, subF, mulF, sgn, valF}
 use Rattle.number.proofs.Frac.{ring, le-transF, le-reflF, lt-leF, le-lt-transF, lt-le-transF, neg-antiF, addF-pos, mulF-pos, negF-pos, sgn-pos, valF-pos}
+use Rattle.number.specs.Domain.{baseInside}
 use Rattle.fixed_point.proofs.Horner.{ring as sums}
 use Rattle.series.specs.Sums.{overF, eqF, scaleF}
 use Rattle.series.specs.Exact.{middle, rest, expSum, LnValue, PowerValue}
@@ -21,7 +22,7 @@ use Rattle.exponential.proofs.Bounds.{Bound, bound-eq, bound-up, bound-add, bou
 use Rattle.exponential.proofs.Position.{M}
 use Rattle.exponential.specs.Raise.{raiseOf}
 use Rattle.exponential.proofs.RaiseNear.{raise-near}
-use Rattle.binary_log.specs.BinaryLog.{baseInside, placeOf, significandLog}
+use Rattle.binary_log.specs.BinaryLog.{placeOf, significandLog}
 use Rattle.binary_log.proofs.Base.{base-bits}
 use Rattle.binary_log.proofs.Significand.{Near, Near-two, near, near-two, log-small, upper-half, lower-half}
 use Rattle.logarithm.proofs.OddSeries.{Sum, whole}
@@ -31,7 +32,7 @@ use Rattle.power.proofs.LogNear.{by-parts, scaled-value, power-is}
 use Rattle.power.proofs.OneNear.{turned, close}
 use Rattle.power.proofs.ExpLn.{half-is, half-pos, v-pos, moved-value, value-near}
 
--- ---- a number t a little nearer to 0 than τ = ± X / Y, which is at most 1/2 and 2 ^ -60 of ln 2
+-- ---- a number t a little nearer to 0 than τ = ± X / Y, which is at most 1/2 plus 2 ^ -60 of ln 2
 module _ (s : Bool) (X Y : ℕ) (Yp : 0 < Y) (bound : X * md * 2 ^ 61 ≤ mn * (2 ^ 60 + 2) * Y) where
   abbrev t : Frac
   t = sgn s (X * (2 ^ 57 - 1)) (Y * 2 ^ 57)
@@ -183,7 +184,7 @@ one-log g p q h = (one-hi mn md (2 ^ 60) g p q (lit≤ tt) (h .0), one-lo mn md 
 two-log : (g p q : ℕ) → Near-two g p q → Bound (subF (frac 0 (2 * p) (1 * q)) (mulF (frac g (2 ^ 61) (2 ^ 61)) M)) (frac 1 0 (2 ^ 60))
 two-log g p q h = (two-lo mn md (2 ^ 60) g p q (lit≤ tt) (h .0), two-hi mn md (2 ^ 60) g p q (lit≤ tt) (h .1))
 
--- ---- the word for the core: f and g 2 ^ -61, cut to 2 ^ -53
+-- ---- the word for the core: f plus g 2 ^ -61, cut to 2 ^ -53
 abbrev wordFor : ℕ → ℕ → ℕ
 wordFor f g = f * 2 ^ 53 + g / 256
 
@@ -219,7 +220,7 @@ module _ (f g : ℕ) where
       through : (v a b m : Frac) → eqF (subF v (mulF b m)) (addF (subF v (mulF a m)) (mulF (subF a b) m))
       through (frac p n d) (frac q k c) (frac x y z) (frac u w t) = (le-of-eq (simp sums), le-of-eq (simp sums))
 
--- ---- k ln 2 and t, where k and the rest y - y' of the logarithm are the logarithm
+-- ---- k ln 2 plus t, where k plus the rest y - y' of the logarithm is the logarithm
 move : (a b x x' y y' u m q p n d : ℕ) → x + b * u + y' ≡ x' + a * u + y → eqF (subF (addF (mulF (frac a b 1) (frac m 0 q)) (frac p n d)) (mulF (frac x x' u) (frac m 0 q))) (subF (frac p n d) (mulF (frac y y' u) (frac m 0 q)))
 move a b x x' y y' u m q p n d e =
     let z = simp ring at (ap (λ (w : ℕ). w * (m * q * q * d * d * u)) e) in

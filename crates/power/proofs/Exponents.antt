@@ -8,9 +8,10 @@ use lib.IntN.{ℤ, pos}
 use lib.Dec.{T, leb, eqb, lit<, lit≤}
 use lib.Pow.{pow-pos, pow-add}
 use lib.Ieee.{Float, fin, up, down, binary64, fits, isNan, toBits, ofBits, ofFields, odd, le, neg}
+use Rattle.number.specs.Domain.{exponentInside}
 use Rattle.exponential.proofs.Decode.{unitsOf, sizeBy, decoded, inside-is, field-lt, size-le-of, size-lo, size-hi}
 use Rattle.exponential.proofs.Argument.{units-le}
-use Rattle.power.specs.Power.{exponentInside, sizeOf, exponentOf}
+use Rattle.power.specs.Power.{exponentSize, exponentOf}
 use Rattle.power.specs.declared.FixedExponent.{FixedExponent}
 
 -- ---- the code's tests
@@ -84,7 +85,7 @@ hi zero t h k = le-trans (mul-le-mul-left 4 (le-trans (le-of-eq (mul-one t)) (le
     least x = omega arith
 hi (suc i) t h k = le-trans (le-of-eq (sym (four-times i t))) (size-hi (suc (suc (suc i))) t h k)
 
-shift-is : (b : ℕ) → sizeBy (suc (suc (fieldOf b))) (digitsOf b) ≡ sizeOf b
+shift-is : (b : ℕ) → sizeBy (suc (suc (fieldOf b))) (digitsOf b) ≡ exponentSize b
 shift-is b = ap (λ (x : ℕ). (b % 2 ^ 52 + 2 ^ 52) * 2048 / 2 ^ x) (lin (b / 2 ^ 52 % 2048))
   where
     lin : (f : ℕ) → 1032 - suc (suc f) ≡ 1030 - f
@@ -108,7 +109,7 @@ module _ (s : Bool) (m : ℕ) (e : ℤ) (fits₁ : T (fits binary64 (fin s m e))
   field-ok = field-lt 768 (suc (suc (fieldOf b))) (digitsOf b) (lit< tt) (digits-lt b) units-bound
 
   -- the size in fixed point: at most 192, and |y| rounded down
-  pub size-le : sizeOf b ≤ 192 * 2 ^ 56
+  pub size-le : exponentSize b ≤ 192 * 2 ^ 56
   size-le = subst (λ (x : ℕ). x ≤ 192 * 2 ^ 56) (shift-is b) (le-trans (size-le-of 768 (suc (suc (fieldOf b))) (digitsOf b) (lit< tt) (digits-lt b) units-bound) (lit≤ tt))
 
   whole-split : 4 * (m * up e * 2 ^ 1074) ≡ m * up e * 2 ^ 56 * 2 ^ 1020
@@ -120,12 +121,12 @@ module _ (s : Bool) (m : ℕ) (e : ℤ) (fits₁ : T (fits binary64 (fin s m e))
   four-units : 4 * unitsOf (fieldOf b) (digitsOf b) * down e ≡ m * up e * 2 ^ 56 * 2 ^ 1020
   four-units = mul-assoc 4 (unitsOf (fieldOf b) (digitsOf b)) (down e) ∙ ap (λ (z : ℕ). 4 * z) (sym units-is) ∙ whole-split
 
-  pub size-below : sizeOf b * down e ≤ m * up e * 2 ^ 56
+  pub size-below : exponentSize b * down e ≤ m * up e * 2 ^ 56
   size-below =
       subst (λ (x : ℕ). x * down e ≤ m * up e * 2 ^ 56) (shift-is b)
       (le-of-mul-le-mul-right {k = 2 ^ 1020} (le-trans (le-of-eq (sym (turn (sizeBy (suc (suc (fieldOf b))) (digitsOf b)) (down e)))) (le-trans (mul-le-mul-right (down e) (lo (fieldOf b) (digitsOf b) field-ok (digits-lt b))) (le-of-eq four-units))) (pow-pos 1020))
 
-  pub size-above : m * up e * 2 ^ 56 ≤ (sizeOf b + 1) * down e
+  pub size-above : m * up e * 2 ^ 56 ≤ (exponentSize b + 1) * down e
   size-above =
       subst (λ (x : ℕ). m * up e * 2 ^ 56 ≤ (x + 1) * down e) (shift-is b)
       (le-of-mul-le-mul-right {k = 2 ^ 1020} (le-trans (le-of-eq (sym four-units)) (le-trans (mul-le-mul-right (down e) (hi (fieldOf b) (digitsOf b) field-ok (digits-lt b))) (le-of-eq (turn (sizeBy (suc (suc (fieldOf b))) (digitsOf b) + 1) (down e))))) (pow-pos 1020))
@@ -148,6 +149,6 @@ module _ (y : Float) (t : Bool) (is : t ≡ exponentInside y) where
   unfolding exponentOf
   outside-is h = rw (← is, h)
 
-  pub value-is : (n : ℕ) → t ≡ true → n ≡ sizeOf (toBits binary64 y) → _≡_ {A = FixedExponent} (record { size = n; negative = leb (2 ^ 63) (toBits binary64 y); one = eqb (toBits binary64 y) 0x3ff0_0000_0000_0000 }) (exponentOf y)
+  pub value-is : (n : ℕ) → t ≡ true → n ≡ exponentSize (toBits binary64 y) → _≡_ {A = FixedExponent} (record { size = n; negative = leb (2 ^ 63) (toBits binary64 y); one = eqb (toBits binary64 y) 0x3ff0_0000_0000_0000 }) (exponentOf y)
   unfolding exponentOf
   value-is n h p = rw (← is, h, p)

@@ -1,7 +1,7 @@
 -- Document 01's bracket of ln y over one denominator, from bounds of the sum of 24 terms: y = 2 ^ (e - 1023) w, w = u / o. Assumes nothing.
 use mathlib.Core.Path.{_≡_, refl, sym, subst}
 use mathlib.Core.Bool.{Bool, true, false}
-use Prim.Native.Nat.{ℕ, _+_, _-_, _*_, _^_, _≤_, _<_}
+use Prim.Native.Nat.{ℕ, _+_, _*_, _^_, _≤_, _<_}
 use native.Mathlib.Nat.{one-mul, zero-mul, add-zero, mul-le-mul-right, mul-pos}
 use native.Mathlib.Omega.{arith}
 use lib.Dec.{lit<}

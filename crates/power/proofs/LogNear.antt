@@ -11,6 +11,7 @@ use lib.Ieee.{Float, binary64, fits, toBits}
 use lib.Ieee.Bits.{is-true}
 use Rattle.number.specs.Frac.{Frac, frac, Pos, leF, negF, subF, mulF, sgn, valF}
 use Rattle.number.proofs.Frac.{ring, valF-pos}
+use Rattle.number.specs.Domain.{baseInside}
 use Rattle.fixed_point.specs.Horner.{horner}
 use Rattle.fixed_point.proofs.Patterns64.{val}
 use Rattle.fixed_point.proofs.Decode.{normal-value}
@@ -22,7 +23,7 @@ use Rattle.logarithm.proofs.OddSeries.{whole}
 use Rattle.logarithm.proofs.LnNear.{cancel}
 use Rattle.exponential.proofs.Bounds.{Bound}
 use Rattle.exponential.proofs.Position.{M}
-use Rattle.binary_log.specs.BinaryLog.{baseInside, significandLog, logOf}
+use Rattle.binary_log.specs.BinaryLog.{significandLog, logOf}
 use Rattle.binary_log.specs.declared.Log.{Log}
 use Rattle.binary_log.proofs.Base.{base-bits, up-is, down-is}
 use Rattle.binary_log.proofs.Significand.{near, near-two, log-small}

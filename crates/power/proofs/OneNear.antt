@@ -60,7 +60,7 @@ joined a c u n y d h =
     let z = simp ring at (mul-le-mul-right (y * u * u * d * d) h) in
     simp (ring, zero-mul, add-zero) (omega arith)
 
--- D is at most 498 E and 1012 x, in parts of 2 ^ 60, and x at most E and D: D is at most E / 2 ^ 48
+-- D is at most 498 E plus 1012 x, in parts of 2 ^ 60, and x at most E plus D: D is at most E / 2 ^ 48
 last : (D E x : Frac) → Pos D → Pos E → Pos x → leF D (addF (mulF (frac 498 0 (2 ^ 60)) E) (mulF (frac 1012 0 (2 ^ 60)) x)) → leF x (addF E D) → (δ c e k : ℕ) → D ≡ frac δ 0 c → E ≡ frac e 0 k → leF (mulF (natF (2 ^ 48)) D) E
 last D E x DP EP XP h l δ c e k p q =
     subst (λ (D : Frac). leF (mulF (natF (2 ^ 48)) D) E) (sym p) (subst (λ (E : Frac). leF (mulF (natF (2 ^ 48)) (frac δ 0 c)) E) (sym q)

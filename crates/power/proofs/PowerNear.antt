@@ -12,6 +12,7 @@ use borrow.Author.Tests.{lt-ltb}
 use Rattle.number.specs.Ans.{held, refused, _>>=_, demand}
 use Rattle.number.specs.Frac.{Frac, frac, Pos, leF, negF, addF, subF, mulF, sgn, valF}
 use Rattle.number.proofs.Frac.{ring, valF-pos, sgn-pos, addF-pos, mulF-pos, negF-pos, le-reflF}
+use Rattle.number.specs.Domain.{baseInside, exponentInside}
 use Rattle.series.specs.Sums.{eqF}
 use Rattle.series.specs.Exact.{PowerValue}
 use Rattle.series.specs.Distance.{within}
@@ -24,8 +25,8 @@ use Rattle.exponential.proofs.Bounds.{Bound, bound-eq, bound-up, bound-add, bou
 use Rattle.exponential.proofs.Position.{M}
 use Rattle.exponential.proofs.Value.{Within}
 use Rattle.exponential.proofs.RaiseNear.{raise-finite, raise-near}
-use Rattle.binary_log.specs.BinaryLog.{baseInside, logOf}
-use Rattle.power.specs.Power.{exponentInside, sizeOf, exponentOf, productOf, wordOf, powerOf, powfOf}
+use Rattle.binary_log.specs.BinaryLog.{logOf}
+use Rattle.power.specs.Power.{exponentSize, exponentOf, productOf, wordOf, powerOf, powfOf}
 use Rattle.power.specs.declared.FixedExponent.{FixedExponent}
 use Rattle.power.proofs.Exponents.{finite-is, sign-is, size-le, size-below, size-above, value-is}
 use Rattle.power.proofs.LogNear.{signedLog, log-near, log-le}
@@ -104,7 +105,7 @@ word-near s t A D L v small lo hi = go s t
 parts : (y l k w m : Frac) → eqF (subF (mulF y l) (mulF w m)) (addF (mulF y (subF l (mulF k m))) (mulF (subF (mulF y k) w) m))
 parts (frac a b c) (frac p n d) (frac x x' u) (frac w w' t) (frac m m' q) = (le-of-eq (simp sums), le-of-eq (simp sums))
 
--- 192 · 24 / 2 ^ 66 and 13 / 2 ^ 56 ln 2 are at most 217 / 2 ^ 60
+-- 192 · 24 / 2 ^ 66 plus 13 / 2 ^ 56 ln 2 is at most 217 / 2 ^ 60
 sizes : leF (addF (mulF (frac 192 0 1) (frac 24 0 (2 ^ 66))) (mulF (frac 13 0 (2 ^ 56)) M)) (frac 217 0 (2 ^ 60))
 sizes = leb→leF (addF (mulF (frac 192 0 1) (frac 24 0 (2 ^ 66))) (mulF (frac 13 0 (2 ^ 56)) M)) (frac 217 0 (2 ^ 60)) tt
 
@@ -132,11 +133,11 @@ loosen (frac p n d) (frac q k c) h = go ((p * c + k * d - (n * c + q * d)) + (n 
         simp (ring, one-mul, mul-zero, zero-mul, add-zero) (omega arith)
 
 -- the exponent's value in fixed point
-exponent-is : (y : Float) → T (exponentInside y) → exponentOf y .size ≡ sizeOf (toBits binary64 y)
-exponent-is y h = ap (λ (r : FixedExponent). r .size) (sym (value-is y true (sym (is-true (exponentInside y) h)) (sizeOf (toBits binary64 y)) refl refl))
+exponent-is : (y : Float) → T (exponentInside y) → exponentOf y .size ≡ exponentSize (toBits binary64 y)
+exponent-is y h = ap (λ (r : FixedExponent). r .size) (sym (value-is y true (sym (is-true (exponentInside y) h)) (exponentSize (toBits binary64 y)) refl refl))
 
 negative-is : (y : Float) → T (exponentInside y) → exponentOf y .negative ≡ leb (2 ^ 63) (toBits binary64 y)
-negative-is y h = ap (λ (r : FixedExponent). r .negative) (sym (value-is y true (sym (is-true (exponentInside y) h)) (sizeOf (toBits binary64 y)) refl refl))
+negative-is y h = ap (λ (r : FixedExponent). r .negative) (sym (value-is y true (sym (is-true (exponentInside y) h)) (exponentSize (toBits binary64 y)) refl refl))
 
 next : (x : ℕ) → x ≤ (x / 2 ^ 64 + 1) * 2 ^ 64
 next x = omega arith
@@ -153,7 +154,7 @@ module _ (x : Float) (fx : T (fits binary64 x)) (hx : T (baseInside x)) (s : Boo
   L = logOf x .size
 
   abbrev Y : ℕ
-  Y = sizeOf (toBits binary64 y)
+  Y = exponentSize (toBits binary64 y)
 
   abbrev v : ℕ
   v = Y * L / 2 ^ 64

@@ -6,10 +6,11 @@ use native.Mathlib.Omega.{arith}
 use lib.Ieee.{Float}
 use borrow.Author.Tests.{lt-ltb, le-ltb}
 use Rattle.number.specs.Ans.{held, refused, _>>=_, demand}
+use Rattle.number.specs.Domain.{baseInside, exponentInside}
 use Rattle.exponential.specs.Raise.{raiseOf}
-use Rattle.binary_log.specs.BinaryLog.{baseInside, logOf}
+use Rattle.binary_log.specs.BinaryLog.{logOf}
 use Rattle.binary_log.specs.declared.Log.{Log}
-use Rattle.power.specs.Power.{exponentInside, exponentOf, productOf, wordOf, powerOf, powfOf}
+use Rattle.power.specs.Power.{exponentOf, productOf, wordOf, powerOf, powfOf}
 use Rattle.power.specs.declared.FixedExponent.{FixedExponent}
 
 -- ---- the product

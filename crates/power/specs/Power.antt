@@ -1,35 +1,32 @@
--- The power: its domain, its two stages in fixed point, and its value.
-use mathlib.Core.Bool.{Bool, false, _&&_, cond, Bool·beq}
+-- The power: its two stages in fixed point, and its value.
+use mathlib.Core.Bool.{false, cond, Bool·beq}
 use Prim.Native.Nat.{ℕ, _+_, _-_, _*_, _/_, _%_, _^_}
 use lib.Dec.{leb, ltb, eqb}
-use lib.Ieee.{Float, binary64, ofBits, toBits, le, neg}
+use lib.Ieee.{Float, binary64, toBits}
 use Rattle.number.specs.Ans.{Ans, held, _>>=_, demand}
+use Rattle.number.specs.Domain.{baseInside, exponentInside}
 use Rattle.exponential.specs.Raise.{raiseOf}
-use Rattle.binary_log.specs.BinaryLog.{baseInside, logOf}
+use Rattle.binary_log.specs.BinaryLog.{logOf}
 use Rattle.binary_log.specs.declared.Log.{Log}
 use Rattle.power.specs.declared.FixedExponent.{FixedExponent}
 
--- 'Power: .. exponent −192 to 192. Ends belong, NaN never'
-unfoldable pub exponentInside : Float → Bool
-exponentInside y = le (neg (ofBits binary64 0x4068_0000_0000_0000)) y && le y (ofBits binary64 0x4068_0000_0000_0000)
-
 -- |y| in units of 2 ^ -56, rounded down, from the bits of y
-abbrev pub sizeOf : ℕ → ℕ
-sizeOf b = (b % 2 ^ 52 + 2 ^ 52) * 2048 / 2 ^ (1030 - b / 2 ^ 52 % 2048)
+abbrev pub exponentSize : ℕ → ℕ
+exponentSize b = (b % 2 ^ 52 + 2 ^ 52) * 2048 / 2 ^ (1030 - b / 2 ^ 52 % 2048)
 
 -- an exponent; outside the domain 0
 unfoldable pub exponentOf : Float → FixedExponent
 exponentOf y =
     let b = toBits binary64 y in
     cond (exponentInside y)
-    (record { size = sizeOf b; negative = leb (2 ^ 63) b; one = eqb b 0x3ff0_0000_0000_0000 })
+    (record { size = exponentSize b; negative = leb (2 ^ 63) b; one = eqb b 0x3ff0_0000_0000_0000 })
     (record { size = 0; negative = false; one = false })
 
 -- the size of the product of a logarithm l and an exponent y by their sizes, in units of 2 ^ -53, rounded down and no more than 1022
 abbrev pub productOf : ℕ → ℕ → ℕ
 productOf l y = cond (ltb (y * l / 2 ^ 64) (1022 * 2 ^ 53)) (y * l / 2 ^ 64) (1022 * 2 ^ 53)
 
--- the product and 1023, in units of 2 ^ -53: above 1023 where the signs are the same
+-- the product plus 1023, in units of 2 ^ -53: above 1023 where the signs are the same
 unfoldable pub wordOf : Log → FixedExponent → ℕ
 wordOf l y = cond (Bool·beq (l .negative) (y .negative)) (1023 * 2 ^ 53 + productOf (l .size) (y .size)) (1023 * 2 ^ 53 - productOf (l .size) (y .size))
 

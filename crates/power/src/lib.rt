@@ -3,7 +3,8 @@
 ghost use mathlib.Core.Path.{_≡_};
 ghost use Prim.Native.Nat.{_*_, _^_, _≤_, _<_};
 ghost use Rattle.number.specs.Answer.{answer};
-ghost use Rattle.power.specs.Power.{exponentInside, exponentOf, productOf, wordOf, powerOf, powfOf};
+ghost use Rattle.number.specs.Domain.{exponentInside};
+ghost use Rattle.power.specs.Power.{exponentOf, productOf, wordOf, powerOf, powfOf};
 use binary_log::Log;
 use binary_log::base_inside;
 use binary_log::log_base;
@@ -63,7 +64,7 @@ fn product(log: u64, exponent: u64) -> u64
     }
 }
 
-// The product and 1023, as the core takes it.
+// The product plus 1023, as the core takes it.
 fn word(log: Log, exponent: FixedExponent) -> u64
     ensures value { λ r. ⌜ r ≡ wordOf log exponent ⌝ }
     ensures range { λ r. ⌜ (2 ^ 53 ≤ r) × (r < 2046 * 2 ^ 53) ⌝ }

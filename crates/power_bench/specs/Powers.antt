@@ -7,5 +7,5 @@ use Rattle.number.specs.Walk.{turns}
 use Rattle.binary_log.specs.BinaryLog.{logOf}
 use Rattle.power.specs.Power.{exponentOf, powerOf}
 
-unfoldable pub powers : Float → List Float → Float
-powers x l = turns 14 (λ i s. floats .add s (powerOf (logOf x) (exponentOf (at l i)))) zero64
+unfoldable pub fourteenPowers : Float → List Float → Float
+fourteenPowers x l = turns 14 (λ i s. floats .add s (powerOf (logOf x) (exponentOf (at l i)))) zero64

@@ -16,12 +16,12 @@ use Rattle.root.specs.Root.{wholeRoot, positiveRoot, root}
 use Rattle.logarithm.specs.Logarithm.{ln1pOf}
 use Rattle.power.proofs.Corners as PowerCorners
 use Rattle.interval.proofs.Example.{sum-of-one-and-zero}
-use Rattle.limits.specs.Limits.{within, countWithin, componentWithin, componentsWithin, allWithin, massesWithin, sameBits, pairWithin, pairsWithin, allOne}
+use Rattle.limits.specs.Limits.{inLimits, countWithin, componentWithin, componentsWithin, allWithin, massesWithin, sameBits, pairWithin, pairsWithin, allOne}
 use Rattle.mie_parameters.specs.Combine.{epsilonKIj, lambdaIj, cIj}
 use Rattle.saftvrqmie_parameters.specs.Combine.{sigmaIj}
 use Rattle.number.specs.Functions.{answered, answered₂}
-use Rattle.power.specs.Power.{powfOf, exponentInside}
-use Rattle.binary_log.specs.BinaryLog.{baseInside}
+use Rattle.number.specs.Domain.{baseInside, exponentInside}
+use Rattle.power.specs.Power.{powfOf}
 use lib.Dec.{T}
 use Rattle.saftvrqmie_parameters.specs.Parameters as Quantum
 use Rattle.saftvrqmie_parameters.proofs.Laws as QuantumLaws
@@ -57,15 +57,15 @@ unfolding Quantum.orderWalk Quantum.orderRow walk Quantum.pairOrders demand _>>=
 orders-1-2-walk = refl
 
 accepted-0-1 : Accepted (Quantum.saftVRQMiePars (alike (0 ∷ 1 ∷ [])))
-unfolding Quantum.saftVRQMiePars Quantum.rightLengths countWithin Quantum.withinLimits componentsWithin componentWithin within massesWithin allWithin pairsWithin pairWithin sameBits allOne every turns Quantum.orderWalk Quantum.orderRow walk Quantum.pairOrders Quantum.sheetsOf Quantum.sheetsRow Quantum.sheetsTurn Quantum.pairParameters epsilonKIj lambdaIj cIj sigmaIj answered answered₂ root positiveRoot wholeRoot powfOf baseInside exponentInside demand _>>=_ decimal digits powDigits powUp Ieee.round Ieee.ofBits Ieee.le Ieee.lt Ieee.eq Ieee.isNan Ieee.toBits Ieee.neg Ieee.add Ieee.sub Ieee.mul Ieee.div Ieee.size
+unfolding Quantum.saftVRQMiePars Quantum.rightLengths countWithin Quantum.withinLimits componentsWithin componentWithin inLimits massesWithin allWithin pairsWithin pairWithin sameBits allOne every turns Quantum.orderWalk Quantum.orderRow walk Quantum.pairOrders Quantum.sheetsOf Quantum.sheetsRow Quantum.sheetsTurn Quantum.pairParameters epsilonKIj lambdaIj cIj sigmaIj answered answered₂ root positiveRoot wholeRoot powfOf baseInside exponentInside demand _>>=_ decimal digits powDigits powUp Ieee.round Ieee.ofBits Ieee.le Ieee.lt Ieee.eq Ieee.isNan Ieee.toBits Ieee.neg Ieee.add Ieee.sub Ieee.mul Ieee.div Ieee.size
 accepted-0-1 = record { result = _; is = refl }
 
 within-2 : (a b : ℕ) → Within (alike (a ∷ b ∷ []))
-unfolding Quantum.rightLengths countWithin Quantum.withinLimits componentsWithin componentWithin within massesWithin allWithin pairsWithin pairWithin sameBits every turns decimal Ieee.round Ieee.ofBits Ieee.le Ieee.lt Ieee.eq Ieee.isNan Ieee.toBits Ieee.neg Ieee.size
+unfolding Quantum.rightLengths countWithin Quantum.withinLimits componentsWithin componentWithin inLimits massesWithin allWithin pairsWithin pairWithin sameBits every turns decimal Ieee.round Ieee.ofBits Ieee.le Ieee.lt Ieee.eq Ieee.isNan Ieee.toBits Ieee.neg Ieee.size
 within-2 a b = record { lengths = refl; limits = refl }
 
 within-3 : (a b c : ℕ) → Within (alike (a ∷ b ∷ c ∷ []))
-unfolding Quantum.rightLengths countWithin Quantum.withinLimits componentsWithin componentWithin within massesWithin allWithin pairsWithin pairWithin sameBits every turns decimal Ieee.round Ieee.ofBits Ieee.le Ieee.lt Ieee.eq Ieee.isNan Ieee.toBits Ieee.neg Ieee.size
+unfolding Quantum.rightLengths countWithin Quantum.withinLimits componentsWithin componentWithin inLimits massesWithin allWithin pairsWithin pairWithin sameBits every turns decimal Ieee.round Ieee.ofBits Ieee.le Ieee.lt Ieee.eq Ieee.isNan Ieee.toBits Ieee.neg Ieee.size
 within-3 a b c = record { lengths = refl; limits = refl }
 
 base-32 : (y : Ieee.Float) → T (exponentInside y) → Accepted (port .powf (decimal false 32 0) y)

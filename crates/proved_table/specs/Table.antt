@@ -10,8 +10,8 @@ use Rattle.number.specs.Ans.{Ans, held, refused}
 use Rattle.number.specs.Arith.{floats, bits, decimal, zero64, one64}
 use Rattle.number.specs.Lists.{at}
 use Rattle.number.specs.Neighbour.{nextUp}
+use Rattle.number.specs.Domain.{exponentInside}
 use Rattle.elementary.specs.Port.{port}
-use Rattle.power.specs.Power.{exponentInside}
 use Rattle.interval.specs.Interval.{point, addI}
 use Rattle.limits.specs.Limits.{square, allOne}
 use Rattle.saftvrqmie_parameters.specs.Parameters as Quantum

@@ -16,7 +16,7 @@ use lib.Ieee.Scale.{finite}
 use Rattle.number.specs.Ans.{held, refused}
 use Rattle.number.specs.Frac.{leF, ltF, valF}
 use Rattle.number.proofs.Frac.{le-or-lt, lt-leF, lt-irreflF}
-use Rattle.root.specs.Root.{wholeRoot, positiveRoot, root, midpoint, square, Nearest}
+use Rattle.root.specs.Root.{wholeRoot, positiveRoot, root, midpoint, squareF, Nearest}
 use Rattle.root.proofs.Align.{zeros, double, moved, moved-fits, moved-long, exact, positive-is}
 use Rattle.root.proofs.Domain.{root-of}
 use Rattle.root.proofs.Pattern.{value-packed}
@@ -98,12 +98,12 @@ module _ (x : Float) (S : Significand x) where
       counted (inf t) v = v
       counted (fin t m e) v = tt
 
-      up : (y : Float) → ltF (valF r) (valF y) → Candidate y → ltF (valF x) (square (midpoint r y))
+      up : (y : Float) → ltF (valF r) (valF y) → Candidate y → ltF (valF x) (squareF (midpoint r y))
       up y l c =
           midpoint-above own rounded (c .value)
           (lt-of-le-of-lt (le-of-eq scale) (above-float n (moved (S .m) (S .e) * 2 ^ 43) w s h even whole refl (span .0) (c .m) (c .e) (c .short) (units-lt rounded (c .value) l)))
 
-      down : (y : Float) → ltF (valF y) (valF r) → Candidate y → ltF (square (midpoint y r)) (valF x)
+      down : (y : Float) → ltF (valF y) (valF r) → Candidate y → ltF (squareF (midpoint y r)) (valF x)
       down y l c =
           midpoint-below own (c .value) rounded
           (subst (λ (z : ℕ). z * z < 4 * (S .m * 2 ^ S .e) * 2 ^ 1074) (add-comm (s * 2 ^ h) (c .m * 2 ^ c .e))
@@ -119,7 +119,7 @@ nearest-zero t e f = record {
   below = λ y g k m l. absurd (none y l (candidate y g k m));
 }
   where
-    up : (y : Float) → ltF (valF (fin t zero e)) (valF y) → Candidate y → ltF (valF (fin t zero e)) (square (midpoint (fin t zero e) y))
+    up : (y : Float) → ltF (valF (fin t zero e)) (valF y) → Candidate y → ltF (valF (fin t zero e)) (squareF (midpoint (fin t zero e) y))
     up y l c =
         midpoint-above (no-units t e) (no-units t e) (c .value)
         (subst (λ (z : ℕ). z < (0 + c .m * 2 ^ c .e) * (0 + c .m * 2 ^ c .e)) (sym (zero-mul (2 ^ 1074))) (squared (c .m * 2 ^ c .e) (units-lt (no-units t e) (c .value) l)))
@@ -168,4 +168,4 @@ nearest-le x r q R Q = go (le-or-lt (valF r) (valF q))
     go : leF (valF r) (valF q) ⊎ ltF (valF q) (valF r) → leF (valF r) (valF q)
     go (inl h) = h
     go (inr h) =
-        absurd (lt-irreflF (valF x) (square (midpoint q r)) (lt-leF (valF x) (square (midpoint q r)) (Q .above r (R .is-float) (R .is-finite) h)) (R .below q (Q .is-float) (Q .is-finite) (Q .not-negative) h))
+        absurd (lt-irreflF (valF x) (squareF (midpoint q r)) (lt-leF (valF x) (squareF (midpoint q r)) (Q .above r (R .is-float) (R .is-finite) h)) (R .below q (Q .is-float) (Q .is-finite) (Q .not-negative) h))

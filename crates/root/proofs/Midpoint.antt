@@ -5,7 +5,7 @@ use native.Mathlib.Nat.{mul-pos, one-mul, zero-mul, mul-zero, add-zero, zero-add
 use native.Mathlib.Omega.{arith}
 use Rattle.number.specs.Frac.{frac, ltF, addF, mulF}
 use Rattle.number.proofs.Frac.{ring}
-use Rattle.root.specs.Root.{square}
+use Rattle.root.specs.Root.{squareF}
 
 -- p / d is n / u, and s / w is t / u
 module _ (p d s w n t u : ℕ) (U : 0 < u) (D : 0 < d) (W : 0 < w) (e : p * u ≡ n * d) (f : s * u ≡ t * w) where
@@ -46,8 +46,8 @@ module _ (p d q c o l n a b u : ℕ) (U : 0 < u) (D : 0 < d) (C : 0 < c) (L : 0 
       back : (a b c l : ℕ) → a * c * l + b * l * c ≡ (a + b) * (c * l)
       back a b c l = simp ring
 
-  pub square-above : 4 * n * u < (a + b) * (a + b) → ltF (frac p 0 d) (square (mulF (frac 1 0 2) (addF (frac q 0 c) (frac o 0 l))))
+  pub square-above : 4 * n * u < (a + b) * (a + b) → ltF (frac p 0 d) (squareF (mulF (frac 1 0 2) (addF (frac q 0 c) (frac o 0 l))))
   square-above h = simp clean (under p d (q * l + o * c) (c * l) n (a + b) u U D (mul-pos C L) ex sum h)
 
-  pub square-below : (a + b) * (a + b) < 4 * n * u → ltF (square (mulF (frac 1 0 2) (addF (frac q 0 c) (frac o 0 l)))) (frac p 0 d)
+  pub square-below : (a + b) * (a + b) < 4 * n * u → ltF (squareF (mulF (frac 1 0 2) (addF (frac q 0 c) (frac o 0 l)))) (frac p 0 d)
   square-below h = simp clean (over p d (q * l + o * c) (c * l) n (a + b) u U D (mul-pos C L) ex sum h)

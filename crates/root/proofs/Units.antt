@@ -15,7 +15,7 @@ use lib.Ieee.Positive.{positive, value-pos, first-pos}
 use lib.Ieee.Scale.{finite}
 use Rattle.number.specs.Frac.{Frac, frac, leF, ltF, zeroF, valF}
 use Rattle.number.proofs.Frac.{ring, valF-pos, le-lt-transF, lt-leF}
-use Rattle.root.specs.Root.{midpoint, square}
+use Rattle.root.specs.Root.{midpoint, squareF}
 use Rattle.root.proofs.Domain.{pattern, value-small-of, value-normal-of}
 use Rattle.root.proofs.Midpoint.{square-above, square-below}
 
@@ -42,12 +42,12 @@ module _ (u : ℕ) (U : 0 < u) where
           subst₂ (λ (x y : ℕ). x < y) p s t
 
   module _ {x r y : Float} {n a b : ℕ} (X : Counts u x n) (R : Counts u r a) (Y : Counts u y b) where
-    under : 4 * n * u < (a + b) * (a + b) → ltF (valF x) (square (midpoint r y))
+    under : 4 * n * u < (a + b) * (a + b) → ltF (valF x) (squareF (midpoint r y))
     under h =
         rw (X .is, R .is, Y .is)
         (square-above (X .upper) (X .lower) (R .upper) (R .lower) (Y .upper) (Y .lower) n a b u U (X .sure) (R .sure) (Y .sure) (X .cross) (R .cross) (Y .cross) h)
 
-    over : (a + b) * (a + b) < 4 * n * u → ltF (square (midpoint r y)) (valF x)
+    over : (a + b) * (a + b) < 4 * n * u → ltF (squareF (midpoint r y)) (valF x)
     over h =
         rw (X .is, R .is, Y .is)
         (square-below (X .upper) (X .lower) (R .upper) (R .lower) (Y .upper) (Y .lower) n a b u U (X .sure) (R .sure) (Y .sure) (X .cross) (R .cross) (Y .cross) h)
@@ -72,10 +72,10 @@ no-units s e = record { upper = 0; lower = down e; sure = down-pos e; is = is s;
 pub units-lt : {x y : Float} {a b : ℕ} → Units x a → Units y b → ltF (valF x) (valF y) → a < b
 units-lt = less (2 ^ 1074) (pow-pos 1074)
 
-pub midpoint-above : {x r y : Float} {n a b : ℕ} → Units x n → Units r a → Units y b → 4 * n * 2 ^ 1074 < (a + b) * (a + b) → ltF (valF x) (square (midpoint r y))
+pub midpoint-above : {x r y : Float} {n a b : ℕ} → Units x n → Units r a → Units y b → 4 * n * 2 ^ 1074 < (a + b) * (a + b) → ltF (valF x) (squareF (midpoint r y))
 midpoint-above = under (2 ^ 1074) (pow-pos 1074)
 
-pub midpoint-below : {x r y : Float} {n a b : ℕ} → Units x n → Units r a → Units y b → (a + b) * (a + b) < 4 * n * 2 ^ 1074 → ltF (square (midpoint r y)) (valF x)
+pub midpoint-below : {x r y : Float} {n a b : ℕ} → Units x n → Units r a → Units y b → (a + b) * (a + b) < 4 * n * 2 ^ 1074 → ltF (squareF (midpoint r y)) (valF x)
 midpoint-below = over (2 ^ 1074) (pow-pos 1074)
 
 -- what is in units is not negative, nor is a float above it

@@ -32,8 +32,8 @@ root (fin false (suc m) e) = held (positiveRoot (suc m * up e * 2 ^ 1074 / down 
 abbrev pub midpoint : Float → Float → Frac
 midpoint x y = mulF (frac 1 0 2) (addF (valF x) (valF y))
 
-abbrev pub square : Frac → Frac
-square q = mulF q q
+abbrev pub squareF : Frac → Frac
+squareF q = mulF q q
 
 -- r is nearer to the root of x than any other float y that is not negative: the root lies on r's side of the midpoint of r and y, which is told by squares.
 -- Since the root is never at a midpoint, no tie occurs. Two such r are equal as fractions.
@@ -41,5 +41,5 @@ pub record Nearest (r x : Float) : Type 0 where
   pub is-float : T (fits binary64 r)
   pub is-finite : T (finite r)
   pub not-negative : leF zeroF (valF r)
-  pub above : (y : Float) → T (fits binary64 y) → T (finite y) → ltF (valF r) (valF y) → ltF (valF x) (square (midpoint r y))
-  pub below : (y : Float) → T (fits binary64 y) → T (finite y) → leF zeroF (valF y) → ltF (valF y) (valF r) → ltF (square (midpoint y r)) (valF x)
+  pub above : (y : Float) → T (fits binary64 y) → T (finite y) → ltF (valF r) (valF y) → ltF (valF x) (squareF (midpoint r y))
+  pub below : (y : Float) → T (fits binary64 y) → T (finite y) → leF zeroF (valF y) → ltF (valF y) (valF r) → ltF (squareF (midpoint y r)) (valF x)

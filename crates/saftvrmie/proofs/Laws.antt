@@ -20,7 +20,7 @@ use Rattle.number.specs.declared.FloatAnswer.the-variants.{Value, Outside}
 use Rattle.mie_parameters.specs.declared.ParameterAnswer.{ParameterAnswer}
 use Rattle.mie_parameters.specs.declared.ParameterAnswer.the-variants.{Held, Refused}
 use Rattle.mie_parameters.specs.Answer.{verdict, stored}
-use Rattle.saftvrmie.specs.Diameters.{diameterAt, diameterTurn, worked, allFinite, rightLength, diameters}
+use Rattle.saftvrmie.specs.Diameters.{diameterAt, diameterTurn, worked, diametersFinite, rightLength, diameters}
 
 -- a turn of the walk
 module _ (sheets : List Float) (t : Float) (i : ℕ) (x : List Float) (a : FloatAnswer) (p : answer a ≡ diameterAt sheets t i) where
@@ -61,10 +61,10 @@ module _ (n : ℕ) (sheets : List Float) (t : Float) (l : List Float) where
       refuses-6 k r e w = (rw (p, q, w) e, rw (p, q, w))
 
       module _ (d : List Float) (w : worked n sheets t ≡ held d) where
-        pub refuses-7 : allFinite n d ≡ false → Told (Refused 7) l
+        pub refuses-7 : diametersFinite n d ≡ false → Told (Refused 7) l
         unfolding diameters demand _>>=_ verdict stored
         refuses-7 f = (rw (p, q, w, f), rw (p, q, w, f))
 
-        pub holds : (x : List Float) → allFinite n d ≡ true → x ≡ filled n (at d) l → Told Held x
+        pub holds : (x : List Float) → diametersFinite n d ≡ true → x ≡ filled n (at d) l → Told Held x
         unfolding diameters demand _>>=_ verdict stored
         holds x f e = (rw (p, q, w, f), rw (p, q, w, f) e)

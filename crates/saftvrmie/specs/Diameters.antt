@@ -31,8 +31,8 @@ unfoldable pub worked : ℕ → List Float → Float → Ans (List Float)
 worked n sheets t = walk n (diameterTurn sheets t) (replicate side zero64)
 
 -- 7: a diameter is not finite
-unfoldable pub allFinite : ℕ → List Float → Bool
-allFinite n l = every n (λ i. finite (at l i))
+unfoldable pub diametersFinite : ℕ → List Float → Bool
+diametersFinite n l = every n (λ i. finite (at l i))
 
 -- 1: the count, or a list of `len` places that is not as long as it
 unfoldable pub rightLength : ℕ → ℕ → Bool
@@ -44,5 +44,5 @@ diameters n sheets t l =
     demand 1 (rightLength n (length l)) >>= λ _.
     demand 2 (temperatureWithin t) >>= λ _.
     worked n sheets t >>= λ d.
-    demand 7 (allFinite n d) >>= λ _.
+    demand 7 (diametersFinite n d) >>= λ _.
     held (filled n (at d) l)

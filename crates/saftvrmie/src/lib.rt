@@ -8,7 +8,7 @@ ghost use Rattle.sizes.specs.Sizes.{side, sheet, cell};
 ghost use Rattle.number.specs.Walk.{filled, walk};
 ghost use Rattle.mie_parameters.specs.Answer.{outcome, verdict, numberAnswer, stored};
 ghost use Rattle.saftvrmie_diameter.specs.Diameter.{cEpsT};
-ghost use Rattle.saftvrmie.specs.Diameters.{diameterAt, diameterTurn, allFinite, rightLength, diameters};
+ghost use Rattle.saftvrmie.specs.Diameters.{diameterAt, diameterTurn, diametersFinite, rightLength, diameters};
 ghost use Rattle.number.specs.Arith.{floats};
 ghost use Rattle.saftvrmie.specs.Pairs.{radiusIj, diameterIj};
 use mie_parameters::NumberAnswer;
@@ -53,7 +53,7 @@ fn work(n: usize, sheets: &[f64; SHEETS], temperature: f64, d: &mut [f64; SIDE])
 
 fn all_finite(n: usize, d: &[f64; SIDE]) -> bool
     requires { ⌜ n ≤ side ⌝ }
-    ensures { λ r. ⌜ r ≡ allFinite n (now (d .entry)) ⌝ }
+    ensures { λ r. ⌜ r ≡ diametersFinite n (now (d .entry)) ⌝ }
 {
     let mut ok = true;
     for i in 0usize..n {

@@ -9,7 +9,7 @@ ghost use Rattle.enclosure.specs.Enclosure.{enclosures, point, addE, mulE};
 ghost use Rattle.dual.specs.Dual.{duals, plainD, addD, subD, mulD, negD, powD};
 ghost use Rattle.enclosure_dual.specs.Value.{dualOf};
 ghost use Rattle.saftvrmie_dispersion.specs.Sutherland.{kHs, a1sB};
-ghost use Rattle.saftvrmie_dispersion.specs.Terms.{five, prefOf, a1Of, a2Of, ordersOf};
+ghost use Rattle.saftvrmie_dispersion.specs.Terms.{five, prefOf, a1Of, a2Of, termOrdersOf};
 ghost use Rattle.saftvrmie_dispersion.specs.Chain.{rhoDual, zetaDual, fluidDual, g1Of, g2Of, linkPref, gHs, gammaOf, lnGMie, linkOf, addLink, chainPure};
 ghost use Rattle.saftvrmie_dispersion.specs.Answer.{pairIn};
 ghost use Rattle.saftvrmie_dispersion_ends.specs.Shared.{zetaEffBy, a1sBy, iBy, jBy, powerAt};
@@ -22,6 +22,7 @@ use enclosure::Enclosure;
 use enclosure::EnclosureAnswer;
 use enclosure_dual::EnclosureDual;
 use interval::Interval;
+use mie_parameters::PI;
 use saftvrmie_dispersion_ends::BarEnclosures;
 use saftvrmie_dispersion_ends::LambdaEnclosures;
 use saftvrmie_dispersion_ends::SumsEnclosures;
@@ -456,7 +457,7 @@ fn pref_dual(rho: EnclosureDual, d3: Enclosure, eps_k: Enclosure, c: Enclosure) 
     let a = enclosure_dual::mul_plain(rho, d3);
     let z = enclosure_dual::mul_plain(a, eps_k);
     let twice = enclosure_dual::mul_plain(z, enclosure::point(2.0));
-    let round = enclosure_dual::mul_plain(twice, enclosure::point(3.141592653589793));
+    let round = enclosure_dual::mul_plain(twice, enclosure::point(PI));
     enclosure_dual::mul_plain(round, c)
 }
 
@@ -485,7 +486,7 @@ fn a2_dual(
 
 // The first two orders of a component, with slopes.
 pub fn orders_dual(w: FluidDuals, p: PairParameters, d: Enclosure) -> OrdersDualsAnswer
-    ensures { λ r. ⌜ ordersDualAnswer r ≡ ordersOf enclosures (duals enclosures) (plainD enclosures) (calls enclosures port) (fluidDualIn w) (pairIn point p) d ⌝ }
+    ensures { λ r. ⌜ ordersDualAnswer r ≡ termOrdersOf enclosures (duals enclosures) (plainD enclosures) (calls enclosures port) (fluidDualIn w) (pairIn point p) d ⌝ }
 {
     let la = enclosure::point(p.la);
     let lr = enclosure::point(p.lr);
@@ -572,7 +573,7 @@ fn link_pref(d3: Enclosure, eps_k: Enclosure) -> Enclosure
     ensures { λ r. ⌜ r ≡ linkPref enclosures (calls enclosures port .pi) d3 «eps_k» ⌝ }
 {
     let two = enclosure::point(2.0);
-    let pi = enclosure::point(3.141592653589793);
+    let pi = enclosure::point(PI);
     enclosure::mul(enclosure::mul(enclosure::mul(d3, eps_k), two), pi)
 }
 

@@ -16,14 +16,15 @@ use Rattle.number.specs.Arith.{floats, bits, decimal, zero64}
 use Rattle.number.specs.Functions.{calls, answered, answered₂}
 use Rattle.number.specs.Walk.{turns}
 use Rattle.number.proofs.Walk.{walk-none, walk-stop}
+use Rattle.number.specs.Domain.{baseInside, exponentInside}
 use Rattle.elementary.specs.Port.{port}
 use Rattle.fixed_point.specs.Horner.{horner}
 use Rattle.fixed_point.specs.Quotient.{quotient}
 use Rattle.fixed_point.specs.Pack.{packed}
 use Rattle.logarithm.specs.Logarithm.{core, multiple, far, join, signed, reduced, lnBits, lnOf}
 use Rattle.binary_log.specs.declared.Log.{Log}
-use Rattle.binary_log.specs.BinaryLog.{baseInside, logOf}
-use Rattle.power.specs.Power.{exponentInside, exponentOf, powerOf, powfOf}
+use Rattle.binary_log.specs.BinaryLog.{logOf}
+use Rattle.power.specs.Power.{exponentOf, powerOf, powfOf}
 use Rattle.saftvrmie_diameter.specs.Diameter.{Halley, halleyStep, halley, betaUMie, nodeTurn, diameterFrom}
 use Rattle.saftvrmie_diameter.specs.Staged.{exponentsInside, exponentsOf, inverseAt, betaUAt, noLog, beyond, logsOf, betasOf, nodeAt}
 use Rattle.saftvrmie_diameter.specs.declared.Exponents.{Exponents}

@@ -8,10 +8,11 @@ use Rattle.number.specs.Ans.{Ans, held, _>>=_, demand}
 use Rattle.number.specs.Arith.{floats, bits, zero64}
 use Rattle.number.specs.Functions.{calls, entry}
 use Rattle.number.specs.Walk.{filled}
+use Rattle.number.specs.Domain.{baseInside, exponentInside}
 use Rattle.elementary.specs.Port.{port}
-use Rattle.binary_log.specs.BinaryLog.{baseInside, logOf}
+use Rattle.binary_log.specs.BinaryLog.{logOf}
 use Rattle.binary_log.specs.declared.Log.{Log}
-use Rattle.power.specs.Power.{exponentInside, exponentOf, powerOf}
+use Rattle.power.specs.Power.{exponentOf, powerOf}
 use Rattle.saftvrmie_diameter.specs.Diameter.{positions, weights, radiusFrom, inverseFrom, betaUFrom, addedFrom}
 use Rattle.saftvrmie_diameter.specs.declared.Exponents.{Exponents}
 

@@ -11,7 +11,7 @@ use Rattle.dual.specs.Dual.{DualOf, duals, plainD}
 use Rattle.dual.proofs.Relation.{Duals, plain-rel, mul-rel, duals-rel}
 use Rattle.saftvrmie_dispersion.specs.Sutherland.{FluidIn, kHs, fluidOf, cRow, zetaEff, a1s, iOf, jOf, bOf, a1sBOf, a1sB}
 use Rattle.mie_parameters.specs.Sums.{ordersSum, fFrom}
-use Rattle.saftvrmie_dispersion.specs.Terms.{PairIn, BarIn, FiveIn, OrdersIn, TermsIn, SumsIn, f, barOf, xiOf, a3Of, x0Of, addPure, addPair, five, prefOf, a1Of, a2Of, ordersOf, termsOf}
+use Rattle.saftvrmie_dispersion.specs.Terms.{PairIn, BarIn, FiveIn, OrdersIn, TermsIn, SumsIn, f, barOf, xiOf, a3Of, x0Of, addPure, addPair, five, prefOf, a1Of, a2Of, termOrdersOf, termsOf}
 use Rattle.saftvrmie_dispersion.specs.Chain.{KIn, LinkIn, kOf, rhoDual, zetaDual, fluidDual, g1Of, g2Of, linkPref, addLink, gHs, gammaOf, lnGMie, linkOf, chainPure}
 
 -- ---- records, part by part
@@ -173,8 +173,8 @@ module _ (A B : Arith) (K : Rel A B) (D D' : Arith) (L : Rel D D') (plain : A .N
     open FunRel H using (r-powf, r-pi)
 
     pub ordersOf-rel : {w : FluidIn (D .Num)} {w' : FluidIn (D' .Num)} {p : PairIn (A .Num)} {p' : PairIn (B .Num)} {d : A .Num} {d' : B .Num}
-        → Fluids R w w' → Pairs P p p' → P d d' → Both (Orders R) (ordersOf A D plain F w p d) (ordersOf B D' plain' G w' p' d')
-    unfolding ordersOf x0Of
+        → Fluids R w w' → Pairs P p p' → P d d' → Both (Orders R) (termOrdersOf A D plain F w p d) (termOrdersOf B D' plain' G w' p' d')
+    unfolding termOrdersOf x0Of
     ordersOf-rel w p d =
         then-both (five-rel _ _ (λ x u q. r-powf (p-mul (p-div (p-lit _) d) (p .sigma)) q) w (p .la) (p .lr)) (λ _ _ s.
         let pref = prefOf-rel r-pi (w .segment-density) (p-pow 3 d) (p .epsilon-k) (p .c) in

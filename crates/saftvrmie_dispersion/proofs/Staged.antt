@@ -10,10 +10,11 @@ use Rattle.number.specs.Arith.{Arith, floats, decimal, zero64}
 use Rattle.number.specs.Lists.{at}
 use Rattle.number.specs.Walk.{walk}
 use Rattle.number.specs.Functions.{calls, answered, answered₂}
+use Rattle.number.specs.Domain.{baseInside, exponentInside}
 use Rattle.elementary.specs.Port.{port}
 use Rattle.binary_log.specs.declared.Log.{Log}
-use Rattle.binary_log.specs.BinaryLog.{baseInside, logOf}
-use Rattle.power.specs.Power.{exponentInside, powfOf}
+use Rattle.binary_log.specs.BinaryLog.{logOf}
+use Rattle.power.specs.Power.{powfOf}
 use Rattle.saftvrmie_dispersion.specs.Sutherland.{FluidIn, a1sBOf, a1sB}
 use Rattle.saftvrmie_dispersion.specs.Terms.{FiveIn, five}
 use Rattle.saftvrmie_dispersion.specs.Chain.{kOf}

@@ -6,7 +6,7 @@ use Rattle.number.specs.Arith.{Arith, decimal, whole}
 use Rattle.number.specs.Functions.{Functions}
 use Rattle.dual.specs.Dual.{DualOf, duals, plainD, mulD}
 use Rattle.saftvrmie_dispersion.specs.Sutherland.{FluidIn, kHs, fluidOf}
-use Rattle.saftvrmie_dispersion.specs.Terms.{PairIn, BarIn, OrdersIn, SumsIn, x0Of, a3Of, xiOf, ordersOf, addPure}
+use Rattle.saftvrmie_dispersion.specs.Terms.{PairIn, BarIn, OrdersIn, SumsIn, x0Of, a3Of, xiOf, termOrdersOf, addPure}
 
 -- the k-values of the hard spheres' pair correlation function
 pub record KIn (N : Type 0) : Type 0 where
@@ -106,7 +106,7 @@ module _ (A : Arith) where
     -- a component of the chain: its orders with slopes, the third order, and its link; added to the sums
     unfoldable pub chainPure : FluidIn (DualOf Num) → BarIn Num → KIn Num → PairIn Num → Num → LinkIn Num → Num → SumsIn Num → Ans (SumsIn Num)
     chainPure w bar k p d link xs s =
-        ordersOf A (duals A) (plainD A) F w p d >>= λ o.
+        termOrdersOf A (duals A) (plainD A) F w p d >>= λ o.
         a3Of A F (bar .zeta-x-bar) (p .alpha) (p .epsilon-k) >>= λ a3.
         let t = addPure A xs (record { a1 = o .a1 .re; a2 = o .a2 .re; a3 = a3; xi = xiOf A bar (p .alpha) }) s in
         linkOf k (bar .zeta-x-bar) o (w .k-hs .re) p d link >>= λ l.

@@ -5,9 +5,10 @@ use mathlib.Core.List.{List, [], _∷_}
 use Rattle.number.specs.Ans.{Ans, held, refused, _>>=_}
 use Rattle.number.specs.Arith.{Arith, floats, decimal}
 use Rattle.number.specs.Functions.{calls}
+use Rattle.number.specs.Domain.{exponentInside}
 use Rattle.elementary.specs.Port.{port}
 use Rattle.binary_log.specs.declared.Log.{Log}
-use Rattle.power.specs.Power.{exponentInside, exponentOf, powerOf}
+use Rattle.power.specs.Power.{exponentOf, powerOf}
 use Rattle.saftvrmie_dispersion.specs.Sutherland.{FluidIn, a1sBOf}
 use Rattle.saftvrmie_dispersion.specs.Terms.{FiveIn}
 use Rattle.saftvrmie_dispersion.specs.Chain.{kOf}

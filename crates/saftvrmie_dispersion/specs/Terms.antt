@@ -141,8 +141,8 @@ module _ (A D : Arith) (plain : A .Num → D .Num) where
   a2Of pref eps-k c k-hs s = pref ⊗ plain eps-k ⊗ plain c ⊗ k-hs ⊗ lit (decimal false 5 1) ⊗ (s .at-2la ⊖ s .at-lalr ⊗ lit (decimal false 2 0) ⊕ s .at-2lr)
 
   -- from the fluid, the parameters and the pair's diameter
-  unfoldable pub ordersOf : Functions (A .Num) → FluidIn Num → PairIn (A .Num) → A .Num → Ans (OrdersIn Num)
-  ordersOf F w p d =
+  unfoldable pub termOrdersOf : Functions (A .Num) → FluidIn Num → PairIn (A .Num) → A .Num → Ans (OrdersIn Num)
+  termOrdersOf F w p d =
       five (F .powf (x0Of A d (p .sigma))) w (p .la) (p .lr) >>= λ s.
       let pref = prefOf (F .pi) (w .segment-density) (pow' d 3) (p .epsilon-k) (p .c) in
       held (record { five = s; a1 = a1Of pref s; a2 = a2Of pref (p .epsilon-k) (p .c) (w .k-hs) s })
@@ -153,6 +153,6 @@ module _ (A : Arith) (F : Functions (A .Num)) where
 
   unfoldable pub termsOf : FluidIn Num → BarIn Num → PairIn Num → Num → Ans (TermsIn Num)
   termsOf w bar p d =
-      ordersOf A A (λ x. x) F w p d >>= λ o.
+      termOrdersOf A A (λ x. x) F w p d >>= λ o.
       a3Of A F (bar .zeta-x-bar) (p .alpha) (p .epsilon-k) >>= λ a3.
       held (record { a1 = o .a1; a2 = o .a2; a3 = a3; xi = xiOf A bar (p .alpha) })

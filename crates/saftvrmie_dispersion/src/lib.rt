@@ -9,7 +9,7 @@ ghost use Rattle.dual.specs.Dual.{duals, plainD, divD};
 ghost use Rattle.dual.specs.Value.{dualOf};
 ghost use Rattle.saftvrmie_dispersion.specs.Sutherland.{kHs, fluidOf, cRow, zetaEff, a1s, iOf, jOf, bOf};
 ghost use Rattle.mie_parameters.specs.Sums.{ordersSum};
-ghost use Rattle.saftvrmie_dispersion.specs.Terms.{f, barOf, xiOf, a3Of, x0Of, addPure, addPair, prefOf, a1Of, a2Of, ordersOf, termsOf};
+ghost use Rattle.saftvrmie_dispersion.specs.Terms.{f, barOf, xiOf, a3Of, x0Of, addPure, addPair, prefOf, a1Of, a2Of, termOrdersOf, termsOf};
 ghost use Rattle.saftvrmie_dispersion.specs.Chain.{kOf, rhoDual, zetaDual, fluidDual, g1Of, g2Of, linkPref, gHs, gammaOf, lnGMie, linkOf, addLink, chainPure};
 ghost use Rattle.saftvrmie_dispersion.specs.Answer.{pairOf, fluidIn, fluidDualIn, barIn, fiveIn, fiveDualIn, ordersDualIn, termsIn, sumsIn, kIn, linkIn, fiveAnswer, ordersDualAnswer, termsAnswer, sumsAnswer, kAnswer};
 ghost use Rattle.saftvrmie_dispersion.specs.Staged.{lambdaInside, fiveInside, a1sBAt, fiveAt, lambdas, fiveTested, kTested};
@@ -17,6 +17,7 @@ use binary_log::Log;
 use dual::Dual;
 use mie_parameters::LAM_COEFF;
 use mie_parameters::PHI;
+use mie_parameters::PI;
 use number::FloatAnswer;
 use saftvrmie_parameters::PairParameters;
 
@@ -299,7 +300,7 @@ fn x0_of(d: f64, sigma: f64) -> f64
 fn pref(rho: f64, d3: f64, eps_k: f64, c: f64) -> f64
     ensures { λ r. ⌜ r ≡ prefOf floats floats (λ x. x) (calls floats port .pi) rho d3 «eps_k» c ⌝ }
 {
-    rho * d3 * eps_k * 2.0 * 3.141592653589793 * c
+    rho * d3 * eps_k * 2.0 * PI * c
 }
 
 fn a1(pref: f64, s: Five) -> f64
@@ -464,10 +465,7 @@ fn pref_dual(rho: Dual, d3: f64, eps_k: f64, c: f64) -> Dual
     ensures { λ r. ⌜ dualOf r ≡ prefOf floats (duals floats) (plainD floats) (calls floats port .pi) (dualOf rho) d3 «eps_k» c ⌝ }
 {
     let a = dual::mul(dual::mul(rho, dual::plain(d3)), dual::plain(eps_k));
-    let z = dual::mul(
-        dual::mul(a, dual::plain(2.0)),
-        dual::plain(3.141592653589793),
-    );
+    let z = dual::mul(dual::mul(a, dual::plain(2.0)), dual::plain(PI));
     dual::mul(z, dual::plain(c))
 }
 
@@ -488,7 +486,7 @@ fn a2_dual(pref: Dual, eps_k: f64, c: f64, k_hs: Dual, s: FiveDual) -> Dual
 
 // The first two orders of a component, with slopes.
 pub fn orders_dual(w: FluidDual, p: PairParameters, d: f64) -> OrdersDualAnswer
-    ensures { λ r. ⌜ ordersDualAnswer r ≡ ordersOf floats (duals floats) (plainD floats) (calls floats port) (fluidDualIn w) (pairOf p) d ⌝ }
+    ensures { λ r. ⌜ ordersDualAnswer r ≡ termOrdersOf floats (duals floats) (plainD floats) (calls floats port) (fluidDualIn w) (pairOf p) d ⌝ }
 {
     let x0 = x0_of(d, p.sigma);
     if !binary_log::base_inside(x0) {
@@ -587,7 +585,7 @@ fn g2_mca(o: OrdersDual, p: PairParameters, pref: f64, k_hs: f64) -> f64
 fn link_pref(d3: f64, eps_k: f64) -> f64
     ensures { λ r. ⌜ r ≡ linkPref floats (calls floats port .pi) d3 «eps_k» ⌝ }
 {
-    d3 * eps_k * 2.0 * 3.141592653589793
+    d3 * eps_k * 2.0 * PI
 }
 
 fn g_hs(k: KValues, x0: f64) -> FloatAnswer

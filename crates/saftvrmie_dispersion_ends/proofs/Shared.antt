@@ -8,8 +8,9 @@ use Rattle.number.specs.Arith.{Arith, decimal}
 use Rattle.number.specs.Functions.{calls, answered₂}
 use Rattle.number.specs.Lists.{at}
 use Rattle.number.specs.Power.{digits, powDigits, powUp}
+use Rattle.number.specs.Domain.{baseInside}
 use Rattle.elementary.specs.Port.{port}
-use Rattle.binary_log.specs.BinaryLog.{baseInside, logOf}
+use Rattle.binary_log.specs.BinaryLog.{logOf}
 use Rattle.power.specs.Power.{powfOf}
 use Rattle.interval.specs.Interval.{powI}
 use Rattle.enclosure.specs.declared.Enclosure.{Enclosure}

@@ -29,7 +29,7 @@ use Rattle.saftvrmie_dispersion.specs.Staged.{kTested}
 use Rattle.saftvrmie_dispersion.specs.declared.FluidDual.{FluidDual}
 use Rattle.saftvrmie_energies.specs.Properties.{afterLower, properties}
 use Rattle.saftvrmie_energies.specs.declared.Properties.{Properties}
-use Rattle.saftvrmie_energies.specs.Energies.{packingOf, rightLists, energyRun, energyBy, energy}
+use Rattle.saftvrmie_energies.specs.Energies.{packingOf, stateLengths, energyRun, energyBy, energy}
 
 same : {S : Type 0} (n : ℕ) (f : ℕ → S → S) (s : S) → ((i : ℕ) (x : S) → f i x ≡ x) → turns n f s ≡ s
 unfolding turns
@@ -74,30 +74,30 @@ unfolding dualOf
 value-is v f p = rw (← p)
 
 -- ---- 1 at last: the lists are as long as the count
-module _ (n x rho d : ℕ) (p : rightLists n x rho d ≡ true) where
+module _ (n x rho d : ℕ) (p : stateLengths n x rho d ≡ true) where
   pub right-high : n ≤ side
-  unfolding rightLists
+  unfolding stateLengths
   right-high = count-high n (and-left (countWithin n) (eqb x n) (and-left _ (eqb rho n) (and-left _ (eqb d n) p)))
 
   pub right-x : x ≡ n
-  unfolding rightLists
+  unfolding stateLengths
   right-x = eqb-true x n (and-right (countWithin n) (eqb x n) (and-left _ (eqb rho n) (and-left _ (eqb d n) p)))
 
   pub right-rho : rho ≡ n
-  unfolding rightLists
+  unfolding stateLengths
   right-rho = eqb-true rho n (and-right (countWithin n && eqb x n) (eqb rho n) (and-left _ (eqb d n) p))
 
   pub right-d : d ≡ n
-  unfolding rightLists
+  unfolding stateLengths
   right-d = eqb-true d n (and-right ((countWithin n && eqb x n) && eqb rho n) (eqb d n) p)
 
 -- ---- the operation
 module _ (s : SaftVRMiePars) (t : Float) (x rho d : List Float) (chain : Bool) where
-  pub refuses-1 : rightLists (s .count) (length x) (length rho) (length d) ≡ false → refused 1 ≡ energy s t x rho d chain
+  pub refuses-1 : stateLengths (s .count) (length x) (length rho) (length d) ≡ false → refused 1 ≡ energy s t x rho d chain
   unfolding energyBy demand _>>=_
   refuses-1 p = rw p
 
-  module _ (p : rightLists (s .count) (length x) (length rho) (length d) ≡ true) where
+  module _ (p : stateLengths (s .count) (length x) (length rho) (length d) ≡ true) where
     pub refuses-2 : stateWithin (s .count) t x rho ≡ false → refused 2 ≡ energy s t x rho d chain
     unfolding energyBy demand _>>=_
     refuses-2 q = rw (p, q)

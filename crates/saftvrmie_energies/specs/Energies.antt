@@ -72,8 +72,8 @@ stateIn lit p t x rho d =
 -- ---- the operation
 
 -- 1: the count, or a list that is not as long as it
-unfoldable pub rightLists : ℕ → ℕ → ℕ → ℕ → Bool
-rightLists n x rho d = countWithin n && eqb x n && eqb rho n && eqb d n
+unfoldable pub stateLengths : ℕ → ℕ → ℕ → ℕ → Bool
+stateLengths n x rho d = countWithin n && eqb x n && eqb rho n && eqb d n
 
 -- dispersion, or dispersion with chain, in any run
 unfoldable pub energyRun : (A : Arith) → Functions (A .Num) → SaftVRMiePars → Float → List Float → List Float → List Float → Bool → Ans (A .Num)
@@ -84,7 +84,7 @@ energyRun A F p t x rho d chain =
 -- 1; 2, diameters being read as they are; 6 anywhere on the way; then 7 if the energy is not finite, of any float run
 abbrev pub energyFrom : SaftVRMiePars → Float → List Float → List Float → List Float → Ans Float → Ans Float
 energyFrom p t x rho d run =
-    demand 1 (rightLists (p .count) (length x) (length rho) (length d)) >>= λ _.
+    demand 1 (stateLengths (p .count) (length x) (length rho) (length d)) >>= λ _.
     demand 2 (stateWithin (p .count) t x rho) >>= λ _.
     run >>= λ v.
     demand 7 (finite v) >>= λ _.

@@ -12,9 +12,9 @@ ghost use Rattle.saftvrmie_dispersion.specs.Answer.{pairOf, fluidIn, fluidDualI
 ghost use Rattle.mie_parameters.specs.Sums.{weighted};
 ghost use Rattle.saftvrmie_energies.specs.Properties.{total, xsOf, dIj, d3Ij, s3Ij, zetaRow, zetaSum};
 ghost use Rattle.saftvrmie_energies.specs.Dispersion.{pairTurn, pairRow, dispRow, chainRow, dispRows, chainRows, dispersion, dispersionChain};
-ghost use Rattle.limits.specs.Limits.{stateWithin};
 ghost use Rattle.saftvrmie_parameters.specs.Parameters.{pairAt};
-ghost use Rattle.saftvrmie_energies.specs.Energies.{packingOf, energyAnswer, pureAt, stateIn, rightLists, energyRun, energy};
+ghost use Rattle.saftvrmie_energies.specs.Energies.{packingOf, energyAnswer, pureAt, stateIn, stateLengths, energyRun, energy};
+use mie_parameters::FRAC_PI_6;
 use number::FloatAnswer;
 use saftvrmie_dispersion::Bar;
 use saftvrmie_dispersion::Fluid;
@@ -205,8 +205,8 @@ fn properties_of(
     ensures { λ r. ⌜ r ≡ packingOf n (at (now (xs .entry))) (at (now (rho .entry))) (at (now (d .entry))) (at (now (m .entry))) (λ i j. pairOf (pairAt (now (sheets .entry)) i j)) ⌝ }
 {
     let segment_density = weighted(n, rho, m);
-    let zeta_x = zeta_sum(n, xs, d) * (segment_density * 0.5235987755982989);
-    let zeta_x_bar = zeta_bar_sum(n, xs, sheets) * (segment_density * 0.5235987755982989);
+    let zeta_x = zeta_sum(n, xs, d) * (segment_density * FRAC_PI_6);
+    let zeta_x_bar = zeta_bar_sum(n, xs, sheets) * (segment_density * FRAC_PI_6);
     Properties {
         segment_density,
         zeta_x,
@@ -465,19 +465,9 @@ fn helmholtz_energy_density_disp_chain(
 // ---- the operation
 
 pub fn right_lists(n: usize, x: usize, rho: usize, d: usize) -> bool
-    ensures { λ r. ⌜ r ≡ rightLists n x rho d ⌝ }
+    ensures { λ r. ⌜ r ≡ stateLengths n x rho d ⌝ }
 {
     limits::count_within(n) & (x == n) & (rho == n) & (d == n)
-}
-
-// The lists are as long as the count: both operations refuse others with 1 before they ask.
-pub fn within_limits(n: usize, temperature: f64, x: &[f64], rho: &[f64]) -> bool
-    requires { ⌜ (length (now x) ≡ n) × (length (now rho) ≡ n) ⌝ }
-    ensures { λ r. ⌜ r ≡ stateWithin n temperature (now (x .entry)) (now (rho .entry)) ⌝ }
-{
-    limits::temperature_within(temperature)
-        & limits::shares_within(n, x)
-        & limits::shares_within(n, rho)
 }
 
 fn work(
@@ -547,7 +537,7 @@ pub fn dispersion_of(
     if !right_lists(n, fractions.len(), densities.len(), diameters.len()) {
         return EnergyAnswer::Refused(1);
     }
-    if !within_limits(n, temperature, fractions, densities) {
+    if !limits::state_within(n, temperature, fractions, densities) {
         return EnergyAnswer::Refused(2);
     }
     let FloatAnswer::Value(v) = work(

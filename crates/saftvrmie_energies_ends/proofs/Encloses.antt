@@ -17,7 +17,7 @@ use Rattle.enclosure.proofs.Relations.{Value, values, contains}
 use Rattle.enclosure.proofs.TwoEnds.{operation-1, operation-2, operation-alone, operation-encloses}
 use Rattle.saftvrmie_parameters.specs.declared.SaftVRMiePars.{SaftVRMiePars}
 use Rattle.limits.specs.Limits.{stateWithin}
-use Rattle.saftvrmie_energies.specs.Energies.{rightLists, energyRun, energyBy}
+use Rattle.saftvrmie_energies.specs.Energies.{stateLengths, energyRun, energyBy}
 use Rattle.saftvrmie_energies.proofs.Relation.{energyRun-rel}
 use Rattle.saftvrmie_energies_ends.specs.Operation.{dispersionEnds}
 
@@ -28,11 +28,11 @@ module _ (E : Answers) (s : SaftVRMiePars) (t : Float) (x rho d : List Float) (c
   pub run-values : Both Value (energyRun enclosures (calls enclosures E) s t x rho d chain) (energyRun floats (calls floats E) s t x rho d chain)
   run-values = run-rel enclosures floats values
 
-  pub refuses-1 : rightLists (s .count) (length x) (length rho) (length d) ≡ false → refused 1 ≡ dispersionEnds E s t x rho d chain
+  pub refuses-1 : stateLengths (s .count) (length x) (length rho) (length d) ≡ false → refused 1 ≡ dispersionEnds E s t x rho d chain
   unfolding dispersionEnds energyBy
   refuses-1 = operation-1 run-values _ _
 
-  module _ (p : rightLists (s .count) (length x) (length rho) (length d) ≡ true) where
+  module _ (p : stateLengths (s .count) (length x) (length rho) (length d) ≡ true) where
     pub refuses-2 : stateWithin (s .count) t x rho ≡ false → refused 2 ≡ dispersionEnds E s t x rho d chain
     unfolding dispersionEnds energyBy
     refuses-2 = operation-2 run-values _ _ p

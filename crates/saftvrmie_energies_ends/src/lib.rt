@@ -402,7 +402,7 @@ pub fn dispersion_ends(
     if !saftvrmie_energies::right_lists(n, fractions.len(), densities.len(), diameters.len()) {
         return EndsAnswer::Refused(1);
     }
-    if !saftvrmie_energies::within_limits(n, temperature, fractions, densities) {
+    if !limits::state_within(n, temperature, fractions, densities) {
         return EndsAnswer::Refused(2);
     }
     let a = work(set, temperature, fractions, densities, diameters, chain);

@@ -120,12 +120,12 @@ saftVRMiePars l =
     })
 
 -- a component list of a refused set
-abbrev pub blank : List Float
-blank = replicate side zero64
+abbrev pub zeroList : List Float
+zeroList = replicate side zero64
 
 -- the set beside a refusal: count 0, all +0
 abbrev pub emptySet : SaftVRMiePars
-emptySet = record { count = 0; m = blank; sigma = blank; «epsilon_k» = blank; lr = blank; la = blank; sheets = replicate (6 * sheet) zero64 }
+emptySet = record { count = 0; m = zeroList; sigma = zeroList; «epsilon_k» = zeroList; lr = zeroList; la = zeroList; sheets = replicate (6 * sheet) zero64 }
 
 -- held or a number, with the set beside it
 unfoldable pub given : Ans SaftVRMiePars → ParameterSet

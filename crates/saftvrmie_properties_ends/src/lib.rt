@@ -17,10 +17,9 @@ ghost use Rattle.saftvrmie_properties_ends.specs.Answer.{kAnswer, proper
 ghost use Rattle.saftvrmie_properties_ends.specs.Points.{points, pairs};
 use enclosure::Enclosure;
 use enclosure::EnclosureAnswer;
+use mie_parameters::FRAC_PI_6;
 use sizes::SHEETS;
 use sizes::SIDE;
-
-const FRAC_PI_6: f64 = 0.5235987755982989;
 
 // k0 to k3 of the hard spheres' pair correlation function.
 pub struct KEnclosures {

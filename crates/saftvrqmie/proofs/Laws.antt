@@ -23,13 +23,13 @@ use Rattle.mie_parameters.specs.declared.ParameterAnswer.the-variants.{Held, Re
 use Rattle.mie_parameters.proofs.Laws.{and-left, and-right, count-high}
 use Rattle.saftvrqmie_parameters.specs.declared.OrderRecord.{OrderRecord}
 use Rattle.saftvrqmie_parameters.specs.declared.SaftVRQMiePars.{SaftVRQMiePars}
-use Rattle.saftvrqmie_potential.specs.Potential.{pairIn, pairAt}
+use Rattle.saftvrqmie_potential.specs.Potential.{pairIn, pairAtEntry}
 use Rattle.saftvrqmie_potential.specs.declared.Pair.{Pair}
-use Rattle.saftvrqmie_properties.specs.Properties.{PropertiesIn, propertiesIn, propertiesAnswer, pairProperties}
+use Rattle.saftvrqmie_properties.specs.Properties.{PairPropertiesIn, pairPropertiesIn, pairPropertiesAnswer, pairProperties}
 use Rattle.saftvrqmie_properties.specs.declared.PairProperties.{PairProperties}
 use Rattle.saftvrqmie_properties.specs.declared.PropertiesAnswer.{PropertiesAnswer}
 use Rattle.saftvrqmie_properties.specs.declared.PropertiesAnswer.the-variants.{At, Outside}
-use Rattle.saftvrqmie.specs.Table.{Lent, store, workTurn, workRow, workPairs, blank, allFinite, rightLists, temperatureTable}
+use Rattle.saftvrqmie.specs.Table.{Lent, store, workTurn, workRow, workPairs, blank, tableFinite, rightLists, temperatureTable}
 
 -- a loop that copies v from `from` on over d
 module _ {A : Type 0} (v d : List A) (from : ℕ) where
@@ -59,30 +59,30 @@ part-next v d l a k p q h =
     (sym (append-assoc (take a v) (take k (drop a v)) (drop (a + k) d)))
 
 -- a turn of the work, over plain values
-module _ (s : List Float) (o : List OrderRecord) (t : Float) (i j : ℕ) (x : Lent) (p : Pair) (r : PropertiesAnswer) (d : p ≡ pairAt s o t (cell i j)) (q : propertiesAnswer r ≡ pairProperties floats (calls floats port) (pairIn p)) where
-  told-here : propertiesAnswer r ≡ pairProperties floats (calls floats port) (pairIn (pairAt s o t (cell i j)))
+module _ (s : List Float) (o : List OrderRecord) (t : Float) (i j : ℕ) (x : Lent) (p : Pair) (r : PropertiesAnswer) (d : p ≡ pairAtEntry s o t (cell i j)) (q : pairPropertiesAnswer r ≡ pairProperties floats (calls floats port) (pairIn p)) where
+  told-here : pairPropertiesAnswer r ≡ pairProperties floats (calls floats port) (pairIn (pairAtEntry s o t (cell i j)))
   told-here = q ∙ ap (λ (p : Pair). pairProperties floats (calls floats port) (pairIn p)) d
 
-  pub work-held : (y : Lent) (w : PairProperties) → r ≡ At w → y ≡ store x (cell i j) (propertiesIn w) → workTurn s o t i j x ≡ held y
+  pub work-held : (y : Lent) (w : PairProperties) → r ≡ At w → y ≡ store x (cell i j) (pairPropertiesIn w) → workTurn s o t i j x ≡ held y
   unfolding workTurn _>>=_
-  work-held y w h g = rw (via propertiesAnswer told-here h, g)
+  work-held y w h g = rw (via pairPropertiesAnswer told-here h, g)
 
   pub work-outside : r ≡ Outside → workTurn s o t i j x ≡ refused 6
   unfolding workTurn _>>=_
-  work-outside h = rw (via propertiesAnswer told-here h)
+  work-outside h = rw (via pairPropertiesAnswer told-here h)
 
 -- both lists keep their lengths on the way
 abbrev pub Whole : Lent → Type 0
 Whole s = (length (s .values) ≡ 4 * sheet) × (length (s .numbers) ≡ 3 * sheet)
 
-store-whole : (s : Lent) (e : ℕ) (w : PropertiesIn Float) → Whole s → Whole (store s e w)
+store-whole : (s : Lent) (e : ℕ) (w : PairPropertiesIn Float) → Whole s → Whole (store s e w)
 unfolding store
 store-whole s e w p = (simp length-set (p .0), simp length-set (p .1))
 
 turn-whole : (q : List Float) (o : List OrderRecord) (t : Float) (i j : ℕ) (x z : Lent) → Whole x → workTurn q o t i j x ≡ held z → Whole z
 unfolding workTurn
 turn-whole q o t i j x z p e =
-    let h = then-held (pairProperties floats (calls floats port) (pairIn (pairAt q o t (cell i j)))) (λ w. held (store x (cell i j) w)) z e in
+    let h = then-held (pairProperties floats (calls floats port) (pairIn (pairAtEntry q o t (cell i j)))) (λ w. held (store x (cell i j) w)) z e in
     subst Whole (held-inj _ z (h .2)) (store-whole x (cell i j) (h .0) p)
 
 row-whole : (n : ℕ) (q : List Float) (o : List OrderRecord) (t : Float) (i : ℕ) (x z : Lent) → Whole x → workRow n q o t i x ≡ held z → Whole z
@@ -109,11 +109,11 @@ module _ (s : SaftVRQMiePars) (t : Float) (l : Lent) where
       unfolding temperatureTable demand _>>=_
       refuses-6 k p = rw (right, h, p)
 
-      pub refuses-7 : (w : Lent) → workPairs (s .count) (s .sheets) (s .orders) t blank ≡ held w → allFinite (w .values) ≡ false → temperatureTable s t l ≡ refused 7
+      pub refuses-7 : (w : Lent) → workPairs (s .count) (s .sheets) (s .orders) t blank ≡ held w → tableFinite (w .values) ≡ false → temperatureTable s t l ≡ refused 7
       unfolding temperatureTable demand _>>=_
       refuses-7 w p q = rw (right, h, p, q)
 
-      pub holds : (w : Lent) → workPairs (s .count) (s .sheets) (s .orders) t blank ≡ held w → allFinite (w .values) ≡ true → temperatureTable s t l ≡ held w
+      pub holds : (w : Lent) → workPairs (s .count) (s .sheets) (s .orders) t blank ≡ held w → tableFinite (w .values) ≡ true → temperatureTable s t l ≡ held w
       unfolding temperatureTable demand _>>=_
       holds w p q = rw (right, h, p, q)
 

@@ -11,17 +11,17 @@ use Rattle.sizes.specs.Sizes.{cell}
 use Rattle.elementary.specs.Port.{port}
 use Rattle.limits.specs.Limits.{indexWithin, temperatureWithin}
 use Rattle.saftvrqmie_parameters.specs.declared.SaftVRQMiePars.{SaftVRQMiePars}
-use Rattle.saftvrqmie_potential.specs.Potential.{pairIn, pairAt}
+use Rattle.saftvrqmie_potential.specs.Potential.{pairIn, pairAtEntry}
 use Rattle.saftvrqmie_potential.specs.declared.Pair.{Pair}
 use Rattle.saftvrqmie_searches.specs.Diameter.{diameter}
-use Rattle.saftvrqmie.specs.Pairs.{SearchesIn, pairSearches, searches, diameterIjBy, diameterIj}
+use Rattle.saftvrqmie.specs.Pairs.{SearchesIn, pairSearches, radiiIj, diameterIjBy, diameterIj}
 
 module _ (s : SaftVRQMiePars) (i j : ℕ) (t : Float) where
   abbrev pair : Pair
-  pair = pairAt (s .sheets) (s .orders) t (cell i j)
+  pair = pairAtEntry (s .sheets) (s .orders) t (cell i j)
 
-  pub searches-1 : indexWithin (s .count) i j ≡ false → refused 1 ≡ searches s i j t
-  unfolding searches demand _>>=_
+  pub searches-1 : indexWithin (s .count) i j ≡ false → refused 1 ≡ radiiIj s i j t
+  unfolding radiiIj demand _>>=_
   searches-1 p = rw p
 
   module _ (sigma-eff r0 : Float) where
@@ -30,12 +30,12 @@ module _ (s : SaftVRQMiePars) (i j : ℕ) (t : Float) where
     diameter-1 p = rw p
 
   module _ (p : indexWithin (s .count) i j ≡ true) where
-    pub searches-2 : temperatureWithin t ≡ false → refused 2 ≡ searches s i j t
-    unfolding searches demand _>>=_
+    pub searches-2 : temperatureWithin t ≡ false → refused 2 ≡ radiiIj s i j t
+    unfolding radiiIj demand _>>=_
     searches-2 q = rw (p, q)
 
-    pub searches-are : (x : Pair) (a : Ans (SearchesIn Float)) → temperatureWithin t ≡ true → x ≡ pair → a ≡ pairSearches floats (calls floats port) (pairIn x) → a ≡ searches s i j t
-    unfolding searches demand _>>=_
+    pub searches-are : (x : Pair) (a : Ans (SearchesIn Float)) → temperatureWithin t ≡ true → x ≡ pair → a ≡ pairSearches floats (calls floats port) (pairIn x) → a ≡ radiiIj s i j t
+    unfolding radiiIj demand _>>=_
     searches-are x a q e h = rw (p, q) (h ∙ ap (λ (x : Pair). pairSearches floats (calls floats port) (pairIn x)) e)
 
     module _ (sigma-eff r0 : Float) where

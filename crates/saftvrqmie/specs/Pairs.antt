@@ -9,7 +9,7 @@ use Rattle.sizes.specs.Sizes.{cell}
 use Rattle.elementary.specs.Port.{port}
 use Rattle.limits.specs.Limits.{indexWithin, temperatureWithin}
 use Rattle.saftvrqmie_parameters.specs.declared.SaftVRQMiePars.{SaftVRQMiePars}
-use Rattle.saftvrqmie_potential.specs.Potential.{PairIn, pointsOf, pairIn, pairAt}
+use Rattle.saftvrqmie_potential.specs.Potential.{PairIn, pointsOf, pairIn, pairAtEntry}
 use Rattle.saftvrqmie_searches.specs.Searches.{Counted, searchIn, sigmaEff, zeroIntegrand, epsilonKEff}
 use Rattle.saftvrqmie_searches.specs.Diameter.{diameter}
 use Rattle.saftvrqmie_properties.specs.Properties.{radiusOf}
@@ -45,15 +45,15 @@ pairSearches A F p =
     held (record { sigma = s; zero = z; depth = d })
 
 -- 1; 2 for the temperature; 6
-unfoldable pub searches : SaftVRQMiePars → ℕ → ℕ → Float → Ans (SearchesIn Float)
-searches s i j t =
+unfoldable pub radiiIj : SaftVRQMiePars → ℕ → ℕ → Float → Ans (SearchesIn Float)
+radiiIj s i j t =
     demand 1 (indexWithin (s .count) i j) >>= λ _.
     demand 2 (temperatureWithin t) >>= λ _.
-    pairSearches floats (calls floats port) (pairIn (pairAt (s .sheets) (s .orders) t (cell i j)))
+    pairSearches floats (calls floats port) (pairIn (pairAtEntry (s .sheets) (s .orders) t (cell i j)))
 
 -- a run of the diameter from searched radii: the set's numbers, the temperature and both radii are read as they are
 abbrev pub diameterRun : (A : Arith) → Functions (A .Num) → SaftVRQMiePars → ℕ → ℕ → Float → Float → Float → Ans (A .Num)
-diameterRun A F s i j t sigma-eff r0 = diameter A F (pointsOf A (pairAt (s .sheets) (s .orders) t (cell i j))) (A .lit sigma-eff) (A .lit r0)
+diameterRun A F s i j t sigma-eff r0 = diameter A F (pointsOf A (pairAtEntry (s .sheets) (s .orders) t (cell i j))) (A .lit sigma-eff) (A .lit r0)
 
 -- 1; 2 for the temperature; 6; 7 if the diameter is not finite, of any float run
 abbrev pub diameterIjFrom : SaftVRQMiePars → ℕ → ℕ → Float → Ans Float → Ans Float

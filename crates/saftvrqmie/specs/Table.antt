@@ -16,8 +16,8 @@ use Rattle.elementary.specs.Port.{port}
 use Rattle.limits.specs.Limits.{countWithin, temperatureWithin}
 use Rattle.saftvrqmie_parameters.specs.declared.OrderRecord.{OrderRecord}
 use Rattle.saftvrqmie_parameters.specs.declared.SaftVRQMiePars.{SaftVRQMiePars}
-use Rattle.saftvrqmie_potential.specs.Potential.{pairIn, pairAt}
-use Rattle.saftvrqmie_properties.specs.Properties.{PropertiesIn, pairProperties}
+use Rattle.saftvrqmie_potential.specs.Potential.{pairIn, pairAtEntry}
+use Rattle.saftvrqmie_properties.specs.Properties.{PairPropertiesIn, pairProperties}
 
 -- the two lists: '256 floats, and 192 bytes of counts'
 pub record Lent : Type 0 where
@@ -25,7 +25,7 @@ pub record Lent : Type 0 where
   pub numbers : List ℕ
 
 -- 'sigma_eff, hs_diameter, epsilon_k_eff, quantum_d'; 'sheets for sigma, zero, depth'
-unfoldable pub store : Lent → ℕ → PropertiesIn Float → Lent
+unfoldable pub store : Lent → ℕ → PairPropertiesIn Float → Lent
 store s e p =
     record {
       values = set (set (set (set (s .values) e (p .sigma-eff)) (1 * sheet + e) (p .hs-diameter)) (2 * sheet + e) (p .epsilon-k-eff)) (3 * sheet + e) (p .quantum-d);
@@ -34,7 +34,7 @@ store s e p =
 
 -- pair (i, j), row i, and all ordered pairs row by row
 unfoldable pub workTurn : List Float → List OrderRecord → Float → ℕ → ℕ → Lent → Ans Lent
-workTurn s orders t i j x = pairProperties floats (calls floats port) (pairIn (pairAt s orders t (cell i j))) >>= λ p. held (store x (cell i j) p)
+workTurn s orders t i j x = pairProperties floats (calls floats port) (pairIn (pairAtEntry s orders t (cell i j))) >>= λ p. held (store x (cell i j) p)
 
 unfoldable pub workRow : ℕ → List Float → List OrderRecord → Float → ℕ → Lent → Ans Lent
 workRow n s orders t i x = walk n (workTurn s orders t i) x
@@ -47,8 +47,8 @@ abbrev pub blank : Lent
 blank = record { values = replicate (4 * sheet) zero64; numbers = replicate (3 * sheet) 0 }
 
 -- unused places are +0, so that all 256 can be tested
-unfoldable pub allFinite : List Float → Bool
-allFinite l = every (4 * sheet) (λ k. finite (at l k))
+unfoldable pub tableFinite : List Float → Bool
+tableFinite l = every (4 * sheet) (λ k. finite (at l k))
 
 -- the count, and the length of each lent list
 unfoldable pub rightLists : ℕ → ℕ → ℕ → Bool
@@ -60,7 +60,7 @@ temperatureTable s t l =
     demand 1 (rightLists (s .count) (length (l .values)) (length (l .numbers))) >>= λ _.
     demand 2 (temperatureWithin t) >>= λ _.
     workPairs (s .count) (s .sheets) (s .orders) t blank >>= λ w.
-    demand 7 (allFinite (w .values)) >>= λ _.
+    demand 7 (tableFinite (w .values)) >>= λ _.
     held w
 
 -- a set by what the table reads of it

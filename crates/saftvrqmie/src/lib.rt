@@ -8,9 +8,9 @@ ghost use Rattle.sizes.specs.Sizes.{side, sheet};
 ghost use Rattle.elementary.specs.Port.{port};
 ghost use Rattle.mie_parameters.specs.Answer.{outcome, verdict, numberAnswer, stored};
 ghost use Rattle.saftvrqmie_potential.specs.Potential.{pairIn};
-ghost use Rattle.saftvrqmie_properties.specs.Properties.{propertiesIn};
-ghost use Rattle.saftvrqmie.specs.Table.{store, workRow, workPairs, allFinite, rightLists, temperatureTable, pairsOf};
-ghost use Rattle.saftvrqmie.specs.Pairs.{searchesAnswer, pairSearches, searches, diameterIj};
+ghost use Rattle.saftvrqmie_properties.specs.Properties.{pairPropertiesIn};
+ghost use Rattle.saftvrqmie.specs.Table.{store, workRow, workPairs, tableFinite, rightLists, temperatureTable, pairsOf};
+ghost use Rattle.saftvrqmie.specs.Pairs.{searchesAnswer, pairSearches, radiiIj, diameterIj};
 use mie_parameters::NumberAnswer;
 use mie_parameters::ParameterAnswer;
 use number::FloatAnswer;
@@ -51,7 +51,7 @@ pub enum SearchesAnswer {
 
 fn store(values: &mut [f64; TABLE], numbers: &mut [u8; COUNTS], e: usize, p: PairProperties)
     requires { ⌜ e < sheet ⌝ }
-    ensures { λ _. ⌜ record { values = now (values .exit); numbers = now (numbers .exit) } ≡ store (record { values = now (values .entry); numbers = now (numbers .entry) }) e (propertiesIn p) ⌝ }
+    ensures { λ _. ⌜ record { values = now (values .exit); numbers = now (numbers .exit) } ≡ store (record { values = now (values .entry); numbers = now (numbers .entry) }) e (pairPropertiesIn p) ⌝ }
 {
     values[e] = p.sigma_eff;
     values[HS_DIAMETER + e] = p.hs_diameter;
@@ -105,7 +105,7 @@ fn work_pairs(
 }
 
 fn all_finite(values: &[f64; TABLE]) -> bool
-    ensures { λ r. ⌜ r ≡ allFinite (now (values .entry)) ⌝ }
+    ensures { λ r. ⌜ r ≡ tableFinite (now (values .entry)) ⌝ }
 {
     let mut ok = true;
     for k in 0usize..TABLE {
@@ -231,8 +231,8 @@ fn pair_searches(pair: Pair) -> SearchesAnswer
 }
 
 // The three radius searches of the pair (i, j). 1, 2, 6.
-pub fn searches_ij(set: SaftVRQMiePars, i: usize, j: usize, temperature: f64) -> SearchesAnswer
-    ensures { λ r. ⌜ searchesAnswer r ≡ searches set i j temperature ⌝ }
+pub fn radii_ij(set: SaftVRQMiePars, i: usize, j: usize, temperature: f64) -> SearchesAnswer
+    ensures { λ r. ⌜ searchesAnswer r ≡ radiiIj set i j temperature ⌝ }
 {
     if !limits::index_within(set.count, i, j) {
         return SearchesAnswer::Refused(1);

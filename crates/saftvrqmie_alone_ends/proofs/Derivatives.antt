@@ -12,11 +12,12 @@ use lib.Ieee.Scale.{finite}
 use Rattle.number.specs.Ans.{held, _>>=_, demand}
 use Rattle.number.specs.Arith.{one64, decimal, whole}
 use Rattle.number.specs.Functions.{calls, answered₂}
+use Rattle.number.specs.Domain.{baseInside, exponentInside}
 use Rattle.elementary.specs.Port.{port}
 use Rattle.exponential.proofs.Decode.{inside-is}
 use Rattle.binary_log.specs.declared.Log.{Log}
-use Rattle.binary_log.specs.BinaryLog.{baseInside, logOf}
-use Rattle.power.specs.Power.{exponentInside, exponentOf, powerOf, powfOf}
+use Rattle.binary_log.specs.BinaryLog.{logOf}
+use Rattle.power.specs.Power.{exponentOf, powerOf, powfOf}
 use Rattle.interval.specs.Interval as I
 use Rattle.interval.specs.Interval.{divI, afterI}
 use Rattle.interval.proofs.Encloses.{add-sound, sub-sound, mul-sound, div-sound}
@@ -29,7 +30,7 @@ use Rattle.saftvrqmie_potential_ends.specs.Pair.{pairIn}
 use Rattle.saftvrqmie_potential.specs.Potential.{PotentialIn, firstOrder, secondOrder, recip, uMie, urMie, urrMie, urFirst, urrFirst, urSecond, urrSecond, corrected, scaled, afterShared, line, mie, addFirst, addSecond, potential, uQuantum}
 use Rattle.saftvrqmie_potential_ends.specs.declared.PairShared.{PairShared}
 use Rattle.saftvrqmie_potential_ends.specs.Shared.{Sharing}
-use Rattle.saftvrqmie_alone_ends.specs.Alone.{big, withinOf, smallOf, plainOf, plainFrom, tameOf, aloneOf, sureOf, soundOf, powerAt, uAlone, uAfter}
+use Rattle.saftvrqmie_alone_ends.specs.Alone.{big, withinOf, smallEnds, plainOf, plainFrom, tameOf, aloneOf, sureOf, soundOf, powerPoint, uAlone, uAfter}
 use Rattle.saftvrqmie_alone_ends.proofs.Tame.{Within, Tame, top, mul-tame, add-tame, sub-tame, neg-tame, recip-tame, widened}
 use Rattle.saftvrqmie_alone_ends.proofs.Same.{Same, same, add-same, sub-same, mul-same, div-same, one-flag, flags}
 use Rattle.saftvrqmie_alone_ends.proofs.Raised.{above-one, power-from-one}
@@ -49,8 +50,8 @@ within-100 x t f = go (inside-is x 1 (pos 100) t)
 record TameE (k : ℕ) (x : Enclosure) : Type 0 where
   size : Tame k (x .ends)
 
-small-tame : (x : Enclosure) → T (smallOf x) → TameE 100 x
-unfolding smallOf withinOf
+small-tame : (x : Enclosure) → T (smallEnds x) → TameE 100 x
+unfolding smallEnds withinOf
 small-tame x t =
     let g = x .ends .sound in
     let l = le (neg big) (x .ends .lower) && le (x .ends .lower) big in
@@ -130,7 +131,7 @@ record Tamed (w : PairShared) : Type 0 where
 tamed : (w : PairShared) → T (tameOf w) → Tamed w
 unfolding tameOf
 tamed w t =
-    let p : Enclosure → Bool = λ x. smallOf x in
+    let p : Enclosure → Bool = λ x. smallEnds x in
     let lr = p (w .pair .lr) in let la = p (w .pair .la) in let sr = p (w .sr) in let sa = p (w .sa) in
     let q1r = p (w .q1r) in let q1a = p (w .q1a) in let q2r = p (w .q2r) in let q2a = p (w .q2a) in
     let d = p (w .d) in let d2 = p (w .d2) in let ce = p (w .ce) in
@@ -239,7 +240,7 @@ module _ (w : PairShared) (s : Sharing w) (z : Tamed w) (r : Enclosure) (base : 
 
   -- the power as the formula has it
   abbrev power : Enclosure → Enclosure
-  power e = afterE r (afterE e (powerAt (logOf (r .value)) (exponentOf (e .value))))
+  power e = afterE r (afterE e (powerPoint (logOf (r .value)) (exponentOf (e .value))))
 
   call-held : (e : Enclosure) → Plain (e .value) → calls enclosures port .powf r e ≡ held (power e)
   unfolding answered₂ powfOf demand _>>=_
@@ -425,21 +426,21 @@ module _ (w : PairShared) (s : Sharing w) (z : Tamed w) (r : Enclosure) (base : 
   abbrev L : Log
   L = logOf (r .value)
 
-  at-power : (e : Enclosure) → Same (powerAt L (exponentOf (e .value))) (power e)
+  at-power : (e : Enclosure) → Same (powerPoint L (exponentOf (e .value))) (power e)
   unfolding afterE afterI
   at-power e = record { is = refl }
 
-  at-recip : (e : Enclosure) → Same (recip enclosures (powerAt L (exponentOf (e .value)))) (recip enclosures (power e))
+  at-recip : (e : Enclosure) → Same (recip enclosures (powerPoint L (exponentOf (e .value)))) (recip enclosures (power e))
   at-recip e = div-same same (at-power e)
 
-  same-mie : Same (uMie enclosures (powerAt L (exponentOf (lr .value))) (w .sr) (powerAt L (exponentOf (la .value))) (w .sa)) (mieV .u)
+  same-mie : Same (uMie enclosures (powerPoint L (exponentOf (lr .value))) (w .sr) (powerPoint L (exponentOf (la .value))) (w .sa)) (mieV .u)
   same-mie = sub-same (mul-same (at-recip lr) same) (mul-same (at-recip la) same)
 
   same-line : (d qr qa er ea u v : Enclosure) → Same u v
-      → Same (addE u (mulE d (uQuantum enclosures qr qa (powerAt L (exponentOf (er .value))) (w .sr) (powerAt L (exponentOf (ea .value))) (w .sa)))) (addE v (mulE d (uQuantum enclosures qr qa (power er) (w .sr) (power ea) (w .sa))))
+      → Same (addE u (mulE d (uQuantum enclosures qr qa (powerPoint L (exponentOf (er .value))) (w .sr) (powerPoint L (exponentOf (ea .value))) (w .sa)))) (addE v (mulE d (uQuantum enclosures qr qa (power er) (w .sr) (power ea) (w .sa))))
   same-line d qr qa er ea u v p = add-same p (mul-same same (sub-same (mul-same (mul-same (at-recip er) same) same) (mul-same (mul-same (at-recip ea) same) same)))
 
-  same-first : Same (addE (uMie enclosures (powerAt L (exponentOf (lr .value))) (w .sr) (powerAt L (exponentOf (la .value))) (w .sa)) (mulE (w .d) (uQuantum enclosures (w .q1r) (w .q1a) (powerAt L (exponentOf (up-by lr 2 .value))) (w .sr) (powerAt L (exponentOf (up-by la 2 .value))) (w .sa)))) (firstV mieV .u)
+  same-first : Same (addE (uMie enclosures (powerPoint L (exponentOf (lr .value))) (w .sr) (powerPoint L (exponentOf (la .value))) (w .sa)) (mulE (w .d) (uQuantum enclosures (w .q1r) (w .q1a) (powerPoint L (exponentOf (up-by lr 2 .value))) (w .sr) (powerPoint L (exponentOf (up-by la 2 .value))) (w .sa)))) (firstV mieV .u)
   same-first = same-line (w .d) (w .q1r) (w .q1a) (up-by lr 2) (up-by la 2) _ _ same-mie
 
   same-u : (o : FeynmanHibbsOrder) → w .pair .order ≡ o → Same (uAlone w (aloneOf w) L) (mulE (valuesOf o .u) (w .ce))

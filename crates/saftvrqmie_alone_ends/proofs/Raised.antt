@@ -18,12 +18,13 @@ use Rattle.number.proofs.Frac.{le-transF}
 use Rattle.number.proofs.Round.{has-finite, has-ge}
 use Rattle.number.proofs.Order.{lt-yes}
 use Rattle.number.proofs.Rank.{mag, mag-inf, bits64, rank-lt}
+use Rattle.number.specs.Domain.{exponentInside}
 use Rattle.fixed_point.proofs.Patterns64.{pack-value, near-lo, near-hi}
 use Rattle.exponential.specs.Raise.{significandOf, raiseOf}
 use Rattle.exponential.proofs.Digits.{significand-lo, significand-hi}
 use Rattle.binary_log.specs.declared.Log.{Log}
 use Rattle.power.specs.declared.FixedExponent.{FixedExponent}
-use Rattle.power.specs.Power.{exponentInside, exponentOf, productOf, wordOf, powerOf}
+use Rattle.power.specs.Power.{exponentOf, productOf, wordOf, powerOf}
 use Rattle.saftvrqmie_alone_ends.proofs.Tame.{FromOne, top, top-fits}
 
 raise-value : (w : ℕ) → w < 2046 * 2 ^ 53 → HasValue (raiseOf w) false ((significandOf w / 1024 + 1) / 2 * 2 ^ (w / 2 ^ 53 - 1)) (2 ^ 1074)

@@ -6,9 +6,10 @@ use lib.Ieee.Bits.{is-true}
 use lib.Ieee.Fits.{and-l, and-r}
 use Rattle.number.specs.Ans.{held}
 use Rattle.number.specs.Functions.{calls}
+use Rattle.number.specs.Domain.{baseInside}
 use Rattle.elementary.specs.Port.{port}
 use Rattle.binary_log.specs.declared.Log.{Log}
-use Rattle.binary_log.specs.BinaryLog.{baseInside, logOf}
+use Rattle.binary_log.specs.BinaryLog.{logOf}
 use Rattle.enclosure.specs.declared.Enclosure.{Enclosure}
 use Rattle.enclosure.specs.Enclosure.{enclosures, addE, subE, mulE, afterE}
 use Rattle.saftvrqmie_potential_ends.specs.Pair.{pairIn}
@@ -17,7 +18,7 @@ use Rattle.saftvrqmie_potential_ends.specs.declared.PairShared.{PairShared}
 use Rattle.saftvrqmie_potential_ends.specs.Shared.{Sharing}
 use Rattle.saftvrqmie_alone_ends.specs.declared.Alone.{Alone}
 use Rattle.saftvrqmie_alone_ends.specs.declared.Sure.{Sure}
-use Rattle.saftvrqmie_alone_ends.specs.Alone.{tameOf, aloneOf, sureOf, soundOf, powerAt, uAlone, uAfter}
+use Rattle.saftvrqmie_alone_ends.specs.Alone.{tameOf, aloneOf, sureOf, soundOf, powerPoint, uAlone, uAfter}
 use Rattle.saftvrqmie_alone_ends.proofs.Same.{Same, same, add-same, sub-same, mul-same}
 use Rattle.saftvrqmie_alone_ends.proofs.Derivatives.{alone-is}
 
@@ -37,9 +38,9 @@ module _ (u d qr qa pr pa sr sa : Enclosure) where
 
 module _ (w : PairShared) (x : Alone) (l : Log) (u : Enclosure) where
   abbrev mieU : Enclosure
-  mieU = uMie enclosures (powerAt l (x .er0)) (w .sr) (powerAt l (x .ea0)) (w .sa)
+  mieU = uMie enclosures (powerPoint l (x .er0)) (w .sr) (powerPoint l (x .ea0)) (w .sa)
 
-  pub mie-worked : (a b c d : Enclosure) → a ≡ recip enclosures (powerAt l (x .er0)) → b ≡ mulE a (w .sr) → c ≡ recip enclosures (powerAt l (x .ea0)) → d ≡ mulE c (w .sa) → u ≡ subE b d → u ≡ mieU
+  pub mie-worked : (a b c d : Enclosure) → a ≡ recip enclosures (powerPoint l (x .er0)) → b ≡ mulE a (w .sr) → c ≡ recip enclosures (powerPoint l (x .ea0)) → d ≡ mulE c (w .sa) → u ≡ subE b d → u ≡ mieU
   mie-worked a b c d h i j k o = rw (o, i, h, k, j)
 
   module _ (is : u ≡ mieU) where
@@ -47,12 +48,12 @@ module _ (w : PairShared) (x : Alone) (l : Log) (u : Enclosure) where
     unfolding uAlone
     order-0 m r h i f = rw (i, h, f, is)
 
-    module _ (u₁ : Enclosure) (with-first : Same u₁ (addE u (mulE (w .d) (uQuantum enclosures (w .q1r) (w .q1a) (powerAt l (x .er2)) (w .sr) (powerAt l (x .ea2)) (w .sa))))) (f : x .first ≡ true) where
+    module _ (u₁ : Enclosure) (with-first : Same u₁ (addE u (mulE (w .d) (uQuantum enclosures (w .q1r) (w .q1a) (powerPoint l (x .er2)) (w .sr) (powerPoint l (x .ea2)) (w .sa))))) (f : x .first ≡ true) where
       pub order-1 : (m : Enclosure) (r : Sure) → m ≡ mulE u₁ (w .ce) → r ≡ sureOf m → x .second ≡ false → r ≡ sureOf (uAlone w x l)
       unfolding uAlone
       order-1 m r h i g = i ∙ (ap sureOf h ∙ (mul-same with-first (same {x = w .ce}) .is ∙ rw (f, g, is)))
 
-      pub order-2 : (u₂ m : Enclosure) (r : Sure) → Same u₂ (addE u₁ (mulE (w .d2) (uQuantum enclosures (w .q2r) (w .q2a) (powerAt l (x .er4)) (w .sr) (powerAt l (x .ea4)) (w .sa))))
+      pub order-2 : (u₂ m : Enclosure) (r : Sure) → Same u₂ (addE u₁ (mulE (w .d2) (uQuantum enclosures (w .q2r) (w .q2a) (powerPoint l (x .er4)) (w .sr) (powerPoint l (x .ea4)) (w .sa))))
           → m ≡ mulE u₂ (w .ce) → r ≡ sureOf m → x .second ≡ true → r ≡ sureOf (uAlone w x l)
       unfolding uAlone
       order-2 u₂ m r s h i g = i ∙ (ap sureOf h ∙ (mul-same s (same {x = w .ce}) .is ∙ (mul-same (add-same with-first same) (same {x = w .ce}) .is ∙ rw (f, g, is))))

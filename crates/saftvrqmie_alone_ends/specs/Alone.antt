@@ -3,9 +3,10 @@ use mathlib.Core.Bool.{Bool, true, false, _&&_, cond}
 use lib.Ieee.{Float, binary64, ofBits, fits, le, lt, neg, add}
 use Rattle.number.specs.Ans.{Ans, held, _>>=_}
 use Rattle.number.specs.Arith.{one64, decimal}
+use Rattle.number.specs.Domain.{exponentInside}
 use Rattle.binary_log.specs.declared.Log.{Log}
 use Rattle.power.specs.declared.FixedExponent.{FixedExponent}
-use Rattle.power.specs.Power.{exponentInside, exponentOf, powerOf}
+use Rattle.power.specs.Power.{exponentOf, powerOf}
 use Rattle.enclosure.specs.declared.Enclosure.{Enclosure}
 use Rattle.enclosure.specs.Enclosure.{enclosures, point, addE, mulE, afterE}
 use Rattle.saftvrqmie_potential.specs.Potential.{PotentialIn, firstOrder, secondOrder, uMie, uQuantum}
@@ -22,8 +23,8 @@ unfoldable pub withinOf : Float → Bool
 withinOf a = le (neg big) a && le a big && fits binary64 a
 
 -- sound, and both ends within
-unfoldable pub smallOf : Enclosure → Bool
-smallOf x = x .ends .sound && withinOf (x .ends .lower) && withinOf (x .ends .upper)
+unfoldable pub smallEnds : Enclosure → Bool
+smallEnds x = x .ends .sound && withinOf (x .ends .lower) && withinOf (x .ends .upper)
 
 -- an exponent of the power's domain above 1
 unfoldable pub plainOf : Float → Bool
@@ -42,9 +43,9 @@ plainFrom l =
 
 unfoldable pub tameOf : PairShared → Bool
 tameOf w =
-    (smallOf (w .pair .lr) && smallOf (w .pair .la) && smallOf (w .sr) && smallOf (w .sa))
-    && (smallOf (w .q1r) && smallOf (w .q1a) && smallOf (w .q2r) && smallOf (w .q2a))
-    && (smallOf (w .d) && smallOf (w .d2) && smallOf (w .ce))
+    (smallEnds (w .pair .lr) && smallEnds (w .pair .la) && smallEnds (w .sr) && smallEnds (w .sa))
+    && (smallEnds (w .q1r) && smallEnds (w .q1a) && smallEnds (w .q2r) && smallEnds (w .q2a))
+    && (smallEnds (w .d) && smallEnds (w .d2) && smallEnds (w .ce))
     && plainFrom (w .pair .lr .value)
     && plainFrom (w .pair .la .value)
 
@@ -72,15 +73,15 @@ abbrev pub soundOf : Sure → Enclosure
 soundOf x = record { value = x .value; ends = record { lower = x .lower; upper = x .upper; sound = true } }
 
 -- the power of a radius by its logarithm, as a point
-abbrev pub powerAt : Log → FixedExponent → Enclosure
-powerAt l e = point (powerOf l e)
+abbrev pub powerPoint : Log → FixedExponent → Enclosure
+powerPoint l e = point (powerOf l e)
 
 module _ (w : PairShared) (x : Alone) (l : Log) where
   unfoldable pub uAlone : Enclosure
   uAlone =
-      let u = uMie enclosures (powerAt l (x .er0)) (w .sr) (powerAt l (x .ea0)) (w .sa) in
-      let u₁ = addE u (mulE (w .d) (uQuantum enclosures (w .q1r) (w .q1a) (powerAt l (x .er2)) (w .sr) (powerAt l (x .ea2)) (w .sa))) in
-      let u₂ = addE u₁ (mulE (w .d2) (uQuantum enclosures (w .q2r) (w .q2a) (powerAt l (x .er4)) (w .sr) (powerAt l (x .ea4)) (w .sa))) in
+      let u = uMie enclosures (powerPoint l (x .er0)) (w .sr) (powerPoint l (x .ea0)) (w .sa) in
+      let u₁ = addE u (mulE (w .d) (uQuantum enclosures (w .q1r) (w .q1a) (powerPoint l (x .er2)) (w .sr) (powerPoint l (x .ea2)) (w .sa))) in
+      let u₂ = addE u₁ (mulE (w .d2) (uQuantum enclosures (w .q2r) (w .q2a) (powerPoint l (x .er4)) (w .sr) (powerPoint l (x .ea4)) (w .sa))) in
       mulE (cond (x .first) (cond (x .second) u₂ u₁) u) (w .ce)
 
 -- u, both derivatives having been worked on the way

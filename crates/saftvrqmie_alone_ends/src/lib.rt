@@ -8,7 +8,7 @@ ghost use Rattle.enclosure.specs.Enclosure.{enclosures, mulE};
 ghost use Rattle.saftvrqmie_potential_ends.specs.Pair.{pairIn};
 ghost use Rattle.saftvrqmie_potential.specs.Potential.{recip, potential};
 ghost use Rattle.saftvrqmie_potential_ends.specs.Shared.{Sharing};
-ghost use Rattle.saftvrqmie_alone_ends.specs.Alone.{withinOf, smallOf, plainOf, plainFrom, tameOf, aloneOf, sureOf, soundOf, powerAt, uAlone, uAfter};
+ghost use Rattle.saftvrqmie_alone_ends.specs.Alone.{withinOf, smallEnds, plainOf, plainFrom, tameOf, aloneOf, sureOf, soundOf, powerPoint, uAlone, uAfter};
 use binary_log::Log;
 use enclosure::Enclosure;
 use enclosure::EnclosureAnswer;
@@ -47,7 +47,7 @@ fn within(a: f64) -> bool
 
 // Sound, and both ends within.
 fn small(x: Enclosure) -> bool
-    ensures { λ r. ⌜ r ≡ smallOf x ⌝ }
+    ensures { λ r. ⌜ r ≡ smallEnds x ⌝ }
 {
     x.ends.sound & within(x.ends.lower) & within(x.ends.upper)
 }
@@ -125,7 +125,7 @@ fn sound(x: Sure) -> Enclosure
 
 // 1 / r^e, l being the logarithm of r.
 fn recip_at(l: Log, e: FixedExponent) -> Enclosure
-    ensures { λ r. ⌜ r ≡ recip enclosures (powerAt l e) ⌝ }
+    ensures { λ r. ⌜ r ≡ recip enclosures (powerPoint l e) ⌝ }
 {
     let one = enclosure::point(1.0);
     enclosure::div(one, enclosure::point(power::raise(l, e)))
@@ -133,7 +133,7 @@ fn recip_at(l: Log, e: FixedExponent) -> Enclosure
 
 // 1 / r^e * q * s
 fn term(l: Log, e: FixedExponent, q: Enclosure, s: Enclosure) -> Sure
-    ensures { λ r. ⌜ r ≡ sureOf (mulE (mulE (recip enclosures (powerAt l e)) q) s) ⌝ }
+    ensures { λ r. ⌜ r ≡ sureOf (mulE (mulE (recip enclosures (powerPoint l e)) q) s) ⌝ }
 {
     sure_of(enclosure::mul(enclosure::mul(recip_at(l, e), q), s))
 }

@@ -17,7 +17,7 @@ use Rattle.enclosure.specs.Ends.{Encloses, endsAlone}
 use Rattle.enclosure.proofs.Relations.{Value, values, contains}
 use Rattle.enclosure.proofs.TwoEnds.{operation-1, operation-2, operation-alone, operation-encloses}
 use Rattle.saftvrqmie_parameters.specs.declared.SaftVRQMiePars.{SaftVRQMiePars}
-use Rattle.saftvrqmie_potential.specs.Potential.{PairIn, pairAt, pointsOf}
+use Rattle.saftvrqmie_potential.specs.Potential.{PairIn, pairAtEntry, pointsOf}
 use Rattle.saftvrqmie_potential.specs.declared.Pair.{Pair}
 use Rattle.saftvrqmie_potential.proofs.Relation.{PairR}
 use Rattle.saftvrqmie_searches.specs.Diameter.{diameter}
@@ -42,7 +42,7 @@ points-rel A B K p =
 -- runs of the diameter keep what their arithmetics and functions keep
 module _ (A B : Arith) (K : Rel A B) (F : Functions (A .Num)) (G : Functions (B .Num)) (H : FunRel (K .R) F G) where
   pub run-rel : (s : SaftVRQMiePars) (i j : ℕ) (t sigma-eff r0 : Float) → Both (K .R) (diameterRun A F s i j t sigma-eff r0) (diameterRun B G s i j t sigma-eff r0)
-  run-rel s i j t sigma-eff r0 = diameter-rel A B K F G H (points-rel A B K (pairAt (s .sheets) (s .orders) t (cell i j))) (K .r-lit sigma-eff) (K .r-lit r0)
+  run-rel s i j t sigma-eff r0 = diameter-rel A B K F G H (points-rel A B K (pairAtEntry (s .sheets) (s .orders) t (cell i j))) (K .r-lit sigma-eff) (K .r-lit r0)
 
 module _ (E : Answers) (s : SaftVRQMiePars) (i j : ℕ) (t sigma-eff r0 : Float) where
   pub run-values : Both Value (diameterRun enclosures (calls enclosures E) s i j t sigma-eff r0) (diameterRun floats (calls floats E) s i j t sigma-eff r0)
@@ -59,7 +59,7 @@ module _ (E : Answers) (s : SaftVRQMiePars) (i j : ℕ) (t sigma-eff r0 : Float)
 
     -- from what the code works
     pub ends-on : temperatureWithin t ≡ true → (x : PairIn Enclosure) (y z : Enclosure) (a : Ans Enclosure) (b : Ans Ends)
-        → x ≡ pointsOf enclosures (pairAt (s .sheets) (s .orders) t (cell i j)) → y ≡ point sigma-eff → z ≡ point r0 → a ≡ diameter enclosures (calls enclosures E) x y z → b ≡ endsAlone a → b ≡ diameterEnds E s i j t sigma-eff r0
+        → x ≡ pointsOf enclosures (pairAtEntry (s .sheets) (s .orders) t (cell i j)) → y ≡ point sigma-eff → z ≡ point r0 → a ≡ diameter enclosures (calls enclosures E) x y z → b ≡ endsAlone a → b ≡ diameterEnds E s i j t sigma-eff r0
     unfolding diameterEnds diameterIjBy
     ends-on q x y z a b f g h k l =
         let m : a ≡ diameterRun enclosures (calls enclosures E) s i j t sigma-eff r0 = k ∙ rw (f, g, h) in

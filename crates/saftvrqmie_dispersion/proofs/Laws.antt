@@ -14,7 +14,7 @@ use Rattle.elementary.specs.Port.{port}
 use Rattle.saftvrqmie_parameters.specs.declared.FeynmanHibbsOrder.{FeynmanHibbsOrder}
 use Rattle.saftvrqmie_parameters.specs.declared.FeynmanHibbsOrder.the-variants.{FH0, FH1, FH2}
 use Rattle.saftvrqmie_potential.specs.Potential.{secondOrder, orderNumber}
-use Rattle.saftvrqmie_dispersion_terms.specs.Staged.{termsOf, combineAt}
+use Rattle.saftvrqmie_dispersion_terms.specs.Staged.{pairTermsOf, combineAt}
 use Rattle.saftvrqmie_dispersion_terms.specs.declared.PairTerms.{PairTerms}
 use Rattle.saftvrqmie_dispersion_terms.proofs.Staged.{combine-held, combine-refused}
 use Rattle.saftvrqmie_dispersion.specs.declared.DispersionPair.{DispersionPair}
@@ -23,7 +23,7 @@ use Rattle.saftvrqmie_dispersion.specs.Perturbation.{QuantumIn, dispersi
 -- ---- what a pair's bases give or refuse, both perturbations do
 module _ (p : DispersionPair) where
   abbrev Terms : Ans PairTerms
-  Terms = termsOf (p .«epsilon_k») (p .zeta) (p .x0) (p .«x0_eff»)
+  Terms = pairTermsOf (p .«epsilon_k») (p .zeta) (p .x0) (p .«x0_eff»)
 
   combine-is : (w : PairTerms) → Terms ≡ held w → combineOf floats (calls floats port) (dispersionIn p) ≡ combineAt w
   unfolding combineOf

@@ -6,11 +6,12 @@ use mathlib.Core.Bool.{Bool, true, false}
 use Rattle.number.specs.Ans.{Ans, held, refused, _>>=_, demand}
 use Rattle.number.specs.Arith.{floats, whole}
 use Rattle.number.specs.Functions.{calls, answered₂}
+use Rattle.number.specs.Domain.{baseInside, exponentInside}
 use Rattle.elementary.specs.Port.{port}
-use Rattle.binary_log.specs.BinaryLog.{baseInside, logOf}
-use Rattle.power.specs.Power.{exponentInside, powfOf, powfAt}
+use Rattle.binary_log.specs.BinaryLog.{logOf}
+use Rattle.power.specs.Power.{powfOf, powfAt}
 use Rattle.saftvrqmie_dispersion_terms.specs.Terms.{factorI, factorJ, sutherland, ilambda, b, combine, combineSutherlandAndB}
-use Rattle.saftvrqmie_dispersion_terms.specs.Staged.{termsOf, combineAt}
+use Rattle.saftvrqmie_dispersion_terms.specs.Staged.{pairTermsOf, combineAt}
 use Rattle.saftvrqmie_dispersion_terms.specs.declared.PairTerms.{PairTerms}
 
 -- ---- a power in its stages
@@ -50,20 +51,20 @@ module _ (e z x y l : Float) where
       either true i = rw (powf-inside x l h, i, powf-outside y (floats .sub (whole floats 3) l) k)
       either false i = rw (powf-inside x l h, i)
 
-  joined : (s t : Bool) → baseInside x ≡ s → baseInside y ≡ t → Formula ≡ (termsOf e z x y >>= λ w. combineAt w l)
-  unfolding termsOf combineAt combineSutherlandAndB demand _>>=_
+  joined : (s t : Bool) → baseInside x ≡ s → baseInside y ≡ t → Formula ≡ (pairTermsOf e z x y >>= λ w. combineAt w l)
+  unfolding pairTermsOf combineAt combineSutherlandAndB demand _>>=_
   joined false t h k = no-x0 h ∙ sym (rw h)
   joined true false h k = no-x0-eff h k ∙ sym (rw (h, k))
   joined true true h k = same _ _ _ _ (powers x h) (powers y k) ∙ sym (rw (h, k))
 
-  staged : Formula ≡ (termsOf e z x y >>= λ w. combineAt w l)
+  staged : Formula ≡ (pairTermsOf e z x y >>= λ w. combineAt w l)
   staged = joined (baseInside x) (baseInside y) refl refl
 
 -- ---- for the code: all exponents at once
-pub combine-held : (e z x y : Float) (w : PairTerms) → termsOf e z x y ≡ held w → combineSutherlandAndB floats (calls floats port) e z x y ≡ combineAt w
+pub combine-held : (e z x y : Float) (w : PairTerms) → pairTermsOf e z x y ≡ held w → combineSutherlandAndB floats (calls floats port) e z x y ≡ combineAt w
 unfolding _>>=_
 combine-held e z x y w h = fun-ext (λ l. staged e z x y l ∙ rw h)
 
-pub combine-refused : (e z x y : Float) (n : ℕ) → termsOf e z x y ≡ refused n → combineSutherlandAndB floats (calls floats port) e z x y ≡ (λ l. refused n)
+pub combine-refused : (e z x y : Float) (n : ℕ) → pairTermsOf e z x y ≡ refused n → combineSutherlandAndB floats (calls floats port) e z x y ≡ (λ l. refused n)
 unfolding _>>=_
 combine-refused e z x y n h = fun-ext (λ l. staged e z x y l ∙ rw h)

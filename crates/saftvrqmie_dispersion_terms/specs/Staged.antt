@@ -2,7 +2,8 @@
 use lib.Ieee.{Float}
 use Rattle.number.specs.Ans.{Ans, held, refused, _>>=_, demand}
 use Rattle.number.specs.Arith.{floats}
-use Rattle.binary_log.specs.BinaryLog.{baseInside, logOf}
+use Rattle.number.specs.Domain.{baseInside}
+use Rattle.binary_log.specs.BinaryLog.{logOf}
 use Rattle.power.specs.Power.{powfAt}
 use Rattle.saftvrqmie_dispersion_terms.specs.Terms.{factorI, factorJ, combine}
 use Rattle.saftvrqmie_dispersion_terms.specs.declared.PairTerms.{PairTerms}
@@ -10,13 +11,13 @@ use Rattle.saftvrqmie_dispersion_terms.specs.declared.TermsAnswer.{Terms
 use Rattle.saftvrqmie_dispersion_terms.specs.declared.TermsAnswer.the-variants.{At, Outside}
 
 -- the number or values of each case of `TermsAnswer`
-abbrev pub termsAnswer : TermsAnswer → Ans PairTerms
-termsAnswer (At w) = held w
-termsAnswer Outside = refused 6
+abbrev pub pairTermsAnswer : TermsAnswer → Ans PairTerms
+pairTermsAnswer (At w) = held w
+pairTermsAnswer Outside = refused 6
 
 -- 6 where a base is outside: then no exponent has a value
-unfoldable pub termsOf : Float → Float → Float → Float → Ans PairTerms
-termsOf epsilon-k zeta x0 x0-eff =
+unfoldable pub pairTermsOf : Float → Float → Float → Float → Ans PairTerms
+pairTermsOf epsilon-k zeta x0 x0-eff =
     demand 6 (baseInside x0) >>= λ _.
     demand 6 (baseInside x0-eff) >>= λ _.
     held (record { «epsilon_k» = epsilon-k; zeta = zeta; «factor_i» = factorI floats zeta; «factor_j» = factorJ floats zeta; x0 = logOf x0; «x0_eff» = logOf x0-eff })

@@ -18,16 +18,16 @@ module _ (A : Arith) where
   infix 80 ⊖_
   -- c[i] of `eta_eff`, from a row of LAM_COEFF and the inverse powers of lambda
   unfoldable pub lamSum : List Float → Num → Num → Num → Num → Num
-  lamSum c l0 l1 l2 l3 = l0 ⊗ lit (at c 0) ⊕ l1 ⊗ lit (at c 1) ⊕ l2 ⊗ lit (at c 2) ⊕ l3 ⊗ lit (at c 3)
+  lamSum c inv0 inv1 inv2 inv3 = inv0 ⊗ lit (at c 0) ⊕ inv1 ⊗ lit (at c 1) ⊕ inv2 ⊗ lit (at c 2) ⊕ inv3 ⊗ lit (at c 3)
 
   -- `eta_eff`
   unfoldable pub etaEff : Num → Num → Num
   etaEff lambda zeta =
-      let l0 = whole A 1 in
-      let l1 = whole A 1 ⊘ lambda in
-      let l2 = whole A 1 ⊘ pow lambda 2 in
-      let l3 = whole A 1 ⊘ pow lambda 3 in
-      zeta ⊗ (zeta ⊗ (zeta ⊗ (zeta ⊗ lamSum c3 l0 l1 l2 l3 ⊕ lamSum c2 l0 l1 l2 l3) ⊕ lamSum c1 l0 l1 l2 l3) ⊕ lamSum c0 l0 l1 l2 l3)
+      let inv0 = whole A 1 in
+      let inv1 = whole A 1 ⊘ lambda in
+      let inv2 = whole A 1 ⊘ pow lambda 2 in
+      let inv3 = whole A 1 ⊘ pow lambda 3 in
+      zeta ⊗ (zeta ⊗ (zeta ⊗ (zeta ⊗ lamSum c3 inv0 inv1 inv2 inv3 ⊕ lamSum c2 inv0 inv1 inv2 inv3) ⊕ lamSum c1 inv0 inv1 inv2 inv3) ⊕ lamSum c0 inv0 inv1 inv2 inv3)
 
   -- `sutherland` from ef = eta_eff, its power p of x0 and l3 = lambda - 3
   abbrev pub sutherlandFrom : Num → Num → Num → Num → Num

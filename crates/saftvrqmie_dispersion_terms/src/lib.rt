@@ -7,7 +7,7 @@ ghost use Rattle.number.specs.Functions.{calls};
 ghost use Rattle.elementary.specs.Port.{port};
 ghost use Rattle.saftvrqmie_dispersion_terms.specs.Terms.{lamSum, etaEff, sutherlandOf, ilambdaOf, jlambdaOf, factorI, factorJ, bOf, combineSutherlandAndB};
 ghost use Rattle.power.specs.Power.{powfAt};
-ghost use Rattle.saftvrqmie_dispersion_terms.specs.Staged.{termsAnswer, termsOf, combineAt};
+ghost use Rattle.saftvrqmie_dispersion_terms.specs.Staged.{pairTermsAnswer, pairTermsOf, combineAt};
 use binary_log::Log;
 use mie_parameters::LAM_COEFF;
 use number::FloatAnswer;
@@ -28,24 +28,24 @@ pub enum TermsAnswer {
 }
 
 // A row of LAM_COEFF with the inverse powers of lambda.
-fn lam_sum(c: [f64; 4], l0: f64, l1: f64, l2: f64, l3: f64) -> f64
-    ensures { λ r. ⌜ r ≡ lamSum floats c l0 l1 l2 l3 ⌝ }
+fn lam_sum(c: [f64; 4], inv0: f64, inv1: f64, inv2: f64, inv3: f64) -> f64
+    ensures { λ r. ⌜ r ≡ lamSum floats c inv0 inv1 inv2 inv3 ⌝ }
 {
-    l0 * c[0] + l1 * c[1] + l2 * c[2] + l3 * c[3]
+    inv0 * c[0] + inv1 * c[1] + inv2 * c[2] + inv3 * c[3]
 }
 
 // Whole powers are written out: 1.0 is the first factor of each.
 pub fn eta_eff(lambda: f64, zeta: f64) -> f64
     ensures { λ r. ⌜ r ≡ etaEff floats lambda zeta ⌝ }
 {
-    let l0 = 1.0;
-    let l1 = 1.0 / lambda;
-    let l2 = 1.0 / (1.0 * (lambda * lambda));
-    let l3 = 1.0 / (1.0 * lambda * (lambda * lambda));
-    let c0 = lam_sum(LAM_COEFF[0], l0, l1, l2, l3);
-    let c1 = lam_sum(LAM_COEFF[1], l0, l1, l2, l3);
-    let c2 = lam_sum(LAM_COEFF[2], l0, l1, l2, l3);
-    let c3 = lam_sum(LAM_COEFF[3], l0, l1, l2, l3);
+    let inv0 = 1.0;
+    let inv1 = 1.0 / lambda;
+    let inv2 = 1.0 / (1.0 * (lambda * lambda));
+    let inv3 = 1.0 / (1.0 * lambda * (lambda * lambda));
+    let c0 = lam_sum(LAM_COEFF[0], inv0, inv1, inv2, inv3);
+    let c1 = lam_sum(LAM_COEFF[1], inv0, inv1, inv2, inv3);
+    let c2 = lam_sum(LAM_COEFF[2], inv0, inv1, inv2, inv3);
+    let c3 = lam_sum(LAM_COEFF[3], inv0, inv1, inv2, inv3);
     zeta * (zeta * (zeta * (zeta * c3 + c2) + c1) + c0)
 }
 
@@ -100,7 +100,7 @@ pub fn powf_at(l: Log, y: f64) -> FloatAnswer
 
 // No value where a base is outside: then no exponent has one.
 pub fn terms_of(epsilon_k: f64, zeta: f64, x0: f64, x0_eff: f64) -> TermsAnswer
-    ensures { λ r. ⌜ termsAnswer r ≡ termsOf «epsilon_k» zeta x0 «x0_eff» ⌝ }
+    ensures { λ r. ⌜ pairTermsAnswer r ≡ pairTermsOf «epsilon_k» zeta x0 «x0_eff» ⌝ }
 {
     if !binary_log::base_inside(x0) {
         return TermsAnswer::Outside;

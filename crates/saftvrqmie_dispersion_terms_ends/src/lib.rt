@@ -29,43 +29,43 @@ pub struct PairTerms {
     pub x0_eff: Base,
 }
 
-fn lam_sum_0(l0: Enclosure, l1: Enclosure, l2: Enclosure, l3: Enclosure) -> Enclosure
-    ensures { λ r. ⌜ r ≡ lamSum enclosures c0 l0 l1 l2 l3 ⌝ }
+fn lam_sum_0(inv0: Enclosure, inv1: Enclosure, inv2: Enclosure, inv3: Enclosure) -> Enclosure
+    ensures { λ r. ⌜ r ≡ lamSum enclosures c0 inv0 inv1 inv2 inv3 ⌝ }
 {
-    let a0 = enclosure::mul(l0, enclosure::point(LAM_COEFF[0][0]));
-    let a1 = enclosure::mul(l1, enclosure::point(LAM_COEFF[0][1]));
-    let a2 = enclosure::mul(l2, enclosure::point(LAM_COEFF[0][2]));
-    let a3 = enclosure::mul(l3, enclosure::point(LAM_COEFF[0][3]));
+    let a0 = enclosure::mul(inv0, enclosure::point(LAM_COEFF[0][0]));
+    let a1 = enclosure::mul(inv1, enclosure::point(LAM_COEFF[0][1]));
+    let a2 = enclosure::mul(inv2, enclosure::point(LAM_COEFF[0][2]));
+    let a3 = enclosure::mul(inv3, enclosure::point(LAM_COEFF[0][3]));
     enclosure::add(enclosure::add(enclosure::add(a0, a1), a2), a3)
 }
 
-fn lam_sum_1(l0: Enclosure, l1: Enclosure, l2: Enclosure, l3: Enclosure) -> Enclosure
-    ensures { λ r. ⌜ r ≡ lamSum enclosures c1 l0 l1 l2 l3 ⌝ }
+fn lam_sum_1(inv0: Enclosure, inv1: Enclosure, inv2: Enclosure, inv3: Enclosure) -> Enclosure
+    ensures { λ r. ⌜ r ≡ lamSum enclosures c1 inv0 inv1 inv2 inv3 ⌝ }
 {
-    let a0 = enclosure::mul(l0, enclosure::point(LAM_COEFF[1][0]));
-    let a1 = enclosure::mul(l1, enclosure::point(LAM_COEFF[1][1]));
-    let a2 = enclosure::mul(l2, enclosure::point(LAM_COEFF[1][2]));
-    let a3 = enclosure::mul(l3, enclosure::point(LAM_COEFF[1][3]));
+    let a0 = enclosure::mul(inv0, enclosure::point(LAM_COEFF[1][0]));
+    let a1 = enclosure::mul(inv1, enclosure::point(LAM_COEFF[1][1]));
+    let a2 = enclosure::mul(inv2, enclosure::point(LAM_COEFF[1][2]));
+    let a3 = enclosure::mul(inv3, enclosure::point(LAM_COEFF[1][3]));
     enclosure::add(enclosure::add(enclosure::add(a0, a1), a2), a3)
 }
 
-fn lam_sum_2(l0: Enclosure, l1: Enclosure, l2: Enclosure, l3: Enclosure) -> Enclosure
-    ensures { λ r. ⌜ r ≡ lamSum enclosures c2 l0 l1 l2 l3 ⌝ }
+fn lam_sum_2(inv0: Enclosure, inv1: Enclosure, inv2: Enclosure, inv3: Enclosure) -> Enclosure
+    ensures { λ r. ⌜ r ≡ lamSum enclosures c2 inv0 inv1 inv2 inv3 ⌝ }
 {
-    let a0 = enclosure::mul(l0, enclosure::point(LAM_COEFF[2][0]));
-    let a1 = enclosure::mul(l1, enclosure::point(LAM_COEFF[2][1]));
-    let a2 = enclosure::mul(l2, enclosure::point(LAM_COEFF[2][2]));
-    let a3 = enclosure::mul(l3, enclosure::point(LAM_COEFF[2][3]));
+    let a0 = enclosure::mul(inv0, enclosure::point(LAM_COEFF[2][0]));
+    let a1 = enclosure::mul(inv1, enclosure::point(LAM_COEFF[2][1]));
+    let a2 = enclosure::mul(inv2, enclosure::point(LAM_COEFF[2][2]));
+    let a3 = enclosure::mul(inv3, enclosure::point(LAM_COEFF[2][3]));
     enclosure::add(enclosure::add(enclosure::add(a0, a1), a2), a3)
 }
 
-fn lam_sum_3(l0: Enclosure, l1: Enclosure, l2: Enclosure, l3: Enclosure) -> Enclosure
-    ensures { λ r. ⌜ r ≡ lamSum enclosures c3 l0 l1 l2 l3 ⌝ }
+fn lam_sum_3(inv0: Enclosure, inv1: Enclosure, inv2: Enclosure, inv3: Enclosure) -> Enclosure
+    ensures { λ r. ⌜ r ≡ lamSum enclosures c3 inv0 inv1 inv2 inv3 ⌝ }
 {
-    let a0 = enclosure::mul(l0, enclosure::point(LAM_COEFF[3][0]));
-    let a1 = enclosure::mul(l1, enclosure::point(LAM_COEFF[3][1]));
-    let a2 = enclosure::mul(l2, enclosure::point(LAM_COEFF[3][2]));
-    let a3 = enclosure::mul(l3, enclosure::point(LAM_COEFF[3][3]));
+    let a0 = enclosure::mul(inv0, enclosure::point(LAM_COEFF[3][0]));
+    let a1 = enclosure::mul(inv1, enclosure::point(LAM_COEFF[3][1]));
+    let a2 = enclosure::mul(inv2, enclosure::point(LAM_COEFF[3][2]));
+    let a3 = enclosure::mul(inv3, enclosure::point(LAM_COEFF[3][3]));
     enclosure::add(enclosure::add(enclosure::add(a0, a1), a2), a3)
 }
 
@@ -73,14 +73,14 @@ pub fn eta_eff(lambda: Enclosure, zeta: Enclosure) -> Enclosure
     ensures { λ r. ⌜ r ≡ etaEff enclosures lambda zeta ⌝ }
 {
     let one = enclosure::point(1.0);
-    let l1 = enclosure::div(one, lambda);
+    let inv1 = enclosure::div(one, lambda);
     let square = enclosure::mul(lambda, lambda);
-    let l2 = enclosure::div(one, enclosure::mul(one, square));
-    let l3 = enclosure::div(one, enclosure::mul(enclosure::mul(one, lambda), square));
-    let c0 = lam_sum_0(one, l1, l2, l3);
-    let c1 = lam_sum_1(one, l1, l2, l3);
-    let c2 = lam_sum_2(one, l1, l2, l3);
-    let c3 = lam_sum_3(one, l1, l2, l3);
+    let inv2 = enclosure::div(one, enclosure::mul(one, square));
+    let inv3 = enclosure::div(one, enclosure::mul(enclosure::mul(one, lambda), square));
+    let c0 = lam_sum_0(one, inv1, inv2, inv3);
+    let c1 = lam_sum_1(one, inv1, inv2, inv3);
+    let c2 = lam_sum_2(one, inv1, inv2, inv3);
+    let c3 = lam_sum_3(one, inv1, inv2, inv3);
     let s3 = enclosure::add(enclosure::mul(zeta, c3), c2);
     let s2 = enclosure::add(enclosure::mul(zeta, s3), c1);
     let s1 = enclosure::add(enclosure::mul(zeta, s2), c0);

@@ -16,10 +16,10 @@ use Rattle.saftvrqmie_dispersion.proofs.Relation.{DispersionR, alpha-rel, chi-r
 use Rattle.number.specs.Lists.{nth}
 use Rattle.mie_parameters.specs.Sums.{weighted, ordersSum}
 use Rattle.mie_parameters.specs.Places.{inPlaces}
-use Rattle.saftvrqmie_energies.specs.State.{SheetsIn, sheetsOf}
+use Rattle.saftvrqmie_energies.specs.State.{SheetsIn, sheetsOfState}
 use Rattle.saftvrqmie_energies.specs.HardSphere.{ZetaIn, Zeta23In, zetaAdded, zeta, frac1mz3, zeta23Added, zeta23Sums, zeta23, hardSphereOf, hardSphere}
 use Rattle.saftvrqmie_energies.specs.NonAdditive.{gHs, nonAdditiveIj, nonAdditiveTurn, nonAdditiveColumn, nonAdditiveSum, densityShares, nonAdditive}
-use Rattle.saftvrqmie_energies.specs.Dispersion.{MixtureIn, invXsSum, segmentFractions, lead, packingTurn, packingRow, packing, alphaTurn, alphaRow, alphas, pairAt, leadAt, firstTurn, firstRow, first, secondTurn, secondRow, second, thirdTurn, thirdRow, third, mixture, dispersion}
+use Rattle.saftvrqmie_energies.specs.Dispersion.{MixtureIn, invXsSum, segmentFractions, lead, packingTurn, packingRow, packing, alphaTurn, alphaRow, alphas, dispersionPairAt, leadAt, firstTurn, firstRow, first, secondPairTurn, secondRow, second, thirdTurn, thirdRow, third, mixture, dispersion}
 use Rattle.saftvrqmie_energies.specs.Energies.{EnergiesIn, contributions, contributionsOf}
 use Rattle.saftvrqmie_energies.proofs.Lists.{All, all-replicate, all-set, all-get}
 
@@ -235,7 +235,7 @@ module _ (A B : Arith) (K : Rel A B) where
       alphas-rel = walk-rel (All R) n _ _ alphaRow-rel (all-replicate R sheet _ _ (r-lit _))
 
       module _ {x : ℕ → A .Num} {x' : ℕ → B .Num} {w : MixtureIn (A .Num)} {w' : MixtureIn (B .Num)} (px : Each x x') (W : MixtureR R w w') where
-        pairAt-rel : (e : ℕ) → DispersionR R (pairAt A F t x w e) (pairAt B G t' x' w' e)
+        pairAt-rel : (e : ℕ) → DispersionR R (dispersionPairAt A F t x w e) (dispersionPairAt B G t' x' w' e)
         pairAt-rel e = dispersionPair-rel A B K (P .pair e) (P .hs-diameter e) (P .sigma-eff e) (P .quantum-d e) (W .zeta)
 
         leadAt-rel : (i j : ℕ) → R (leadAt A F t x w i j) (leadAt B G t' x' w' i j)
@@ -254,8 +254,8 @@ module _ (A B : Arith) (K : Rel A B) where
         first-rel = walk-rel R n _ _ firstRow-rel (r-lit _)
 
         module _ {a : ℕ → A .Num} {a' : ℕ → B .Num} (pa : Each a a') where
-          secondTurn-rel : (i k : ℕ) (v : A .Num) (v' : B .Num) → R v v' → Both R (secondTurn A F t x w a i k v) (secondTurn B G t' x' w' a' i k v')
-          unfolding secondTurn
+          secondTurn-rel : (i k : ℕ) (v : A .Num) (v' : B .Num) → R v v' → Both R (secondPairTurn A F t x w a i k v) (secondPairTurn B G t' x' w' a' i k v')
+          unfolding secondPairTurn
           secondTurn-rel i k v v' p =
               then-both (secondOrderIj-rel A B K F G H (pairAt-rel _)) (λ _ _ t.
               both-held (r-add p (r-mul (r-mul (leadAt-rel i (i + k)) (r-add (chi-rel A B K (pa _) (W .zeta-bar)) (r-lit _))) t)))
@@ -290,7 +290,7 @@ module _ (A B : Arith) (K : Rel A B) where
     -- the contributions of a call's lists: every input enters by its point
     pub contributionsOf-rel : (s : SaftVRQMiePars) (t : Float) (x rho table : List Float) (wanted : Bool) → Both (EnergiesR R) (contributionsOf A F s t x rho table wanted) (contributionsOf B G s t x rho table wanted)
     contributionsOf-rel s t x rho table wanted =
-        contributions-rel {s = sheetsOf A (s .count) (s .sheets) (s .orders) t table} {s' = sheetsOf B (s .count) (s .sheets) (s .orders) t table} (s .count)
+        contributions-rel {s = sheetsOfState A (s .count) (s .sheets) (s .orders) t table} {s' = sheetsOfState B (s .count) (s .sheets) (s .orders) t table} (s .count)
         (record {
           pair = λ e. record { sigma = r-lit _; epsilon-k = r-lit _; c = r-lit _; lr = r-lit _; la = r-lit _; mass = r-lit _; order = refl; temperature = r-lit _ };
           sigma-eff = λ e. r-lit _;

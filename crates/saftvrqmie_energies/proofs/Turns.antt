@@ -18,7 +18,7 @@ use Rattle.mie_parameters.specs.Sums.{weighted, ordersSum}
 use Rattle.saftvrqmie_energies.specs.State.{SheetsIn, heldOr6, diagonal}
 use Rattle.saftvrqmie_energies.specs.HardSphere.{ZetaIn, zeta, frac1mz3, zeta23, hardSphereOf, hardSphere}
 use Rattle.saftvrqmie_energies.specs.NonAdditive.{nonAdditiveSum, densityShares, nonAdditive}
-use Rattle.saftvrqmie_energies.specs.Dispersion.{MixtureIn, segmentFractions, alphas, first, second, third, mixture, dispersion, alphaTurn, firstTurn, secondTurn, thirdTurn, pairAt, leadAt}
+use Rattle.saftvrqmie_energies.specs.Dispersion.{MixtureIn, segmentFractions, alphas, first, second, third, mixture, dispersion, alphaTurn, firstTurn, secondPairTurn, thirdTurn, dispersionPairAt, leadAt}
 
 pub left-refused : {S : Type 0} (b : Bool) (x : S) (a : Ans S) → b ≡ false → refused 6 ≡ a → heldOr6 b x ≡ a
 unfolding heldOr6
@@ -62,9 +62,9 @@ module _ (A : Arith) (F : Functions (A .Num)) where
       unfolding alphaTurn _>>=_
       alpha-outside n g = rw (here, g)
 
-    module _ (x : ℕ → Num) (w : MixtureIn Num) (sum : Num) (d : DispersionIn Num) (a : Ans Num) (is-d : d ≡ pairAt A F s x w e) where
+    module _ (x : ℕ → Num) (w : MixtureIn Num) (sum : Num) (d : DispersionIn Num) (a : Ans Num) (is-d : d ≡ dispersionPairAt A F s x w e) where
       module _ (is-a : a ≡ firstOrderIj A F d) where
-        first-here : firstOrderIj A F (pairAt A F s x w e) ≡ a
+        first-here : firstOrderIj A F (dispersionPairAt A F s x w e) ≡ a
         first-here = sym (is-a ∙ ap (firstOrderIj A F) is-d)
 
         pub first-held : (v ld r : Num) → a ≡ held v → ld ≡ leadAt A F s x w i (i + k) → r ≡ sum ⊕ ld ⊗ v → firstTurn A F s x w i k sum ≡ held r
@@ -76,16 +76,16 @@ module _ (A : Arith) (F : Functions (A .Num)) where
         first-outside n g = rw (first-here, g)
 
       module _ (alphas : ℕ → Num) (is-a : a ≡ secondOrderIj A F d) where
-        second-here : secondOrderIj A F (pairAt A F s x w e) ≡ a
+        second-here : secondOrderIj A F (dispersionPairAt A F s x w e) ≡ a
         second-here = sym (is-a ∙ ap (secondOrderIj A F) is-d)
 
         pub second-held : (v ld c f r : Num) → a ≡ held v → ld ≡ leadAt A F s x w i (i + k) → c ≡ chi A (alphas e) (w .zeta-bar)
-            → f ≡ ld ⊗ (c ⊕ whole A 1) → r ≡ sum ⊕ f ⊗ v → secondTurn A F s x w alphas i k sum ≡ held r
-        unfolding secondTurn _>>=_
+            → f ≡ ld ⊗ (c ⊕ whole A 1) → r ≡ sum ⊕ f ⊗ v → secondPairTurn A F s x w alphas i k sum ≡ held r
+        unfolding secondPairTurn _>>=_
         second-held v ld c f r g h m q t = rw (second-here, g, t, q, h, m)
 
-        pub second-outside : (n : ℕ) → a ≡ refused n → secondTurn A F s x w alphas i k sum ≡ refused n
-        unfolding secondTurn _>>=_
+        pub second-outside : (n : ℕ) → a ≡ refused n → secondPairTurn A F s x w alphas i k sum ≡ refused n
+        unfolding secondPairTurn _>>=_
         second-outside n g = rw (second-here, g)
 
   module _ (n : ℕ) (depth x : ℕ → Num) (zeta-bar : Num) (alphas : ℕ → Num) (i j : ℕ) (sum u : Num) (a : Ans Num) (is-u : u ≡ depth (cell i j)) (is-a : a ≡ thirdOrderIj A F u (alphas (cell i j)) zeta-bar) where

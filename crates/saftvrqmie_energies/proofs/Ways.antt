@@ -15,11 +15,11 @@ use Rattle.elementary.specs.Port.{port}
 use Rattle.limits.specs.Limits.{countWithin, stateWithin}
 use Rattle.mie_parameters.proofs.Laws.{and-left, and-right, count-high}
 use Rattle.saftvrqmie_parameters.specs.declared.SaftVRQMiePars.{SaftVRQMiePars}
-use Rattle.saftvrqmie_energies.specs.State.{SheetsIn, sheetsOf, points, sheetOf, diagonal}
+use Rattle.saftvrqmie_energies.specs.State.{SheetsIn, sheetsOfState, points, sheetOf, diagonal}
 use Rattle.saftvrqmie_energies.specs.HardSphere.{hardSphere}
 use Rattle.saftvrqmie_energies.specs.NonAdditive.{nonAdditive}
 use Rattle.saftvrqmie_energies.specs.Dispersion.{dispersion}
-use Rattle.saftvrqmie_energies.specs.Energies.{EnergiesIn, contributions, allFinite, rightLengths, energiesBy, energies}
+use Rattle.saftvrqmie_energies.specs.Energies.{EnergiesIn, contributions, energiesFinite, stateLengths, energiesBy, energies}
 
 abbrev F : Functions Float
 F = calls floats port
@@ -31,8 +31,8 @@ pub record Right (n : ℕ) (x rho table : List Float) : Type 0 where
   pub densities : length rho ≡ n
   pub places : length table ≡ 4 * sheet
 
-pub right : (n : ℕ) (x rho table : List Float) → rightLengths n x rho table ≡ true → Right n x rho table
-unfolding rightLengths
+pub right : (n : ℕ) (x rho table : List Float) → stateLengths n x rho table ≡ true → Right n x rho table
+unfolding stateLengths
 right n x rho table p =
     let a = countWithin n in
     let b = eqb (length x) n in
@@ -52,13 +52,13 @@ module _ (s : SaftVRQMiePars) (t : Float) (x rho table : List Float) (wanted : B
   outcome = energies s t x rho table wanted
 
   abbrev sheets : SheetsIn Float
-  sheets = sheetsOf floats (s .count) (s .sheets) (s .orders) t table
+  sheets = sheetsOfState floats (s .count) (s .sheets) (s .orders) t table
 
-  pub refuses-1 : rightLengths (s .count) x rho table ≡ false → refused 1 ≡ outcome
+  pub refuses-1 : stateLengths (s .count) x rho table ≡ false → refused 1 ≡ outcome
   unfolding energiesBy demand _>>=_
   refuses-1 p = rw p
 
-  module _ (p : rightLengths (s .count) x rho table ≡ true) where
+  module _ (p : stateLengths (s .count) x rho table ≡ true) where
     pub refuses-2 : stateWithin (s .count) t x rho ≡ false → refused 2 ≡ outcome
     unfolding energiesBy demand _>>=_
     refuses-2 q = rw (p, q)
@@ -78,10 +78,10 @@ module _ (s : SaftVRQMiePars) (t : Float) (x rho table : List Float) (wanted : B
           abbrev found : EnergiesIn Float
           found = record { hard-sphere = a; dispersion = b; non-additive = c }
 
-          pub refuses-7 : allFinite found ≡ false → refused 7 ≡ outcome
+          pub refuses-7 : energiesFinite found ≡ false → refused 7 ≡ outcome
           unfolding energiesBy contributions demand _>>=_
           refuses-7 h = rw (p, q, is-a, is-b, ← is-c, h)
 
-          pub holds : allFinite found ≡ true → held found ≡ outcome
+          pub holds : energiesFinite found ≡ true → held found ≡ outcome
           unfolding energiesBy contributions demand _>>=_
           holds h = rw (p, q, is-a, is-b, ← is-c, h)

@@ -90,15 +90,15 @@ module _ (A : Arith) where
 
       module _ (x : ℕ → Num) (w : MixtureIn Num) where
         -- what both perturbations of the pair at entry e take
-        abbrev pub pairAt : ℕ → DispersionIn Num
-        pairAt e = dispersionPair A (s .pair e) (s .hs-diameter e) (s .sigma-eff e) (s .quantum-d e) (w .zeta)
+        abbrev pub dispersionPairAt : ℕ → DispersionIn Num
+        dispersionPairAt e = dispersionPair A (s .pair e) (s .hs-diameter e) (s .sigma-eff e) (s .quantum-d e) (w .zeta)
 
         abbrev pub leadAt : ℕ → ℕ → Num
         leadAt i j = lead F i j (x i) (x j) (w .rho-s) (s .hs-diameter (cell i j))
 
         -- first order, pairs j >= i
         unfoldable pub firstTurn : ℕ → ℕ → Num → Ans Num
-        firstTurn i k a1 = firstOrderIj A F (pairAt (cell i (i + k))) >>= λ v. held (a1 ⊕ leadAt i (i + k) ⊗ v)
+        firstTurn i k a1 = firstOrderIj A F (dispersionPairAt (cell i (i + k))) >>= λ v. held (a1 ⊕ leadAt i (i + k) ⊗ v)
 
         unfoldable pub firstRow : ℕ → Num → Ans Num
         firstRow i a1 = walk (s .count - i) (firstTurn i) a1
@@ -108,14 +108,14 @@ module _ (A : Arith) where
 
         module _ (alphas : ℕ → Num) where
           -- second order, pairs j >= i
-          unfoldable pub secondTurn : ℕ → ℕ → Num → Ans Num
-          secondTurn i k a2 =
+          unfoldable pub secondPairTurn : ℕ → ℕ → Num → Ans Num
+          secondPairTurn i k a2 =
               let e = cell i (i + k) in
-              secondOrderIj A F (pairAt e) >>= λ v.
+              secondOrderIj A F (dispersionPairAt e) >>= λ v.
               held (a2 ⊕ leadAt i (i + k) ⊗ (chi A (alphas e) (w .zeta-bar) ⊕ whole A 1) ⊗ v)
 
           unfoldable pub secondRow : ℕ → Num → Ans Num
-          secondRow i a2 = walk (s .count - i) (secondTurn i) a2
+          secondRow i a2 = walk (s .count - i) (secondPairTurn i) a2
 
           unfoldable pub second : Ans Num
           second = walk (s .count) secondRow (whole A 0) >>= λ a2. held (a2 ⊗ kFactor A (w .zeta))

@@ -13,7 +13,7 @@ use Rattle.sizes.specs.Sizes.{sheet}
 use Rattle.elementary.specs.Port.{port}
 use Rattle.limits.specs.Limits.{countWithin, stateWithin}
 use Rattle.saftvrqmie_parameters.specs.declared.SaftVRQMiePars.{SaftVRQMiePars}
-use Rattle.saftvrqmie_energies.specs.State.{SheetsIn, sheetsOf, points, diagonal}
+use Rattle.saftvrqmie_energies.specs.State.{SheetsIn, sheetsOfState, points, diagonal}
 use Rattle.saftvrqmie_energies.specs.HardSphere.{hardSphere}
 use Rattle.saftvrqmie_energies.specs.NonAdditive.{nonAdditive}
 use Rattle.saftvrqmie_energies.specs.Dispersion.{dispersion}
@@ -45,23 +45,23 @@ contributions A F s x rho m t wanted =
 -- of a call's lists
 abbrev pub contributionsOf : (A : Arith) → Functions (A .Num) → SaftVRQMiePars → Float → List Float → List Float → List Float → Bool → Ans (EnergiesIn (A .Num))
 contributionsOf A F s t x rho table wanted =
-    contributions A F (sheetsOf A (s .count) (s .sheets) (s .orders) t table) (points A x) (points A rho) (points A (s .m)) (A .lit t) wanted
+    contributions A F (sheetsOfState A (s .count) (s .sheets) (s .orders) t table) (points A x) (points A rho) (points A (s .m)) (A .lit t) wanted
 
 -- 7: a contribution is not finite
-unfoldable pub allFinite : EnergiesIn Float → Bool
-allFinite e = finite (e .hard-sphere) && finite (e .dispersion) && finite (e .non-additive)
+unfoldable pub energiesFinite : EnergiesIn Float → Bool
+energiesFinite e = finite (e .hard-sphere) && finite (e .dispersion) && finite (e .non-additive)
 
 -- 1: the count, fractions and densities of another length, a table that has not 256 places
-unfoldable pub rightLengths : ℕ → List Float → List Float → List Float → Bool
-rightLengths n x rho table = countWithin n && eqb (length x) n && eqb (length rho) n && eqb (length table) (4 * sheet)
+unfoldable pub stateLengths : ℕ → List Float → List Float → List Float → Bool
+stateLengths n x rho table = countWithin n && eqb (length x) n && eqb (length rho) n && eqb (length table) (4 * sheet)
 
 -- '1; 2 for temperature, fractions or densities; 6; 7 if a contribution is not finite', of any float run
 abbrev pub energiesFrom : SaftVRQMiePars → Float → List Float → List Float → List Float → Ans (EnergiesIn Float) → Ans (EnergiesIn Float)
 energiesFrom s t x rho table run =
-    demand 1 (rightLengths (s .count) x rho table) >>= λ _.
+    demand 1 (stateLengths (s .count) x rho table) >>= λ _.
     demand 2 (stateWithin (s .count) t x rho) >>= λ _.
     run >>= λ e.
-    demand 7 (allFinite e) >>= λ _.
+    demand 7 (energiesFinite e) >>= λ _.
     held e
 
 -- whatever the elementary functions answer

@@ -8,7 +8,7 @@ use Rattle.number.specs.Arith.{Arith}
 use Rattle.number.specs.Lists.{at}
 use Rattle.sizes.specs.Sizes.{sheet, cell}
 use Rattle.saftvrqmie_parameters.specs.declared.OrderRecord.{OrderRecord}
-use Rattle.saftvrqmie_potential.specs.Potential.{PairIn, pointsOf, pairAt}
+use Rattle.saftvrqmie_potential.specs.Potential.{PairIn, pointsOf, pairAtEntry}
 
 pub record SheetsIn (N : Type 0) : Type 0 where
   pub count : ℕ
@@ -39,15 +39,15 @@ module _ (A : Arith) where
   sheetOf l k e = points l (k * sheet + e)
 
   -- a set's pair at an entry
-  abbrev pub pairOf : List Float → List OrderRecord → Float → ℕ → PairIn Num
-  pairOf sheets orders t e = pointsOf A (pairAt sheets orders t e)
+  abbrev pub setPairAt : List Float → List OrderRecord → Float → ℕ → PairIn Num
+  setPairAt sheets orders t e = pointsOf A (pairAtEntry sheets orders t e)
 
   -- the table's sheets are sigma_eff, hs_diameter, epsilon_k_eff, quantum_d
-  abbrev pub sheetsOf : ℕ → List Float → List OrderRecord → Float → List Float → SheetsIn Num
-  sheetsOf n sheets orders t table =
+  abbrev pub sheetsOfState : ℕ → List Float → List OrderRecord → Float → List Float → SheetsIn Num
+  sheetsOfState n sheets orders t table =
       record {
         count = n;
-        pair = pairOf sheets orders t;
+        pair = setPairAt sheets orders t;
         sigma-eff = sheetOf table 0;
         hs-diameter = sheetOf table 1;
         epsilon-k-eff = sheetOf table 2;

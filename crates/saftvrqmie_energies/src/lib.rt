@@ -13,12 +13,13 @@ ghost use lib.Dec.{eqb};
 ghost use Rattle.saftvrqmie_potential.specs.Potential.{recip};
 ghost use Rattle.saftvrqmie_dispersion.specs.Perturbation.{dispersionIn, dispersionPair};
 ghost use Rattle.mie_parameters.specs.Sums.{weighted, ordersSum};
-ghost use Rattle.saftvrqmie_energies.specs.State.{heldOr6, diagonal, points, sheetOf, pairOf, sheetsOf};
+ghost use Rattle.saftvrqmie_energies.specs.State.{heldOr6, diagonal, points, sheetOf, setPairAt, sheetsOfState};
 ghost use Rattle.saftvrqmie_energies.specs.HardSphere.{zetaIn, zeta23In, zetaAdded, zeta, frac1mz3, zeta23Added, zeta23, hardSphereOf, hardSphere};
 ghost use Rattle.saftvrqmie_energies.specs.NonAdditive.{gHs, nonAdditiveIj, nonAdditiveColumn, nonAdditiveSum, densityShares, nonAdditive};
 ghost use Rattle.saftvrqmie_energies.specs.Dispersion.{mixtureIn, invXsSum, segmentFractions, lead, packingRow, packing, alphaRow, firstRow, first, secondRow, second, thirdRow, third, mixture, dispersion};
-ghost use Rattle.limits.specs.Limits.{stateWithin};
-ghost use Rattle.saftvrqmie_energies.specs.Energies.{energiesIn, energiesAnswer, allFinite, rightLengths, energies};
+ghost use Rattle.saftvrqmie_energies.specs.Energies.{energiesIn, energiesAnswer, energiesFinite, stateLengths, energies};
+use mie_parameters::FRAC_PI_6;
+use mie_parameters::PI;
 use number::FloatAnswer;
 use saftvrqmie_dispersion::DispersionPair;
 use saftvrqmie_parameters::OrderRecord;
@@ -31,10 +32,6 @@ use sizes::table::EPSILON_K_EFF;
 use sizes::table::HS_DIAMETER;
 use sizes::table::QUANTUM_D;
 use sizes::table::SIGMA_EFF;
-
-const PI: f64 = 3.141592653589793;
-
-const FRAC_PI_6: f64 = 0.5235987755982989;
 
 struct Zetas {
     z0: f64,
@@ -305,7 +302,7 @@ fn alpha_row(
     alphas: &mut [f64; SHEET],
 ) -> bool
     requires { ⌜ (n ≤ side) × (length (now table) ≡ 4 * sheet) × (i < n) ⌝ }
-    ensures { λ r. ⌜ heldOr6 r (now (alphas .exit)) ≡ alphaRow floats (calls floats port) (sheetsOf floats n (now (sheets .entry)) orders t (now (table .entry))) i (now (alphas .entry)) ⌝ }
+    ensures { λ r. ⌜ heldOr6 r (now (alphas .exit)) ≡ alphaRow floats (calls floats port) (sheetsOfState floats n (now (sheets .entry)) orders t (now (table .entry))) i (now (alphas .entry)) ⌝ }
 {
     for k in 0usize..n - i {
         let e = SIDE * i + (i + k);
@@ -330,7 +327,7 @@ fn alphas_of(
     alphas: &mut [f64; SHEET],
 ) -> bool
     requires { ⌜ (n ≤ side) × (length (now table) ≡ 4 * sheet) ⌝ }
-    ensures { λ r. ⌜ heldOr6 r (now (alphas .exit)) ≡ walk n (alphaRow floats (calls floats port) (sheetsOf floats n (now (sheets .entry)) orders t (now (table .entry)))) (now (alphas .entry)) ⌝ }
+    ensures { λ r. ⌜ heldOr6 r (now (alphas .exit)) ≡ walk n (alphaRow floats (calls floats port) (sheetsOfState floats n (now (sheets .entry)) orders t (now (table .entry)))) (now (alphas .entry)) ⌝ }
 {
     for i in 0usize..n {
         if !alpha_row(n, sheets, orders, t, table, i, alphas) {
@@ -350,7 +347,7 @@ fn perturbed_pair(
     e: usize,
 ) -> DispersionPair
     requires { ⌜ (e < sheet) × (length (now table) ≡ 4 * sheet) ⌝ }
-    ensures { λ r. ⌜ dispersionIn r ≡ dispersionPair floats (pairOf floats (now (sheets .entry)) orders t e) (sheetOf floats (now (table .entry)) 1 e) (sheetOf floats (now (table .entry)) 0 e) (sheetOf floats (now (table .entry)) 3 e) (w .zeta) ⌝ }
+    ensures { λ r. ⌜ dispersionIn r ≡ dispersionPair floats (setPairAt floats (now (sheets .entry)) orders t e) (sheetOf floats (now (table .entry)) 1 e) (sheetOf floats (now (table .entry)) 0 e) (sheetOf floats (now (table .entry)) 3 e) (w .zeta) ⌝ }
 {
     let pair = saftvrqmie_potential::pair_at(sheets, orders, t, e);
     let d = table[HS_DIAMETER + e];
@@ -387,7 +384,7 @@ fn first_row(
     sum: f64,
 ) -> FloatAnswer
     requires { ⌜ (n ≤ side) × (length (now table) ≡ 4 * sheet) × (i < n) ⌝ }
-    ensures { λ r. ⌜ answer r ≡ firstRow floats (calls floats port) (sheetsOf floats n (now (sheets .entry)) orders t (now (table .entry))) (points floats (now (xs .entry))) (mixtureIn w) i sum ⌝ }
+    ensures { λ r. ⌜ answer r ≡ firstRow floats (calls floats port) (sheetsOfState floats n (now (sheets .entry)) orders t (now (table .entry))) (points floats (now (xs .entry))) (mixtureIn w) i sum ⌝ }
 {
     let mut a1 = sum;
     for k in 0usize..n - i {
@@ -412,7 +409,7 @@ fn first(
     w: SegmentState,
 ) -> FloatAnswer
     requires { ⌜ (n ≤ side) × (length (now table) ≡ 4 * sheet) ⌝ }
-    ensures { λ r. ⌜ answer r ≡ first floats (calls floats port) (sheetsOf floats n (now (sheets .entry)) orders t (now (table .entry))) (points floats (now (xs .entry))) (mixtureIn w) ⌝ }
+    ensures { λ r. ⌜ answer r ≡ first floats (calls floats port) (sheetsOfState floats n (now (sheets .entry)) orders t (now (table .entry))) (points floats (now (xs .entry))) (mixtureIn w) ⌝ }
 {
     let mut a1 = 0.0;
     for i in 0usize..n {
@@ -437,7 +434,7 @@ fn second_row(
     sum: f64,
 ) -> FloatAnswer
     requires { ⌜ (n ≤ side) × (length (now table) ≡ 4 * sheet) × (i < n) ⌝ }
-    ensures { λ r. ⌜ answer r ≡ secondRow floats (calls floats port) (sheetsOf floats n (now (sheets .entry)) orders t (now (table .entry))) (points floats (now (xs .entry))) (mixtureIn w) (points floats (now (alphas .entry))) i sum ⌝ }
+    ensures { λ r. ⌜ answer r ≡ secondRow floats (calls floats port) (sheetsOfState floats n (now (sheets .entry)) orders t (now (table .entry))) (points floats (now (xs .entry))) (mixtureIn w) (points floats (now (alphas .entry))) i sum ⌝ }
 {
     let mut a2 = sum;
     for k in 0usize..n - i {
@@ -464,7 +461,7 @@ fn second(
     alphas: &[f64; SHEET],
 ) -> FloatAnswer
     requires { ⌜ (n ≤ side) × (length (now table) ≡ 4 * sheet) ⌝ }
-    ensures { λ r. ⌜ answer r ≡ second floats (calls floats port) (sheetsOf floats n (now (sheets .entry)) orders t (now (table .entry))) (points floats (now (xs .entry))) (mixtureIn w) (points floats (now (alphas .entry))) ⌝ }
+    ensures { λ r. ⌜ answer r ≡ second floats (calls floats port) (sheetsOfState floats n (now (sheets .entry)) orders t (now (table .entry))) (points floats (now (xs .entry))) (mixtureIn w) (points floats (now (alphas .entry))) ⌝ }
 {
     let mut a2 = 0.0;
     for i in 0usize..n {
@@ -558,7 +555,7 @@ fn dispersion(
     table: &[f64],
 ) -> FloatAnswer
     requires { ⌜ (n ≤ side) × (length (now table) ≡ 4 * sheet) × (length (now x) ≡ n) × (length (now rho) ≡ n) ⌝ }
-    ensures { λ r. ⌜ answer r ≡ dispersion floats (calls floats port) (sheetsOf floats n (now (sheets .entry)) orders t (now (table .entry))) (points floats (now (x .entry))) (points floats (now (rho .entry))) (points floats (now (m .entry))) t ⌝ }
+    ensures { λ r. ⌜ answer r ≡ dispersion floats (calls floats port) (sheetsOfState floats n (now (sheets .entry)) orders t (now (table .entry))) (points floats (now (x .entry))) (points floats (now (rho .entry))) (points floats (now (m .entry))) t ⌝ }
 {
     let xs = segment_fractions(n, x, m);
     let w = mixture(n, &xs, rho, m, table);
@@ -582,7 +579,7 @@ fn dispersion(
 // ---- the operation
 
 fn all_finite(e: QuantumEnergies) -> bool
-    ensures { λ r. ⌜ r ≡ allFinite (energiesIn e) ⌝ }
+    ensures { λ r. ⌜ r ≡ energiesFinite (energiesIn e) ⌝ }
 {
     number::is_finite(e.hard_sphere)
         & number::is_finite(e.dispersion)
@@ -590,17 +587,9 @@ fn all_finite(e: QuantumEnergies) -> bool
 }
 
 pub fn right_lengths(n: usize, x: &[f64], rho: &[f64], table: &[f64]) -> bool
-    ensures { λ r. ⌜ r ≡ rightLengths n (now (x .entry)) (now (rho .entry)) (now (table .entry)) ⌝ }
+    ensures { λ r. ⌜ r ≡ stateLengths n (now (x .entry)) (now (rho .entry)) (now (table .entry)) ⌝ }
 {
     limits::count_within(n) & (x.len() == n) & (rho.len() == n) & (table.len() == TABLE)
-}
-
-// The lists are as long as the count: both operations refuse others with 1 before they ask.
-pub fn within_limits(n: usize, t: f64, x: &[f64], rho: &[f64]) -> bool
-    requires { ⌜ (length (now x) ≡ n) × (length (now rho) ≡ n) ⌝ }
-    ensures { λ r. ⌜ r ≡ stateWithin n t (now (x .entry)) (now (rho .entry)) ⌝ }
-{
-    limits::temperature_within(t) & limits::shares_within(n, x) & limits::shares_within(n, rho)
 }
 
 // Not wanted: +0, and nothing of it is worked.
@@ -631,7 +620,7 @@ pub fn energies_of(
     if !right_lengths(n, fractions, densities, table) {
         return EnergiesAnswer::Refused(1);
     }
-    if !within_limits(n, temperature, fractions, densities) {
+    if !limits::state_within(n, temperature, fractions, densities) {
         return EnergiesAnswer::Refused(2);
     }
     let FloatAnswer::Value(h) = hard_sphere(n, fractions, densities, table, m) else {

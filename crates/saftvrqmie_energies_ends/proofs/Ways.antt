@@ -13,12 +13,12 @@ use Rattle.enclosure.specs.declared.Ends.{Ends}
 use Rattle.enclosure.specs.Enclosure.{enclosures, point}
 use Rattle.enclosure.proofs.Relations.{Value, values}
 use Rattle.saftvrqmie_parameters.specs.declared.SaftVRQMiePars.{SaftVRQMiePars}
-use Rattle.saftvrqmie_energies.specs.State.{sheetsOf, points, sheetOf, diagonal}
+use Rattle.saftvrqmie_energies.specs.State.{sheetsOfState, points, sheetOf, diagonal}
 use Rattle.saftvrqmie_energies.specs.HardSphere.{hardSphere}
 use Rattle.saftvrqmie_energies.specs.NonAdditive.{nonAdditive}
 use Rattle.saftvrqmie_energies.specs.Dispersion.{dispersion}
 use Rattle.limits.specs.Limits.{stateWithin}
-use Rattle.saftvrqmie_energies.specs.Energies.{EnergiesIn, contributions, contributionsOf, allFinite, rightLengths, energiesBy}
+use Rattle.saftvrqmie_energies.specs.Energies.{EnergiesIn, contributions, contributionsOf, energiesFinite, stateLengths, energiesBy}
 use Rattle.saftvrqmie_energies.proofs.Relation.{EnergiesR, contributionsOf-rel}
 use Rattle.saftvrqmie_energies_ends.specs.Operation.{together, valuesOf, eachEnds, allSound, energiesEnds}
 
@@ -49,11 +49,11 @@ module _ (E : Answers) (s : SaftVRQMiePars) (t : Float) (x rho table : List Floa
   pub worked-values : Both (EnergiesR Value) worked floating
   worked-values = contributionsOf-rel enclosures floats values (calls enclosures E) (calls floats E) (calls-rel enclosures floats values E) s t x rho table wanted
 
-  pub refuses-1 : rightLengths (s .count) x rho table ≡ false → refused 1 ≡ outcome
+  pub refuses-1 : stateLengths (s .count) x rho table ≡ false → refused 1 ≡ outcome
   unfolding energiesEnds energiesBy demand _>>=_
   refuses-1 p = rw p
 
-  module _ (p : rightLengths (s .count) x rho table ≡ true) where
+  module _ (p : stateLengths (s .count) x rho table ≡ true) where
     pub refuses-2 : stateWithin (s .count) t x rho ≡ false → refused 2 ≡ outcome
     unfolding energiesEnds energiesBy demand _>>=_
     refuses-2 q = rw (p, q)
@@ -69,7 +69,7 @@ module _ (E : Answers) (s : SaftVRQMiePars) (t : Float) (x rho table : List Floa
 
       module _ (h : Enclosure) (is-h : hardSphere enclosures (calls enclosures E) (s .count) (points enclosures x) (points enclosures rho) (diagonal (sheetOf enclosures table 1)) (points enclosures (s .m)) ≡ held h) where
         abbrev disp : Ans Enclosure
-        disp = dispersion enclosures (calls enclosures E) (sheetsOf enclosures (s .count) (s .sheets) (s .orders) t table) (points enclosures x) (points enclosures rho) (points enclosures (s .m)) (point t)
+        disp = dispersion enclosures (calls enclosures E) (sheetsOfState enclosures (s .count) (s .sheets) (s .orders) t table) (points enclosures x) (points enclosures rho) (points enclosures (s .m)) (point t)
 
         pub no-dispersion : (k : ℕ) → disp ≡ refused k → refused k ≡ outcome
         unfolding contributions _>>=_
@@ -81,11 +81,11 @@ module _ (E : Answers) (s : SaftVRQMiePars) (t : Float) (x rho table : List Floa
           unfolding contributions _>>=_
           works = rw (is-h, is-d, ← is-a)
 
-          pub refuses-7 : allFinite (valuesOf (together h d a)) ≡ false → refused 7 ≡ outcome
+          pub refuses-7 : energiesFinite (valuesOf (together h d a)) ≡ false → refused 7 ≡ outcome
           unfolding energiesEnds energiesBy demand _>>=_
           refuses-7 g = rw (p, q, float-held worked-values _ works, g)
 
-          module _ (g : allFinite (valuesOf (together h d a)) ≡ true) where
+          module _ (g : energiesFinite (valuesOf (together h d a)) ≡ true) where
             pub refuses-8 : allSound (together h d a) ≡ false → refused 8 ≡ outcome
             unfolding energiesEnds energiesBy demand _>>=_
             refuses-8 f = rw (p, q, float-held worked-values _ works, g, works, f)

@@ -14,28 +14,26 @@ ghost use Rattle.saftvrqmie_dispersion.specs.Perturbation.{dispersionPair};
 ghost use Rattle.number.specs.Lists.{nth};
 ghost use Rattle.mie_parameters.specs.Sums.{weighted, ordersSum};
 ghost use Rattle.saftvrqmie_potential.specs.Potential.{recip};
-ghost use Rattle.saftvrqmie_energies.specs.State.{heldOr6, diagonal, points, sheetOf, pairOf, sheetsOf};
+ghost use Rattle.saftvrqmie_energies.specs.State.{heldOr6, diagonal, points, sheetOf, setPairAt, sheetsOfState};
 ghost use Rattle.saftvrqmie_energies.specs.HardSphere.{zetaAdded, zeta, frac1mz3, zeta23Added, zeta23, hardSphereOf};
 ghost use Rattle.saftvrqmie_energies.specs.NonAdditive.{gHs, nonAdditiveIj, nonAdditiveColumn, nonAdditiveSum, densityShares, nonAdditive};
 ghost use Rattle.saftvrqmie_energies.specs.Dispersion.{invXsSum, segmentFractions, lead, packingRow, packing, alphaRow, alphas, firstRow, first, secondRow, second, thirdRow, third, mixture, dispersion};
 ghost use Rattle.saftvrqmie_dispersion_ends.specs.Pair.{dispersionIn};
 ghost use Rattle.enclosure.specs.Ends.{endsIn};
-ghost use Rattle.saftvrqmie_energies.specs.Energies.{allFinite};
+ghost use Rattle.saftvrqmie_energies.specs.Energies.{energiesFinite};
 ghost use Rattle.saftvrqmie_energies_ends.specs.Operation.{together, valuesOf, allSound, energiesEnds, energiesEndsAnswer};
 ghost use Rattle.saftvrqmie_energies_ends.specs.Parts.{zetaIn, zeta23In, mixtureIn, hardSphereAt};
 use enclosure::Enclosure;
 use enclosure::EnclosureAnswer;
 use enclosure::Ends;
+use mie_parameters::FRAC_PI_6;
+use mie_parameters::PI;
 use saftvrqmie_dispersion_ends::DispersionEnclosures;
 use saftvrqmie_parameters::OrderRecord;
 use saftvrqmie_parameters::SaftVRQMiePars;
 use sizes::SHEET;
 use sizes::SHEETS;
 use sizes::SIDE;
-
-const PI: f64 = 3.141592653589793;
-
-const FRAC_PI_6: f64 = 0.5235987755982989;
 
 struct ZetaEnclosures {
     z0: Enclosure,
@@ -484,7 +482,7 @@ fn perturbed_pair(
     e: usize,
 ) -> DispersionEnclosures
     requires { ⌜ (e < sheet) × (length (now table) ≡ 4 * sheet) ⌝ }
-    ensures { λ r. ⌜ dispersionIn r ≡ dispersionPair enclosures (pairOf enclosures (now (sheets .entry)) orders t e) (sheetOf enclosures (now (table .entry)) 1 e) (sheetOf enclosures (now (table .entry)) 0 e) (sheetOf enclosures (now (table .entry)) 3 e) (w .zeta) ⌝ }
+    ensures { λ r. ⌜ dispersionIn r ≡ dispersionPair enclosures (setPairAt enclosures (now (sheets .entry)) orders t e) (sheetOf enclosures (now (table .entry)) 1 e) (sheetOf enclosures (now (table .entry)) 0 e) (sheetOf enclosures (now (table .entry)) 3 e) (w .zeta) ⌝ }
 {
     let pair = saftvrqmie_potential_ends::pair_at(sheets, orders, t, e);
     let d = entry_of(table, 1, e);
@@ -504,7 +502,7 @@ fn alpha_row(
     old: [Enclosure; SHEET],
 ) -> AlphaSheet
     requires { ⌜ (n ≤ side) × (length (now table) ≡ 4 * sheet) × (i < n) ⌝ }
-    ensures { λ r. ⌜ heldOr6 (r .inside) (r .values) ≡ alphaRow enclosures (calls enclosures port) (sheetsOf enclosures n (now (sheets .entry)) orders t (now (table .entry))) i old ⌝ }
+    ensures { λ r. ⌜ heldOr6 (r .inside) (r .values) ≡ alphaRow enclosures (calls enclosures port) (sheetsOfState enclosures n (now (sheets .entry)) orders t (now (table .entry))) i old ⌝ }
 {
     let mut alphas = old;
     for k in 0usize..n - i {
@@ -536,7 +534,7 @@ fn alphas_of(
     table: &[f64],
 ) -> AlphaSheet
     requires { ⌜ (n ≤ side) × (length (now table) ≡ 4 * sheet) ⌝ }
-    ensures { λ r. ⌜ heldOr6 (r .inside) (r .values) ≡ alphas enclosures (calls enclosures port) (sheetsOf enclosures n (now (sheets .entry)) orders t (now (table .entry))) ⌝ }
+    ensures { λ r. ⌜ heldOr6 (r .inside) (r .values) ≡ alphas enclosures (calls enclosures port) (sheetsOfState enclosures n (now (sheets .entry)) orders t (now (table .entry))) ⌝ }
 {
     let zero = enclosure::point(0.0);
     let blank = [zero; SHEET];
@@ -576,7 +574,7 @@ fn first_row(
     sum: Enclosure,
 ) -> EnclosureAnswer
     requires { ⌜ (n ≤ side) × (length (now table) ≡ 4 * sheet) × (i < n) ⌝ }
-    ensures { λ r. ⌜ answer r ≡ firstRow enclosures (calls enclosures port) (sheetsOf enclosures n (now (sheets .entry)) orders t (now (table .entry))) (nth enclosures xs) (mixtureIn w) i sum ⌝ }
+    ensures { λ r. ⌜ answer r ≡ firstRow enclosures (calls enclosures port) (sheetsOfState enclosures n (now (sheets .entry)) orders t (now (table .entry))) (nth enclosures xs) (mixtureIn w) i sum ⌝ }
 {
     let mut a1 = sum;
     for k in 0usize..n - i {
@@ -606,7 +604,7 @@ fn first(
     w: MixtureEnclosures,
 ) -> EnclosureAnswer
     requires { ⌜ (n ≤ side) × (length (now table) ≡ 4 * sheet) ⌝ }
-    ensures { λ r. ⌜ answer r ≡ first enclosures (calls enclosures port) (sheetsOf enclosures n (now (sheets .entry)) orders t (now (table .entry))) (nth enclosures xs) (mixtureIn w) ⌝ }
+    ensures { λ r. ⌜ answer r ≡ first enclosures (calls enclosures port) (sheetsOfState enclosures n (now (sheets .entry)) orders t (now (table .entry))) (nth enclosures xs) (mixtureIn w) ⌝ }
 {
     let mut a1 = enclosure::point(0.0);
     for i in 0usize..n {
@@ -632,7 +630,7 @@ fn second_row(
     sum: Enclosure,
 ) -> EnclosureAnswer
     requires { ⌜ (n ≤ side) × (length (now table) ≡ 4 * sheet) × (i < n) ⌝ }
-    ensures { λ r. ⌜ answer r ≡ secondRow enclosures (calls enclosures port) (sheetsOf enclosures n (now (sheets .entry)) orders t (now (table .entry))) (nth enclosures xs) (mixtureIn w) (nth enclosures alphas) i sum ⌝ }
+    ensures { λ r. ⌜ answer r ≡ secondRow enclosures (calls enclosures port) (sheetsOfState enclosures n (now (sheets .entry)) orders t (now (table .entry))) (nth enclosures xs) (mixtureIn w) (nth enclosures alphas) i sum ⌝ }
 {
     let one = enclosure::point(1.0);
     let mut a2 = sum;
@@ -667,7 +665,7 @@ fn second(
     alphas: [Enclosure; SHEET],
 ) -> EnclosureAnswer
     requires { ⌜ (n ≤ side) × (length (now table) ≡ 4 * sheet) ⌝ }
-    ensures { λ r. ⌜ answer r ≡ second enclosures (calls enclosures port) (sheetsOf enclosures n (now (sheets .entry)) orders t (now (table .entry))) (nth enclosures xs) (mixtureIn w) (nth enclosures alphas) ⌝ }
+    ensures { λ r. ⌜ answer r ≡ second enclosures (calls enclosures port) (sheetsOfState enclosures n (now (sheets .entry)) orders t (now (table .entry))) (nth enclosures xs) (mixtureIn w) (nth enclosures alphas) ⌝ }
 {
     let mut a2 = enclosure::point(0.0);
     for i in 0usize..n {
@@ -754,7 +752,7 @@ fn dispersion(
     table: &[f64],
 ) -> EnclosureAnswer
     requires { ⌜ (n ≤ side) × (length (now table) ≡ 4 * sheet) × (length (now x) ≡ n) × (length (now rho) ≡ n) ⌝ }
-    ensures { λ r. ⌜ answer r ≡ dispersion enclosures (calls enclosures port) (sheetsOf enclosures n (now (sheets .entry)) orders t (now (table .entry))) (points enclosures (now (x .entry))) (points enclosures (now (rho .entry))) (points enclosures (now (m .entry))) (point t) ⌝ }
+    ensures { λ r. ⌜ answer r ≡ dispersion enclosures (calls enclosures port) (sheetsOfState enclosures n (now (sheets .entry)) orders t (now (table .entry))) (points enclosures (now (x .entry))) (points enclosures (now (rho .entry))) (points enclosures (now (m .entry))) (point t) ⌝ }
 {
     let xs = segment_fractions(n, x, m);
     let w = mixture(n, xs, rho, m, table);
@@ -808,7 +806,7 @@ fn ends_in(b: Enclosure) -> Ends
 }
 
 fn all_finite(h: Enclosure, d: Enclosure, a: Enclosure) -> bool
-    ensures { λ r. ⌜ r ≡ allFinite (valuesOf (together h d a)) ⌝ }
+    ensures { λ r. ⌜ r ≡ energiesFinite (valuesOf (together h d a)) ⌝ }
 {
     number::is_finite(h.value) & number::is_finite(d.value) & number::is_finite(a.value)
 }
@@ -839,7 +837,7 @@ pub fn energies_ends_of(
     if !saftvrqmie_energies::right_lengths(n, fractions, densities, table) {
         return EnergiesEndsAnswer::Refused(1);
     }
-    if !saftvrqmie_energies::within_limits(n, temperature, fractions, densities) {
+    if !limits::state_within(n, temperature, fractions, densities) {
         return EnergiesEndsAnswer::Refused(2);
     }
     let z = zeta(n, densities, table, m);

@@ -9,7 +9,7 @@ use lib.Ieee.{Float}
 use Rattle.number.specs.Arith.{decimal, zero64, one64}
 use Rattle.number.specs.Ans.{held, refused, _>>=_, demand}
 use Rattle.number.specs.Walk.{turns, every, walk}
-use Rattle.limits.specs.Limits.{within, countWithin, componentWithin, componentsWithin, allWithin, massesWithin, sameBits, pairWithin, pairsWithin, allOne}
+use Rattle.limits.specs.Limits.{inLimits, countWithin, componentWithin, componentsWithin, allWithin, massesWithin, sameBits, pairWithin, pairsWithin, allOne}
 use Rattle.saftvrqmie_parameters.specs.Parameters.{Lists, rightLengths, withinLimits, pairOrders, orderRow, orderWalk, saftVRQMiePars}
 
 abbrev pub lists : ℕ → List Float → List ℕ → Lists
@@ -46,12 +46,12 @@ orders-0-3 = refl
 
 -- through the whole operation: (1,2) 5
 pub orders-1-2 : saftVRQMiePars (lists 2 (one64 ∷ one64 ∷ []) (1 ∷ 2 ∷ [])) ≡ refused 5
-unfolding saftVRQMiePars rightLengths countWithin withinLimits componentsWithin componentWithin within massesWithin allWithin pairsWithin pairWithin sameBits allOne every turns orderWalk orderRow walk pairOrders demand _>>=_ decimal Ieee.ofBits Ieee.le Ieee.lt Ieee.eq Ieee.isNan Ieee.toBits Ieee.neg
+unfolding saftVRQMiePars rightLengths countWithin withinLimits componentsWithin componentWithin inLimits massesWithin allWithin pairsWithin pairWithin sameBits allOne every turns orderWalk orderRow walk pairOrders demand _>>=_ decimal Ieee.ofBits Ieee.le Ieee.lt Ieee.eq Ieee.isNan Ieee.toBits Ieee.neg
 orders-1-2 = refl
 
 -- m (1,2) with orders (3,0): 3
 pub m-1-2 : saftVRQMiePars (lists 2 (one64 ∷ decimal false 2 0 ∷ []) (3 ∷ 0 ∷ [])) ≡ refused 3
-unfolding saftVRQMiePars rightLengths countWithin withinLimits componentsWithin componentWithin within massesWithin allWithin pairsWithin pairWithin sameBits allOne every turns demand _>>=_ decimal Ieee.ofBits Ieee.le Ieee.lt Ieee.eq Ieee.isNan Ieee.toBits Ieee.neg
+unfolding saftVRQMiePars rightLengths countWithin withinLimits componentsWithin componentWithin inLimits massesWithin allWithin pairsWithin pairWithin sameBits allOne every turns demand _>>=_ decimal Ieee.ofBits Ieee.le Ieee.lt Ieee.eq Ieee.isNan Ieee.toBits Ieee.neg
 m-1-2 = refl
 
 -- counts 0 and 13 give 1, whatever the lists

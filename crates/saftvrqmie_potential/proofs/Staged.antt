@@ -6,10 +6,11 @@ use mathlib.Core.Bool.{Bool, true, false, _&&_, cond}
 use Rattle.number.specs.Ans.{Ans, held, refused, _>>=_, demand}
 use Rattle.number.specs.Arith.{floats}
 use Rattle.number.specs.Functions.{calls, answered₂}
+use Rattle.number.specs.Domain.{baseInside, exponentInside}
 use Rattle.elementary.specs.Port.{port}
 use Rattle.binary_log.specs.declared.Log.{Log}
-use Rattle.binary_log.specs.BinaryLog.{baseInside, logOf}
-use Rattle.power.specs.Power.{exponentInside, exponentOf, powerOf, powfOf}
+use Rattle.binary_log.specs.BinaryLog.{logOf}
+use Rattle.power.specs.Power.{exponentOf, powerOf, powfOf}
 use Rattle.saftvrqmie_potential.specs.Potential.{PotentialIn, pairIn, firstOrder, secondOrder, q1, q2, uMie, corrected, scaled, line, mie, addFirst, addSecond, afterShared, potential, uQuantum}
 use Rattle.saftvrqmie_potential.specs.Staged.{bothInside, bothAt, exponentsInside, termOf, sharedValues, sharedOf, mieAt, firstAt, secondAt, valuesAt, potentialAt}
 use Rattle.saftvrqmie_parameters.specs.declared.FeynmanHibbsOrder.{FeynmanHibbsOrder}

@@ -48,8 +48,8 @@ abbrev pub pairIn : Pair → PairIn Float
 pairIn p = pointsOf floats p
 
 -- what a set holds at entry e of its sheets, and the temperature
-abbrev pub pairAt : List Float → List OrderRecord → Float → ℕ → Pair
-pairAt s orders t e =
+abbrev pub pairAtEntry : List Float → List OrderRecord → Float → ℕ → Pair
+pairAtEntry s orders t e =
     record {
       sigma = at s e;
       «epsilon_k» = at s (1 * sheet + e);

@@ -5,10 +5,11 @@ use mathlib.Core.Bool.{Bool, true, _&&_, cond}
 use Rattle.number.specs.Ans.{Ans, held, refused, _>>=_, demand}
 use Rattle.number.specs.Arith.{floats, whole}
 use Rattle.number.specs.Functions.{calls}
+use Rattle.number.specs.Domain.{baseInside, exponentInside}
 use Rattle.elementary.specs.Port.{port}
 use Rattle.binary_log.specs.declared.Log.{Log}
-use Rattle.binary_log.specs.BinaryLog.{baseInside, logOf}
-use Rattle.power.specs.Power.{exponentInside, exponentOf, powerOf}
+use Rattle.binary_log.specs.BinaryLog.{logOf}
+use Rattle.power.specs.Power.{exponentOf, powerOf}
 use Rattle.saftvrqmie_potential.specs.Potential.{PotentialIn, firstOrder, secondOrder, quantumD, q1, q2, uMie, urMie, urrMie, urFirst, urrFirst, urSecond, urrSecond, corrected, scaled, uQuantum}
 use Rattle.saftvrqmie_potential.specs.declared.Pair.{Pair}
 use Rattle.saftvrqmie_potential.specs.declared.Term.{Term}

@@ -8,7 +8,7 @@ ghost use Rattle.number.specs.Arith.{floats};
 ghost use Rattle.number.specs.Functions.{calls};
 ghost use Rattle.sizes.specs.Sizes.{sheet};
 ghost use Rattle.elementary.specs.Port.{port};
-ghost use Rattle.saftvrqmie_potential.specs.Potential.{pairIn, pairAt, potentialIn, potentialAnswer, firstOrder, secondOrder, quantumD, q1, q2, potential, scaled};
+ghost use Rattle.saftvrqmie_potential.specs.Potential.{pairIn, pairAtEntry, potentialIn, potentialAnswer, firstOrder, secondOrder, quantumD, q1, q2, potential, scaled};
 ghost use Rattle.saftvrqmie_potential.specs.Staged.{sharedAnswer, exponentsInside, termOf, sharedOf, mieAt, firstAt, secondAt, valuesAt, potentialAt, uAt, bothInside};
 use binary_log::Log;
 use number::FloatAnswer;
@@ -83,7 +83,7 @@ pub enum SharedAnswer {
 // The pair at entry e of a set's sheets. All that works pairs reads them here; an entry comes from indexes that were tested, or are turns of loops over a count that was.
 pub fn pair_at(s: &[f64; SHEETS], orders: [OrderRecord; SHEET], t: f64, e: usize) -> Pair
     requires { ⌜ e < sheet ⌝ }
-    ensures { λ r. ⌜ r ≡ pairAt (now (s .entry)) orders t e ⌝ }
+    ensures { λ r. ⌜ r ≡ pairAtEntry (now (s .entry)) orders t e ⌝ }
 {
     let record = orders[e];
     let order = record.order;

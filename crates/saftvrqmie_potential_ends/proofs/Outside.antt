@@ -4,9 +4,10 @@ use mathlib.Core.Path.{_≡_, refl}
 use mathlib.Core.Bool.{Bool, true, false}
 use Rattle.number.specs.Ans.{Ans, held, refused, _>>=_, demand}
 use Rattle.number.specs.Functions.{calls, answered₂}
+use Rattle.number.specs.Domain.{baseInside, exponentInside}
 use Rattle.elementary.specs.Port.{port}
-use Rattle.binary_log.specs.BinaryLog.{baseInside, logOf}
-use Rattle.power.specs.Power.{exponentInside, exponentOf, powerOf, powfOf}
+use Rattle.binary_log.specs.BinaryLog.{logOf}
+use Rattle.power.specs.Power.{exponentOf, powerOf, powfOf}
 use Rattle.enclosure.specs.declared.Enclosure.{Enclosure}
 use Rattle.enclosure.specs.Enclosure.{enclosures}
 use Rattle.saftvrqmie_potential.specs.Potential.{PairIn, line, mie, potential}

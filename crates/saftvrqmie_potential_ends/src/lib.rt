@@ -7,12 +7,13 @@ ghost use Rattle.number.specs.Functions.{calls};
 ghost use Rattle.sizes.specs.Sizes.{sheet};
 ghost use Rattle.elementary.specs.Port.{port};
 ghost use Rattle.enclosure.specs.Enclosure.{enclosures, point, addE};
-ghost use Rattle.saftvrqmie_potential.specs.Potential.{pointsOf, pairAt, prefactor, quantumD, recip, q1, q2, uMie, urMie, urrMie, urFirst, urrFirst, urSecond, urrSecond, corrected, scaled, afterShared, line, mie, addFirst, addSecond, potential, uQuantum};
+ghost use Rattle.saftvrqmie_potential.specs.Potential.{pointsOf, pairAtEntry, prefactor, quantumD, recip, q1, q2, uMie, urMie, urrMie, urFirst, urrFirst, urSecond, urrSecond, corrected, scaled, afterShared, line, mie, addFirst, addSecond, potential, uQuantum};
 ghost use Rattle.saftvrqmie_potential_ends.specs.Pair.{pairIn};
 ghost use Rattle.saftvrqmie_potential_ends.specs.Values.{potentialIn, potentialAnswer};
 ghost use Rattle.saftvrqmie_potential_ends.specs.Shared.{Sharing, Shares, lineOf};
 use enclosure::Enclosure;
 use enclosure::EnclosureAnswer;
+use mie_parameters::TAU;
 use saftvrqmie_parameters::FeynmanHibbsOrder;
 use saftvrqmie_parameters::OrderRecord;
 use sizes::SHEET;
@@ -75,7 +76,7 @@ pub enum LineAnswer {
 // The pair at entry e of a set's sheets, each number as it is. For the diameter and the energies; an entry comes from indexes that were tested, or are turns of loops over a count that was.
 pub fn pair_at(s: &[f64; SHEETS], orders: [OrderRecord; SHEET], t: f64, e: usize) -> PairEnclosures
     requires { ⌜ e < sheet ⌝ }
-    ensures { λ r. ⌜ pairIn r ≡ pointsOf enclosures (pairAt (now (s .entry)) orders t e) ⌝ }
+    ensures { λ r. ⌜ pairIn r ≡ pointsOf enclosures (pairAtEntry (now (s .entry)) orders t e) ⌝ }
 {
     let p = saftvrqmie_potential::pair_at(s, orders, t, e);
     let order = p.order;
@@ -97,7 +98,7 @@ fn prefactor() -> Enclosure
 {
     let planck = enclosure::point(6.62607015e-34);
     let kb = enclosure::point(1.380649e-23);
-    let tau = enclosure::point(6.283185307179586);
+    let tau = enclosure::point(TAU);
     let scale = enclosure::point(1e20);
     let twelve = enclosure::point(12.0);
     enclosure::div(

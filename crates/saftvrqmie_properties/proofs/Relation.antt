@@ -8,10 +8,10 @@ use Rattle.saftvrqmie_potential.proofs.Relation.{PairR, quantumD-rel}
 use Rattle.saftvrqmie_searches.specs.Searches.{SearchIn, sigmaEff, zeroIntegrand, epsilonKEff}
 use Rattle.saftvrqmie_searches.specs.Diameter.{diameter}
 use Rattle.saftvrqmie_searches.proofs.Relation.{SearchR, found-both, spent-both, sigmaEff-rel, zeroIntegrand-rel, epsilonKEff-rel, diameter-rel}
-use Rattle.saftvrqmie_properties.specs.Properties.{PropertiesIn, radiusOf, lastOf, propertiesBy, pairProperties}
+use Rattle.saftvrqmie_properties.specs.Properties.{PairPropertiesIn, radiusOf, lastOf, propertiesBy, pairProperties}
 
 -- part by part; the counts are one
-pub record PropertiesR {S T : Type 0} (R : S → T → Type 0) (p : PropertiesIn S) (q : PropertiesIn T) : Type 0 where
+pub record PropertiesR {S T : Type 0} (R : S → T → Type 0) (p : PairPropertiesIn S) (q : PairPropertiesIn T) : Type 0 where
   pub sigma-eff : R (p .sigma-eff) (q .sigma-eff)
   pub hs-diameter : R (p .hs-diameter) (q .hs-diameter)
   pub epsilon-k-eff : R (p .epsilon-k-eff) (q .epsilon-k-eff)

@@ -14,7 +14,7 @@ use Rattle.saftvrqmie_potential.proofs.Staged.{shared-held, shared-refused}
 use Rattle.saftvrqmie_searches.specs.Searches.{Counted, sigmaSearch, zeroSearch, depthSearch}
 use Rattle.saftvrqmie_searches.specs.Diameter.{diameterBy}
 use Rattle.saftvrqmie_searches.proofs.Loops.{sigma-none}
-use Rattle.saftvrqmie_properties.specs.Properties.{PropertiesIn, radiusOf, lastOf, propertiesBy, pairProperties}
+use Rattle.saftvrqmie_properties.specs.Properties.{PairPropertiesIn, radiusOf, lastOf, propertiesBy, pairProperties}
 
 pub no-shared : (p : Pair) (n : ℕ) → sharedOf p ≡ refused n → refused n ≡ pairProperties floats (calls floats port) (pairIn p)
 unfolding pairProperties propertiesBy _>>=_
@@ -24,7 +24,7 @@ module _ (p : Pair) (w : Shared) (is-w : sharedOf p ≡ held w) where
   abbrev start : Float
   start = floats .mul (whole floats 1) (p .sigma)
 
-  abbrev result : Ans (PropertiesIn Float)
+  abbrev result : Ans (PairPropertiesIn Float)
   result = pairProperties floats (calls floats port) (pairIn p)
 
   by : result ≡ propertiesBy floats (calls floats port) (pairIn p) (potentialAt w)

@@ -11,7 +11,7 @@ use Rattle.saftvrqmie_properties.specs.declared.PairProperties.{PairProp
 use Rattle.saftvrqmie_properties.specs.declared.PropertiesAnswer.{PropertiesAnswer}
 use Rattle.saftvrqmie_properties.specs.declared.PropertiesAnswer.the-variants.{At, Outside}
 
-pub record PropertiesIn (N : Type 0) : Type 0 where
+pub record PairPropertiesIn (N : Type 0) : Type 0 where
   pub sigma-eff : N
   pub hs-diameter : N
   pub epsilon-k-eff : N
@@ -20,8 +20,8 @@ pub record PropertiesIn (N : Type 0) : Type 0 where
   pub zero-count : ℕ
   pub depth-count : ℕ
 
-abbrev pub propertiesIn : PairProperties → PropertiesIn Float
-propertiesIn p =
+abbrev pub pairPropertiesIn : PairProperties → PairPropertiesIn Float
+pairPropertiesIn p =
     record {
       sigma-eff = p .«sigma_eff»;
       hs-diameter = p .«hs_diameter»;
@@ -33,9 +33,9 @@ propertiesIn p =
     }
 
 -- document 01's number or values of each case of `PropertiesAnswer`
-abbrev pub propertiesAnswer : PropertiesAnswer → Ans (PropertiesIn Float)
-propertiesAnswer (At p) = held (propertiesIn p)
-propertiesAnswer Outside = refused 6
+abbrev pub pairPropertiesAnswer : PropertiesAnswer → Ans (PairPropertiesIn Float)
+pairPropertiesAnswer (At p) = held (pairPropertiesIn p)
+pairPropertiesAnswer Outside = refused 6
 
 -- a search's radius is used whether it was found or spent, and so is its last potential; the radius stands `after` each potential, the last one not after the last step
 abbrev pub radiusOf : {N : Type 0} → SearchIn N → N
@@ -48,7 +48,7 @@ lastOf (spent r u) = u
 
 module _ (A : Arith) (F : Functions (A .Num)) (p : PairIn (A .Num)) where
   -- by the potential U; epsilon_k_eff is minus the last potential, `after` the radius, whose last step and derivatives are worked too
-  unfoldable pub propertiesBy : (A .Num → Ans (PotentialIn (A .Num))) → Ans (PropertiesIn (A .Num))
+  unfoldable pub propertiesBy : (A .Num → Ans (PotentialIn (A .Num))) → Ans (PairPropertiesIn (A .Num))
   propertiesBy U =
       sigmaSearch A U (A .mul (whole A 1) (p .sigma)) >>= λ s.
       zeroSearch A U F (p .temperature) (radiusOf (s .search)) >>= λ z.
@@ -65,5 +65,5 @@ module _ (A : Arith) (F : Functions (A .Num)) (p : PairIn (A .Num)) where
         depth-count = e .count;
       })
 
-  unfoldable pub pairProperties : Ans (PropertiesIn (A .Num))
+  unfoldable pub pairProperties : Ans (PairPropertiesIn (A .Num))
   pairProperties = propertiesBy (potential A F p)

@@ -5,7 +5,7 @@ ghost use Rattle.number.specs.Functions.{calls};
 ghost use Rattle.elementary.specs.Port.{port};
 ghost use Rattle.saftvrqmie_potential.specs.Potential.{pairIn};
 ghost use Rattle.saftvrqmie_searches.specs.Searches.{searchIn};
-ghost use Rattle.saftvrqmie_properties.specs.Properties.{propertiesAnswer, radiusOf, lastOf, pairProperties};
+ghost use Rattle.saftvrqmie_properties.specs.Properties.{pairPropertiesAnswer, radiusOf, lastOf, pairProperties};
 use number::FloatAnswer;
 use saftvrqmie_potential::Pair;
 use saftvrqmie_potential::SharedAnswer;
@@ -46,7 +46,7 @@ pub fn last_potential(s: Search) -> f64
 }
 
 pub fn pair_properties(pair: Pair) -> PropertiesAnswer
-    ensures { λ r. ⌜ propertiesAnswer r ≡ pairProperties floats (calls floats port) (pairIn pair) ⌝ }
+    ensures { λ r. ⌜ pairPropertiesAnswer r ≡ pairProperties floats (calls floats port) (pairIn pair) ⌝ }
 {
     let SharedAnswer::At(w) = saftvrqmie_potential::share(pair) else {
         return PropertiesAnswer::Outside;

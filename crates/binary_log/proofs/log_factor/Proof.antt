@@ -4,13 +4,13 @@ use Prim.Native.Nat.{ℕ, _≤_, _<_}
 use native.Mathlib.Omega.{arith}
 use lib.ListN.{getD}
 use Rattle.fixed_point.proofs.Arms.{above}
-use Rattle.binary_log.specs.Tables.{factors}
+use Rattle.binary_log.specs.Tables.{logFactors}
 use Rattle.binary_log.proofs.log_factor.Statement.{statement}
 use Rattle.binary_log.proofs.log_factor.Tie as tie
 
 -- the entry at a place that is told
-entry : (j k : ℕ) → j ≡ k → getD factors k 0 ≡ getD factors j 0
-entry j k e = ap (λ (z : ℕ). getD factors z 0) (sym e)
+entry : (j k : ℕ) → j ≡ k → getD logFactors k 0 ≡ getD logFactors j 0
+entry j k e = ap (λ (z : ℕ). getD logFactors z 0) (sym e)
 
 last : (j : ℕ) → j < 128 → 127 ≤ j → j ≡ 127
 last j h k = omega arith

@@ -50,8 +50,8 @@ returns-2 c = let q = radii-set _ _ _ _ _ (told ((c .before .before .before .bef
 quantum-set-requires : tie.Need-quantum-set-requires
 quantum-set-requires c κs = (passed-lengths _ _ _ ((c .before .before .before .index-within) .ensures) _ ((c .before .before .quantum-answer) .ensures) ((c .enum-told) .given .1))
 
-searches-ij-requires : tie.Need-searches-ij-requires
-searches-ij-requires c κs = search needs
+radii-ij-requires : tie.Need-radii-ij-requires
+radii-ij-requires c κs = search needs
 
 enum-known-searched : tie.Need-enum-known-searched
 enum-known-searched c = search needs
@@ -69,7 +69,7 @@ same-length-6 : tie.Need-same-length-6
 same-length-6 c = search needs
 
 returns-3 : tie.Need-returns-3
-returns-3 c = let q = radii-refused _ _ _ _ _ (told ((c .before .before .before .before .before .before .before .before .before .before .radii-lengths) .ensures) (not-false _ ((c .before .before .before .before .before .before .before .before .before .if1) .left))) _ (set-is _ _ _ (passed _ _ _ ((c .before .before .before .before .before .before .before .before .index-within) .ensures) _ ((c .before .before .before .before .before .before .before .quantum-answer) .ensures) ((c .before .before .before .before .before .enum-told) .given .1)) ((c .before .before .before .before .quantum-set) .ensures)) _ (via searchesAnswer ((c .before .before .before .searches-ij) .ensures) ((c .before .searched) .given .1)) in (refused-status _ _ _ refl q, ap (λ (l : Lent). l .values) (refused-stored _ _ _ q), ap (λ (l : Lent). l .numbers) (refused-stored _ _ _ q))
+returns-3 c = let q = radii-refused _ _ _ _ _ (told ((c .before .before .before .before .before .before .before .before .before .before .radii-lengths) .ensures) (not-false _ ((c .before .before .before .before .before .before .before .before .before .if1) .left))) _ (set-is _ _ _ (passed _ _ _ ((c .before .before .before .before .before .before .before .before .index-within) .ensures) _ ((c .before .before .before .before .before .before .before .quantum-answer) .ensures) ((c .before .before .before .before .before .enum-told) .given .1)) ((c .before .before .before .before .quantum-set) .ensures)) _ (via searchesAnswer ((c .before .before .before .radii-ij) .ensures) ((c .before .searched) .given .1)) in (refused-status _ _ _ refl q, ap (λ (l : Lent). l .values) (refused-stored _ _ _ q), ap (λ (l : Lent). l .numbers) (refused-stored _ _ _ q))
 
 same-length-7 : tie.Need-same-length-7
 same-length-7 c = search needs
@@ -78,7 +78,7 @@ same-length-8 : tie.Need-same-length-8
 same-length-8 c = search needs
 
 returns-4 : tie.Need-returns-4
-returns-4 c = let q = radii-held _ _ _ _ _ (told ((c .before .before .before .before .before .before .before .before .before .before .before .before .before .before .before .before .before .radii-lengths) .ensures) (not-false _ ((c .before .before .before .before .before .before .before .before .before .before .before .before .before .before .before .before .if1) .left))) _ (set-is _ _ _ (passed _ _ _ ((c .before .before .before .before .before .before .before .before .before .before .before .before .before .before .before .index-within) .ensures) _ ((c .before .before .before .before .before .before .before .before .before .before .before .before .before .before .quantum-answer) .ensures) ((c .before .before .before .before .before .before .before .before .before .before .before .before .enum-told) .given .1)) ((c .before .before .before .before .before .before .before .before .before .before .before .quantum-set) .ensures)) _ (via searchesAnswer ((c .before .before .before .before .before .before .before .before .before .before .searches-ij) .ensures) ((c .before .before .before .before .before .before .before .before .searched2) .given .1)) in (held-status _ _ q, ap (λ (l : Lent). l .values) ((c .before .before .before .before .write-searches) .ensures ∙ held-stored _ _ _ q), ap (λ (l : Lent). l .numbers) ((c .before .before .before .before .write-searches) .ensures ∙ held-stored _ _ _ q))
+returns-4 c = let q = radii-held _ _ _ _ _ (told ((c .before .before .before .before .before .before .before .before .before .before .before .before .before .before .before .before .before .radii-lengths) .ensures) (not-false _ ((c .before .before .before .before .before .before .before .before .before .before .before .before .before .before .before .before .if1) .left))) _ (set-is _ _ _ (passed _ _ _ ((c .before .before .before .before .before .before .before .before .before .before .before .before .before .before .before .index-within) .ensures) _ ((c .before .before .before .before .before .before .before .before .before .before .before .before .before .before .quantum-answer) .ensures) ((c .before .before .before .before .before .before .before .before .before .before .before .before .enum-told) .given .1)) ((c .before .before .before .before .before .before .before .before .before .before .before .quantum-set) .ensures)) _ (via searchesAnswer ((c .before .before .before .before .before .before .before .before .before .before .radii-ij) .ensures) ((c .before .before .before .before .before .before .before .before .searched2) .given .1)) in (held-status _ _ q, ap (λ (l : Lent). l .values) ((c .before .before .before .before .write-searches) .ensures ∙ held-stored _ _ _ q), ap (λ (l : Lent). l .numbers) ((c .before .before .before .before .write-searches) .ensures ∙ held-stored _ _ _ q))
 
 pub domthelv-vrq-radii-spec : {M : Type 1} → statement M
 domthelv-vrq-radii-spec =
@@ -97,7 +97,7 @@ domthelv-vrq-radii-spec =
     same-length-4
     returns-2
     quantum-set-requires
-    searches-ij-requires
+    radii-ij-requires
     enum-known-searched
     enum-known-searched-2
     write-searches-requires

@@ -2,7 +2,7 @@
 use mathlib.Core.Path.{refl, subst, sym}
 use lib.Dec.{T}
 use lib.Ieee.{binary64, toBits}
-use Rattle.exponential.specs.Exp.{exponentOf}
+use Rattle.exponential.specs.Exp.{binaryExponentOf}
 use Rattle.exponential.proofs.Argument.{no-nan, field-le, binary-le}
 use Rattle.exponential.proofs.exponent.Statement.{statement}
 use Rattle.exponential.proofs.exponent.Tie as tie
@@ -16,7 +16,7 @@ exponent-bits-requires c κs =
     (field-le (c .args .x) f (c .pre) (toBits binary64 (c .args .x)) refl, binary-le (c .args .x) f (c .pre) (toBits binary64 (c .args .x)) refl)
 
 returns : tie.Need-returns
-unfolding exponentOf
+unfolding binaryExponentOf
 returns c = c .exponent-bits .ensures
 
 pub exponent-spec : {M : Type 1} → statement M

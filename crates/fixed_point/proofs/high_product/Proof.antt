@@ -35,7 +35,7 @@ high-product-law a b =
 product-fits : {x y : ℕ} → x < 2 ^ 32 → y < 2 ^ 32 → Fits w64 (x * y)
 product-fits hx hy = fits-bits (32 + 32) tt (mul-lt-pow 32 32 hx hy)
 
--- the middle column: a product and the carry from the column below
+-- the middle column: a product plus the carry from the column below
 middle-fits : {x₁ x₀ y₀ : ℕ} → x₁ < 2 ^ 32 → x₀ < 2 ^ 32 → y₀ < 2 ^ 32 → Fits w64 (x₁ * y₀ + x₀ * y₀ / 2 ^ 32)
 middle-fits {x₁} {x₀} {y₀} h₁ h₀ l =
     fits-bits (32 + 32) tt

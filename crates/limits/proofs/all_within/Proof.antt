@@ -1,5 +1,5 @@
 -- `limits::all_within` meets its contract. Assumes nothing.
-use Rattle.limits.specs.Limits.{within, allWithin}
+use Rattle.limits.specs.Limits.{inLimits, allWithin}
 use Rattle.number.proofs.Walk.{every-none, every-next, every-end}
 use Prim.Native.Nat.{_≤_, _-_}
 use mathlib.Core.Path.{_≡_}
@@ -10,7 +10,7 @@ use Rattle.limits.proofs.all_within.Statement.{statement}
 use Rattle.limits.proofs.all_within.Tie as tie
 
 abbrev Inv-loop : tie.InvT-loop
-Inv-loop low high n l ok₀ i₀ ok i = (i ≤ n) × (ok ≡ every i (λ i. within low high (at l i)))
+Inv-loop low high n l ok₀ i₀ ok i = (i ≤ n) × (ok ≡ every i (λ i. inLimits low high (at l i)))
 
 abbrev μ-loop : tie.MeasureT-loop
 μ-loop low high n l ok₀ i₀ ok i = n - i

@@ -1,3 +1,4 @@
+-- `logarithm::core` meets its contract. Assumes nothing.
 use borrow.Author.Needs.{needs}
 use mathlib.Core.Path.{sym, ap, _∙_, subst}
 use Prim.Native.Nat.{ℕ, _*_, _/_, _^_, _≤_}

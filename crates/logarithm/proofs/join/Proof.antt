@@ -1,3 +1,4 @@
+-- `logarithm::join` meets its contract. Assumes nothing.
 use borrow.Author.Needs.{needs}
 use borrow.Author.Tests.{eq-eqb, ne-eqb, lt-ltb, le-ltb}
 use Rattle.logarithm.specs.Logarithm.{join}

@@ -1,3 +1,4 @@
+-- `logarithm::ln` meets its contract. Assumes nothing.
 use borrow.Author.Needs.{needs}
 use borrow.Author.Tests.{not-true, not-false}
 use Rattle.logarithm.proofs.Domain.{no-nan, ln-below, ln-above, ln-inside}

@@ -1,3 +1,4 @@
+-- `logarithm::ln_1p` meets its contract. Assumes nothing.
 use mathlib.Core.Path.{sym, subst}
 use lib.Dec.{T}
 use borrow.Author.Tests.{not-true, not-false}

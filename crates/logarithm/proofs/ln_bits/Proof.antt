@@ -1,3 +1,4 @@
+-- `logarithm::ln_bits` meets its contract. Assumes nothing.
 use borrow.Author.Needs.{needs}
 use Rattle.logarithm.specs.Logarithm.{lnBits}
 use Rattle.logarithm.proofs.ln_bits.Statement.{statement}

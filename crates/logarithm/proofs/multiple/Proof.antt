@@ -1,3 +1,4 @@
+-- `logarithm::multiple` meets its contract. Assumes nothing.
 use borrow.Author.Needs.{needs}
 use mathlib.Core.Path.{refl}
 use native.Mathlib.Nat.{lt-of-le-of-lt}

@@ -1,3 +1,4 @@
+-- `logarithm::series` meets its contract. Assumes nothing.
 use borrow.Author.Needs.{needs}
 use Rattle.fixed_point.specs.Horner.{horner}
 use Rattle.fixed_point.proofs.Chain.{on, last}

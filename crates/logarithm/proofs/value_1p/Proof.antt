@@ -1,3 +1,4 @@
+-- `logarithm::value_1p` meets its contract. Assumes nothing.
 use borrow.Author.Tests.{lt-ltb, le-ltb}
 use Rattle.logarithm.specs.Logarithm.{value1p}
 use Rattle.logarithm.proofs.value_1p.Statement.{statement}

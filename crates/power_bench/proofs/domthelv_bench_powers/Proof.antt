@@ -1,5 +1,5 @@
 -- `power_bench::domthelv_bench_powers` meets its contract. Assumes nothing.
-use Rattle.power_bench.specs.Powers.{powers}
+use Rattle.power_bench.specs.Powers.{fourteenPowers}
 use mathlib.Core.Path.{_≡_}
 use Prim.Native.Nat.{ℕ, _≤_, _-_}
 use Rattle.number.specs.Walk.{turns}
@@ -46,7 +46,7 @@ loop-again : tie.Need-loop-again Inv-loop μ-loop
 loop-again c = (search needs, turns-next _ _ _ _ _ ((c .before .before .before .before .loop) .inv .1) (rw ((c .raise) .ensures, (c .before .exponent) .ensures)))
 
 returns : tie.Need-returns Inv-loop μ-loop
-unfolding powers
+unfolding fourteenPowers
 returns c = rw (← (c .before .before .log-base) .ensures) (turns-end _ _ _ _ _ ((c .before .loop) .inv .0) ((c .loop-test) .left) ((c .before .loop) .inv .1))
 
 pub domthelv-bench-powers-spec : {M : Type 1} → statement M

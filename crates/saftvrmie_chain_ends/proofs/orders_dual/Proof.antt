@@ -1,5 +1,5 @@
 -- `saftvrmie_chain_ends::orders_dual` meets its contract. Assumes nothing.
-use Rattle.saftvrmie_dispersion.specs.Terms.{ordersOf}
+use Rattle.saftvrmie_dispersion.specs.Terms.{termOrdersOf}
 use Rattle.saftvrmie_chain_ends.specs.Duals.{fiveDualAnswer}
 use Rattle.number.specs.Ans.{_>>=_}
 use Rattle.number.proofs.Walk.{via}
@@ -37,7 +37,7 @@ enum-told : tie.Need-enum-told
 enum-told c = search needs
 
 returns : tie.Need-returns
-unfolding ordersOf _>>=_ decimal ofBits
+unfolding termOrdersOf _>>=_ decimal ofBits
 returns c =
     rw (
       ← c .before .before .before .before .before .before .before .before .point .ensures,
@@ -62,7 +62,7 @@ a2-dual-requires : tie.Need-a2-dual-requires
 a2-dual-requires c κs = search needs
 
 returns-2 : tie.Need-returns-2
-unfolding ordersOf _>>=_ decimal ofBits
+unfolding termOrdersOf _>>=_ decimal ofBits
 returns-2 c =
     rw (
       ← c .before .before .before .before .before .before .before .before .before .before .before .before .before .point .ensures,

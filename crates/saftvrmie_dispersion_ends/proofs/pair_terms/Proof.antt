@@ -1,7 +1,7 @@
 -- `saftvrmie_dispersion_ends::pair_terms` meets its contract. Assumes nothing.
 use Rattle.saftvrmie_dispersion_ends.proofs.Shared.{xi-is, a3-is}
 use Rattle.saftvrmie_dispersion_ends.specs.Answer.{fiveAnswer}
-use Rattle.saftvrmie_dispersion.specs.Terms.{ordersOf, termsOf}
+use Rattle.saftvrmie_dispersion.specs.Terms.{termOrdersOf, termsOf}
 use Rattle.number.specs.Ans.{_>>=_}
 use Rattle.number.proofs.Walk.{via}
 use Rattle.enclosure.specs.Answer.{answer}
@@ -40,7 +40,7 @@ enum-told : tie.Need-enum-told
 enum-told c = search needs
 
 returns : tie.Need-returns
-unfolding termsOf ordersOf _>>=_
+unfolding termsOf termOrdersOf _>>=_
 returns c =
     rw (
       ← c .before .before .before .before .before .before .before .before .point .ensures,
@@ -68,7 +68,7 @@ enum-told-2 : tie.Need-enum-told-2
 enum-told-2 c = search needs
 
 returns-2 : tie.Need-returns-2
-unfolding termsOf ordersOf _>>=_
+unfolding termsOf termOrdersOf _>>=_
 returns-2 c =
     rw (
       a3-is,
@@ -95,7 +95,7 @@ xi-requires : tie.Need-xi-requires
 xi-requires c κs = search needs
 
 returns-3 : tie.Need-returns-3
-unfolding termsOf ordersOf _>>=_
+unfolding termsOf termOrdersOf _>>=_
 returns-3 c =
     rw (
       a3-is,

@@ -14,11 +14,11 @@ right-lists-requires c κs = search needs
 returns : tie.Need-returns
 returns c = refuses-1 port ((c .before .before .before .before .before .args) .set) _ _ _ _ _ (told ((c .before .right-lists) .ensures) (not-true _ ((c .if1) .taken)))
 
-within-limits-requires : tie.Need-within-limits-requires
-within-limits-requires c κs = (right-x _ _ _ _ (told ((c .before .right-lists) .ensures) (not-false _ ((c .if1) .left))), right-rho _ _ _ _ (told ((c .before .right-lists) .ensures) (not-false _ ((c .if1) .left))))
+state-within-requires : tie.Need-state-within-requires
+state-within-requires c κs = (right-x _ _ _ _ (told ((c .before .right-lists) .ensures) (not-false _ ((c .if1) .left))), right-rho _ _ _ _ (told ((c .before .right-lists) .ensures) (not-false _ ((c .if1) .left))))
 
 returns-2 : tie.Need-returns-2
-returns-2 c = refuses-2 port ((c .before .before .before .before .before .before .before .args) .set) _ _ _ _ _ (told ((c .before .before .before .right-lists) .ensures) (not-false _ ((c .before .before .if1) .left))) (told ((c .before .within-limits) .ensures) (not-true _ ((c .if2) .taken)))
+returns-2 c = refuses-2 port ((c .before .before .before .before .before .before .before .args) .set) _ _ _ _ _ (told ((c .before .before .before .right-lists) .ensures) (not-false _ ((c .before .before .if1) .left))) (told ((c .before .state-within) .ensures) (not-true _ ((c .if2) .taken)))
 
 work-requires : tie.Need-work-requires
 work-requires c κs = (right-high _ _ _ _ (told ((c .before .before .before .right-lists) .ensures) (not-false _ ((c .before .before .if1) .left))), right-x _ _ _ _ (told ((c .before .before .before .right-lists) .ensures) (not-false _ ((c .before .before .if1) .left))), right-rho _ _ _ _ (told ((c .before .before .before .right-lists) .ensures) (not-false _ ((c .before .before .if1) .left))), right-d _ _ _ _ (told ((c .before .before .before .right-lists) .ensures) (not-false _ ((c .before .before .if1) .left))))
@@ -27,7 +27,7 @@ ends-of-requires : tie.Need-ends-of-requires
 ends-of-requires c κs = search needs
 
 returns-3 : tie.Need-returns-3
-returns-3 c = ends-are port ((c .before .before .before .before .before .before .before .before .before .args) .set) _ _ _ _ _ (told ((c .before .before .before .before .before .right-lists) .ensures) (not-false _ ((c .before .before .before .before .if1) .left))) (told ((c .before .before .before .within-limits) .ensures) (not-false _ ((c .before .before .if2) .left))) _ _ ((c .before .work) .ensures) ((c .ends-of) .ensures)
+returns-3 c = ends-are port ((c .before .before .before .before .before .before .before .before .before .args) .set) _ _ _ _ _ (told ((c .before .before .before .before .before .right-lists) .ensures) (not-false _ ((c .before .before .before .before .if1) .left))) (told ((c .before .before .before .state-within) .ensures) (not-false _ ((c .before .before .if2) .left))) _ _ ((c .before .work) .ensures) ((c .ends-of) .ensures)
 
 pub dispersion-ends-spec : {M : Type 1} → statement M
 dispersion-ends-spec =
@@ -35,7 +35,7 @@ dispersion-ends-spec =
     (tie.spec
     right-lists-requires
     returns
-    within-limits-requires
+    state-within-requires
     returns-2
     work-requires
     ends-of-requires

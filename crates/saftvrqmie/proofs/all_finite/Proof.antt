@@ -1,5 +1,5 @@
 -- `saftvrqmie::all_finite` meets its contract. Assumes nothing.
-use Rattle.saftvrqmie.specs.Table.{allFinite}
+use Rattle.saftvrqmie.specs.Table.{tableFinite}
 use mathlib.Core.Path.{_≡_}
 use Prim.Native.Nat.{_≤_, _-_, _*_}
 use Rattle.sizes.specs.Sizes.{sheet}
@@ -39,7 +39,7 @@ loop-again : tie.Need-loop-again Inv-loop μ-loop
 loop-again c = (search needs, every-next _ _ _ _ ((c .before .before .before .loop) .inv .1) ((c .is-finite) .ensures))
 
 returns : tie.Need-returns Inv-loop μ-loop
-unfolding allFinite
+unfolding tableFinite
 returns c = every-end _ _ _ _ ((c .before .loop) .inv .0) ((c .loop-test) .left) ((c .before .loop) .inv .1)
 
 pub all-finite-spec : {M : Type 1} → statement M

@@ -3,7 +3,7 @@ use mathlib.Core.Path.{_≡_}
 use mathlib.Core.Bool.{Bool, true, _&&_, and-true}
 use lib.Ieee.{Float, binary64, fits, lt}
 use Rattle.number.specs.Arith.{one64}
-use Rattle.power.specs.Power.{exponentInside}
+use Rattle.number.specs.Domain.{exponentInside}
 use Rattle.saftvrqmie_alone_ends.specs.Alone.{plainOf}
 use borrow.Author.Needs.{needs}
 use Rattle.saftvrqmie_alone_ends.proofs.plain.Statement.{statement}

@@ -1,5 +1,5 @@
 -- `saftvrqmie_alone_ends::small` meets its contract. Assumes nothing.
-use Rattle.saftvrqmie_alone_ends.specs.Alone.{smallOf}
+use Rattle.saftvrqmie_alone_ends.specs.Alone.{smallEnds}
 use borrow.Author.Needs.{needs}
 use Rattle.saftvrqmie_alone_ends.proofs.small.Statement.{statement}
 use Rattle.saftvrqmie_alone_ends.proofs.small.Tie as tie
@@ -11,7 +11,7 @@ within-requires-2 : tie.Need-within-requires-2
 within-requires-2 c κs = search needs
 
 returns : tie.Need-returns
-unfolding smallOf
+unfolding smallEnds
 returns c =
     rw (
       c .within2 .ensures,

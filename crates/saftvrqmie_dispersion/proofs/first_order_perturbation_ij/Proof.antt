@@ -1,7 +1,7 @@
 -- `saftvrqmie_dispersion::first_order_perturbation_ij` meets its contract. Assumes nothing.
 use Rattle.number.proofs.Walk.{via}
 use mathlib.Core.Path.{_∙_, sym}
-use Rattle.saftvrqmie_dispersion_terms.specs.Staged.{termsAnswer}
+use Rattle.saftvrqmie_dispersion_terms.specs.Staged.{pairTermsAnswer}
 use Rattle.saftvrqmie_dispersion.proofs.Laws.{first-held, first-refused}
 use borrow.Author.Needs.{needs}
 use Rattle.saftvrqmie_dispersion.proofs.first_order_perturbation_ij.Statement.{statement}
@@ -17,13 +17,13 @@ enum-told : tie.Need-enum-told
 enum-told c = search needs
 
 returns : tie.Need-returns
-returns c = sym (first-refused _ _ (via termsAnswer ((c .before .before .terms-of) .ensures) ((c .enum-told) .given .1)))
+returns c = sym (first-refused _ _ (via pairTermsAnswer ((c .before .before .terms-of) .ensures) ((c .enum-told) .given .1)))
 
 first-order-at-requires : tie.Need-first-order-at-requires
 first-order-at-requires c κs = search needs
 
 returns-2 : tie.Need-returns-2
-returns-2 c = (c .first-order-at) .ensures ∙ sym (first-held _ _ (via termsAnswer ((c .before .before .before .before .terms-of) .ensures) ((c .before .before .w) .given .1)))
+returns-2 c = (c .first-order-at) .ensures ∙ sym (first-held _ _ (via pairTermsAnswer ((c .before .before .before .before .terms-of) .ensures) ((c .before .before .w) .given .1)))
 
 pub first-order-perturbation-ij-spec : {M : Type 1} → statement M
 first-order-perturbation-ij-spec =

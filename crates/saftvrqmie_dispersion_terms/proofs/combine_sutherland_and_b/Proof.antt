@@ -1,6 +1,6 @@
 -- `saftvrqmie_dispersion_terms::combine_sutherland_and_b` meets its contract. Assumes nothing.
 use Rattle.number.proofs.Walk.{via}
-use Rattle.saftvrqmie_dispersion_terms.specs.Staged.{termsAnswer}
+use Rattle.saftvrqmie_dispersion_terms.specs.Staged.{pairTermsAnswer}
 use mathlib.Core.Path.{_∙_}
 use Rattle.saftvrqmie_dispersion_terms.proofs.Staged.{combine-held, combine-refused}
 use borrow.Author.Needs.{needs}
@@ -17,13 +17,13 @@ enum-told : tie.Need-enum-told
 enum-told c = search needs
 
 returns : tie.Need-returns
-returns c = rw (combine-refused _ _ _ _ _ (via termsAnswer ((c .before .before .terms-of) .ensures) ((c .enum-told) .given .1)))
+returns c = rw (combine-refused _ _ _ _ _ (via pairTermsAnswer ((c .before .before .terms-of) .ensures) ((c .enum-told) .given .1)))
 
 combine-at-requires : tie.Need-combine-at-requires
 combine-at-requires c κs = search needs
 
 returns-2 : tie.Need-returns-2
-returns-2 c = (c .combine-at) .ensures ∙ rw (combine-held _ _ _ _ _ (via termsAnswer ((c .before .before .before .before .terms-of) .ensures) ((c .before .before .w) .given .1)))
+returns-2 c = (c .combine-at) .ensures ∙ rw (combine-held _ _ _ _ _ (via pairTermsAnswer ((c .before .before .before .before .terms-of) .ensures) ((c .before .before .w) .given .1)))
 
 pub combine-sutherland-and-b-spec : {M : Type 1} → statement M
 combine-sutherland-and-b-spec =

@@ -1,7 +1,7 @@
 -- `saftvrqmie_dispersion_terms::terms_of` meets its contract. Assumes nothing.
 use Rattle.number.specs.Ans.{_>>=_, demand}
 use Rattle.number.proofs.Walk.{told}
-use Rattle.saftvrqmie_dispersion_terms.specs.Staged.{termsOf}
+use Rattle.saftvrqmie_dispersion_terms.specs.Staged.{pairTermsOf}
 use borrow.Author.Tests.{not-true, not-false}
 use borrow.Author.Needs.{needs}
 use Rattle.saftvrqmie_dispersion_terms.proofs.terms_of.Statement.{statement}
@@ -11,14 +11,14 @@ base-inside-requires : tie.Need-base-inside-requires
 base-inside-requires c κs = search needs
 
 returns : tie.Need-returns
-unfolding termsOf demand _>>=_
+unfolding pairTermsOf demand _>>=_
 returns c = rw (told ((c .before .base-inside) .ensures) (not-true _ ((c .if1) .taken)))
 
 base-inside-requires-2 : tie.Need-base-inside-requires-2
 base-inside-requires-2 c κs = search needs
 
 returns-2 : tie.Need-returns-2
-unfolding termsOf demand _>>=_
+unfolding pairTermsOf demand _>>=_
 returns-2 c = rw (told ((c .before .before .before .base-inside) .ensures) (not-false _ ((c .before .before .if1) .left)), told ((c .before .base-inside2) .ensures) (not-true _ ((c .if2) .taken)))
 
 factor-i-requires : tie.Need-factor-i-requires
@@ -34,7 +34,7 @@ log-base-requires-2 : tie.Need-log-base-requires-2
 log-base-requires-2 c κs = search needs
 
 returns-3 : tie.Need-returns-3
-unfolding termsOf demand _>>=_
+unfolding pairTermsOf demand _>>=_
 returns-3 c = rw ((c .log-base2) .ensures, (c .before .log-base) .ensures, (c .before .before .before .factor-i) .ensures, (c .before .before .factor-j) .ensures, told ((c .before .before .before .before .before .before .before .base-inside) .ensures) (not-false _ ((c .before .before .before .before .before .before .if1) .left)), told ((c .before .before .before .before .before .base-inside2) .ensures) (not-false _ ((c .before .before .before .before .if2) .left)))
 
 pub terms-of-spec : {M : Type 1} → statement M

@@ -1,5 +1,5 @@
 -- `saftvrqmie_energies::all_finite` meets its contract. Assumes nothing.
-use Rattle.saftvrqmie_energies.specs.Energies.{allFinite}
+use Rattle.saftvrqmie_energies.specs.Energies.{energiesFinite}
 use borrow.Author.Needs.{needs}
 use Rattle.saftvrqmie_energies.proofs.all_finite.Statement.{statement}
 use Rattle.saftvrqmie_energies.proofs.all_finite.Tie as tie
@@ -14,7 +14,7 @@ is-finite-requires-3 : tie.Need-is-finite-requires-3
 is-finite-requires-3 c κs = search needs
 
 returns : tie.Need-returns
-unfolding allFinite
+unfolding energiesFinite
 returns c =
     rw (
       c .is-finite3 .ensures,

@@ -11,13 +11,13 @@ use mathlib.Core.Path.{_≡_, refl, ap}
 use Rattle.number.specs.Walk.{walk}
 use Rattle.number.specs.Ans.{held}
 use Rattle.number.proofs.Walk.{walk-none, walk-next, walk-stop, walk-end}
-use Rattle.saftvrqmie_energies.specs.State.{sheetsOf, heldOr6}
+use Rattle.saftvrqmie_energies.specs.State.{sheetsOfState, heldOr6}
 use borrow.Author.Needs.{needs}
 use Rattle.saftvrqmie_energies.proofs.alpha_row.Statement.{statement}
 use Rattle.saftvrqmie_energies.proofs.alpha_row.Tie as tie
 
 abbrev Inv-loop : tie.InvT-loop
-Inv-loop n sheets orders t table i alphas₀ k₀ k-end alphas k = (k-end ≡ n - i) × (k ≤ k-end) × (held alphas ≡ walk k (alphaTurn floats (calls floats port) (sheetsOf floats n sheets orders t table) i) alphas₀)
+Inv-loop n sheets orders t table i alphas₀ k₀ k-end alphas k = (k-end ≡ n - i) × (k ≤ k-end) × (held alphas ≡ walk k (alphaTurn floats (calls floats port) (sheetsOfState floats n sheets orders t table) i) alphas₀)
 
 abbrev μ-loop : tie.MeasureT-loop
 μ-loop n sheets orders t table i alphas₀ k₀ k-end alphas k = k-end - k

@@ -11,13 +11,13 @@ use mathlib.Core.Path.{_≡_, refl}
 use Rattle.number.specs.Walk.{walk}
 use Rattle.number.specs.Ans.{held}
 use Rattle.number.proofs.Walk.{walk-none, walk-next, walk-stop, walk-end}
-use Rattle.saftvrqmie_energies.specs.State.{sheetsOf, heldOr6}
+use Rattle.saftvrqmie_energies.specs.State.{sheetsOfState, heldOr6}
 use borrow.Author.Needs.{needs}
 use Rattle.saftvrqmie_energies.proofs.alphas_of.Statement.{statement}
 use Rattle.saftvrqmie_energies.proofs.alphas_of.Tie as tie
 
 abbrev Inv-loop : tie.InvT-loop
-Inv-loop n sheets orders t table alphas₀ i₀ alphas i = (i ≤ n) × (held alphas ≡ walk i (alphaRow floats (calls floats port) (sheetsOf floats n sheets orders t table)) alphas₀)
+Inv-loop n sheets orders t table alphas₀ i₀ alphas i = (i ≤ n) × (held alphas ≡ walk i (alphaRow floats (calls floats port) (sheetsOfState floats n sheets orders t table)) alphas₀)
 
 abbrev μ-loop : tie.MeasureT-loop
 μ-loop n sheets orders t table alphas₀ i₀ alphas i = n - i

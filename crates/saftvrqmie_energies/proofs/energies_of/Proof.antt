@@ -14,11 +14,11 @@ right-lengths-requires c κs = search needs
 returns : tie.Need-returns
 returns c = refuses-1 _ _ _ _ _ _ (told ((c .before .right-lengths) .ensures) (not-true _ ((c .if1) .taken)))
 
-within-limits-requires : tie.Need-within-limits-requires
-within-limits-requires c κs = let h = right _ _ _ _ (told ((c .before .right-lengths) .ensures) (not-false _ ((c .if1) .left))) in (h .fractions, h .densities)
+state-within-requires : tie.Need-state-within-requires
+state-within-requires c κs = let h = right _ _ _ _ (told ((c .before .right-lengths) .ensures) (not-false _ ((c .if1) .left))) in (h .fractions, h .densities)
 
 returns-2 : tie.Need-returns-2
-returns-2 c = refuses-2 _ _ _ _ _ _ (told ((c .before .before .before .right-lengths) .ensures) (not-false _ ((c .before .before .if1) .left))) (told ((c .before .within-limits) .ensures) (not-true _ ((c .if2) .taken)))
+returns-2 c = refuses-2 _ _ _ _ _ _ (told ((c .before .before .before .right-lengths) .ensures) (not-false _ ((c .before .before .if1) .left))) (told ((c .before .state-within) .ensures) (not-true _ ((c .if2) .taken)))
 
 hard-sphere-requires : tie.Need-hard-sphere-requires
 hard-sphere-requires c κs = let h = right _ _ _ _ (told ((c .before .before .before .right-lengths) .ensures) (not-false _ ((c .before .before .if1) .left))) in (h .high, h .fractions, h .densities, h .places)
@@ -30,7 +30,7 @@ enum-told : tie.Need-enum-told
 enum-told c = search needs
 
 returns-3 : tie.Need-returns-3
-returns-3 c = no-hard-sphere _ _ _ _ _ _ (told ((c .before .before .before .before .before .before .right-lengths) .ensures) (not-false _ ((c .before .before .before .before .before .if1) .left))) (told ((c .before .before .before .before .within-limits) .ensures) (not-false _ ((c .before .before .before .if2) .left))) _ (via answer ((c .before .before .hard-sphere) .ensures) ((c .enum-told) .given .1))
+returns-3 c = no-hard-sphere _ _ _ _ _ _ (told ((c .before .before .before .before .before .before .right-lengths) .ensures) (not-false _ ((c .before .before .before .before .before .if1) .left))) (told ((c .before .before .before .before .state-within) .ensures) (not-false _ ((c .before .before .before .if2) .left))) _ (via answer ((c .before .before .hard-sphere) .ensures) ((c .enum-told) .given .1))
 
 dispersion-requires : tie.Need-dispersion-requires
 dispersion-requires c κs = let h = right _ _ _ _ (told ((c .before .before .before .before .before .before .before .right-lengths) .ensures) (not-false _ ((c .before .before .before .before .before .before .if1) .left))) in (h .high, h .places, h .fractions, h .densities)
@@ -42,7 +42,7 @@ enum-told-2 : tie.Need-enum-told-2
 enum-told-2 c = search needs
 
 returns-4 : tie.Need-returns-4
-returns-4 c = no-dispersion _ _ _ _ _ _ (told ((c .before .before .before .before .before .before .before .before .before .before .right-lengths) .ensures) (not-false _ ((c .before .before .before .before .before .before .before .before .before .if1) .left))) (told ((c .before .before .before .before .before .before .before .before .within-limits) .ensures) (not-false _ ((c .before .before .before .before .before .before .before .if2) .left))) _ (via answer ((c .before .before .before .before .before .before .hard-sphere) .ensures) ((c .before .before .before .before .h) .given .1)) _ (via answer ((c .before .before .dispersion) .ensures) ((c .enum-told2) .given .1))
+returns-4 c = no-dispersion _ _ _ _ _ _ (told ((c .before .before .before .before .before .before .before .before .before .before .right-lengths) .ensures) (not-false _ ((c .before .before .before .before .before .before .before .before .before .if1) .left))) (told ((c .before .before .before .before .before .before .before .before .state-within) .ensures) (not-false _ ((c .before .before .before .before .before .before .before .if2) .left))) _ (via answer ((c .before .before .before .before .before .before .hard-sphere) .ensures) ((c .before .before .before .before .h) .given .1)) _ (via answer ((c .before .before .dispersion) .ensures) ((c .enum-told2) .given .1))
 
 wanted-part-requires : tie.Need-wanted-part-requires
 wanted-part-requires c κs = let h = right _ _ _ _ (told ((c .before .before .before .before .before .before .before .before .before .before .before .right-lengths) .ensures) (not-false _ ((c .before .before .before .before .before .before .before .before .before .before .if1) .left))) in (h .high, h .places, h .densities)
@@ -51,10 +51,10 @@ all-finite-requires : tie.Need-all-finite-requires
 all-finite-requires c κs = search needs
 
 returns-5 : tie.Need-returns-5
-returns-5 c = refuses-7 _ _ _ _ _ _ (told ((c .before .before .before .before .before .before .before .before .before .before .before .before .before .before .right-lengths) .ensures) (not-false _ ((c .before .before .before .before .before .before .before .before .before .before .before .before .before .if1) .left))) (told ((c .before .before .before .before .before .before .before .before .before .before .before .before .within-limits) .ensures) (not-false _ ((c .before .before .before .before .before .before .before .before .before .before .before .if2) .left))) _ (via answer ((c .before .before .before .before .before .before .before .before .before .before .hard-sphere) .ensures) ((c .before .before .before .before .before .before .before .before .h) .given .1)) _ (via answer ((c .before .before .before .before .before .before .dispersion) .ensures) ((c .before .before .before .before .d) .given .1)) _ ((c .before .before .wanted-part) .ensures) (told ((c .before .all-finite) .ensures) (not-true _ ((c .if3) .taken)))
+returns-5 c = refuses-7 _ _ _ _ _ _ (told ((c .before .before .before .before .before .before .before .before .before .before .before .before .before .before .right-lengths) .ensures) (not-false _ ((c .before .before .before .before .before .before .before .before .before .before .before .before .before .if1) .left))) (told ((c .before .before .before .before .before .before .before .before .before .before .before .before .state-within) .ensures) (not-false _ ((c .before .before .before .before .before .before .before .before .before .before .before .if2) .left))) _ (via answer ((c .before .before .before .before .before .before .before .before .before .before .hard-sphere) .ensures) ((c .before .before .before .before .before .before .before .before .h) .given .1)) _ (via answer ((c .before .before .before .before .before .before .dispersion) .ensures) ((c .before .before .before .before .d) .given .1)) _ ((c .before .before .wanted-part) .ensures) (told ((c .before .all-finite) .ensures) (not-true _ ((c .if3) .taken)))
 
 returns-6 : tie.Need-returns-6
-returns-6 c = holds _ _ _ _ _ _ (told ((c .before .before .before .before .before .before .before .before .before .before .before .before .before .before .right-lengths) .ensures) (not-false _ ((c .before .before .before .before .before .before .before .before .before .before .before .before .before .if1) .left))) (told ((c .before .before .before .before .before .before .before .before .before .before .before .before .within-limits) .ensures) (not-false _ ((c .before .before .before .before .before .before .before .before .before .before .before .if2) .left))) _ (via answer ((c .before .before .before .before .before .before .before .before .before .before .hard-sphere) .ensures) ((c .before .before .before .before .before .before .before .before .h) .given .1)) _ (via answer ((c .before .before .before .before .before .before .dispersion) .ensures) ((c .before .before .before .before .d) .given .1)) _ ((c .before .before .wanted-part) .ensures) (told ((c .before .all-finite) .ensures) (not-false _ ((c .if3) .left)))
+returns-6 c = holds _ _ _ _ _ _ (told ((c .before .before .before .before .before .before .before .before .before .before .before .before .before .before .right-lengths) .ensures) (not-false _ ((c .before .before .before .before .before .before .before .before .before .before .before .before .before .if1) .left))) (told ((c .before .before .before .before .before .before .before .before .before .before .before .before .state-within) .ensures) (not-false _ ((c .before .before .before .before .before .before .before .before .before .before .before .if2) .left))) _ (via answer ((c .before .before .before .before .before .before .before .before .before .before .hard-sphere) .ensures) ((c .before .before .before .before .before .before .before .before .h) .given .1)) _ (via answer ((c .before .before .before .before .before .before .dispersion) .ensures) ((c .before .before .before .before .d) .given .1)) _ ((c .before .before .wanted-part) .ensures) (told ((c .before .all-finite) .ensures) (not-false _ ((c .if3) .left)))
 
 pub energies-of-spec : {M : Type 1} → statement M
 energies-of-spec =
@@ -62,7 +62,7 @@ energies-of-spec =
     (tie.spec
     right-lengths-requires
     returns
-    within-limits-requires
+    state-within-requires
     returns-2
     hard-sphere-requires
     enum-known-h

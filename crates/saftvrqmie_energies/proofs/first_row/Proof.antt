@@ -10,13 +10,13 @@ use mathlib.Core.Path.{_≡_, refl, ap}
 use Rattle.number.specs.Walk.{walk}
 use Rattle.number.specs.Ans.{held}
 use Rattle.number.proofs.Walk.{walk-none, walk-next, walk-stop, walk-end}
-use Rattle.saftvrqmie_energies.specs.State.{points, sheetsOf}
+use Rattle.saftvrqmie_energies.specs.State.{points, sheetsOfState}
 use borrow.Author.Needs.{needs}
 use Rattle.saftvrqmie_energies.proofs.first_row.Statement.{statement}
 use Rattle.saftvrqmie_energies.proofs.first_row.Tie as tie
 
 abbrev Inv-loop : tie.InvT-loop
-Inv-loop n sheets orders t table xs w i sum a1₀ k₀ k-end a1 k = (k-end ≡ n - i) × (k ≤ k-end) × (held a1 ≡ walk k (firstTurn floats (calls floats port) (sheetsOf floats n sheets orders t table) (points floats xs) (mixtureIn w) i) sum)
+Inv-loop n sheets orders t table xs w i sum a1₀ k₀ k-end a1 k = (k-end ≡ n - i) × (k ≤ k-end) × (held a1 ≡ walk k (firstTurn floats (calls floats port) (sheetsOfState floats n sheets orders t table) (points floats xs) (mixtureIn w) i) sum)
 
 abbrev μ-loop : tie.MeasureT-loop
 μ-loop n sheets orders t table xs w i sum a1₀ k₀ k-end a1 k = k-end - k

@@ -1,5 +1,5 @@
 -- `saftvrqmie_energies::right_lengths` meets its contract. Assumes nothing.
-use Rattle.saftvrqmie_energies.specs.Energies.{rightLengths}
+use Rattle.saftvrqmie_energies.specs.Energies.{stateLengths}
 use borrow.Author.Needs.{needs}
 use Rattle.saftvrqmie_energies.proofs.right_lengths.Statement.{statement}
 use Rattle.saftvrqmie_energies.proofs.right_lengths.Tie as tie
@@ -8,7 +8,7 @@ count-within-requires : tie.Need-count-within-requires
 count-within-requires c κs = search needs
 
 returns : tie.Need-returns
-unfolding rightLengths
+unfolding stateLengths
 returns c =
     rw
     (c .count-within .ensures)

@@ -1,6 +1,6 @@
 -- `saftvrqmie_energies::second_row` meets its contract. Assumes nothing.
 use Rattle.number.specs.Answer.{answer}
-use Rattle.saftvrqmie_energies.specs.Dispersion.{mixtureIn, secondTurn, secondRow}
+use Rattle.saftvrqmie_energies.specs.Dispersion.{mixtureIn, secondPairTurn, secondRow}
 use Rattle.saftvrqmie_energies.proofs.Turns.{second-held, second-outside}
 use Rattle.number.specs.Arith.{floats, decimal}
 use lib.Ieee.{ofBits}
@@ -11,13 +11,13 @@ use mathlib.Core.Path.{_≡_, refl, ap}
 use Rattle.number.specs.Walk.{walk}
 use Rattle.number.specs.Ans.{held}
 use Rattle.number.proofs.Walk.{walk-none, walk-next, walk-stop, walk-end}
-use Rattle.saftvrqmie_energies.specs.State.{points, sheetsOf}
+use Rattle.saftvrqmie_energies.specs.State.{points, sheetsOfState}
 use borrow.Author.Needs.{needs}
 use Rattle.saftvrqmie_energies.proofs.second_row.Statement.{statement}
 use Rattle.saftvrqmie_energies.proofs.second_row.Tie as tie
 
 abbrev Inv-loop : tie.InvT-loop
-Inv-loop n sheets orders t table xs w alphas i sum a2₀ k₀ k-end a2 k = (k-end ≡ n - i) × (k ≤ k-end) × (held a2 ≡ walk k (secondTurn floats (calls floats port) (sheetsOf floats n sheets orders t table) (points floats xs) (mixtureIn w) (points floats alphas) i) sum)
+Inv-loop n sheets orders t table xs w alphas i sum a2₀ k₀ k-end a2 k = (k-end ≡ n - i) × (k ≤ k-end) × (held a2 ≡ walk k (secondPairTurn floats (calls floats port) (sheetsOfState floats n sheets orders t table) (points floats xs) (mixtureIn w) (points floats alphas) i) sum)
 
 abbrev μ-loop : tie.MeasureT-loop
 μ-loop n sheets orders t table xs w alphas i sum a2₀ k₀ k-end a2 k = k-end - k

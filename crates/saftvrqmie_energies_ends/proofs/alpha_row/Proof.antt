@@ -9,7 +9,7 @@ use Rattle.number.proofs.Walk.{walk-none, walk-next, walk-stop, walk-end}
 use Rattle.elementary.specs.Port.{port}
 use Rattle.number.specs.Functions.{calls}
 use native.Mathlib.Omega.{arith}
-use Rattle.saftvrqmie_energies.specs.State.{sheetsOf, heldOr6}
+use Rattle.saftvrqmie_energies.specs.State.{sheetsOfState, heldOr6}
 use Rattle.saftvrqmie_energies.specs.Dispersion.{alphaTurn, alphaRow}
 use Rattle.saftvrqmie_energies.proofs.Turns.{alpha-held, alpha-outside}
 use borrow.Author.Needs.{needs}
@@ -17,7 +17,7 @@ use Rattle.saftvrqmie_energies_ends.proofs.alpha_row.Statement.{stateme
 use Rattle.saftvrqmie_energies_ends.proofs.alpha_row.Tie as tie
 
 abbrev Inv-loop : tie.InvT-loop
-Inv-loop n sheets orders t table i alphas₀ k₀ k-end alphas k = (k-end ≡ n - i) × (k ≤ k-end) × (held alphas ≡ walk k (alphaTurn enclosures (calls enclosures port) (sheetsOf enclosures n sheets orders t table) i) alphas₀)
+Inv-loop n sheets orders t table i alphas₀ k₀ k-end alphas k = (k-end ≡ n - i) × (k ≤ k-end) × (held alphas ≡ walk k (alphaTurn enclosures (calls enclosures port) (sheetsOfState enclosures n sheets orders t table) i) alphas₀)
 
 abbrev μ-loop : tie.MeasureT-loop
 μ-loop n sheets orders t table i alphas₀ k₀ k-end alphas k = k-end - k

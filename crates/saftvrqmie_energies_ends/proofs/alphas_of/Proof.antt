@@ -10,7 +10,7 @@ use Rattle.number.specs.Arith.{decimal, whole}
 use Rattle.elementary.specs.Port.{port}
 use Rattle.number.specs.Functions.{calls}
 use native.Mathlib.Omega.{arith}
-use Rattle.saftvrqmie_energies.specs.State.{sheetsOf, heldOr6}
+use Rattle.saftvrqmie_energies.specs.State.{sheetsOfState, heldOr6}
 use Rattle.saftvrqmie_energies.specs.Dispersion.{alphaRow, alphas}
 use Rattle.sizes.specs.Sizes.{sheet}
 use lib.ListN.{replicate}
@@ -21,7 +21,7 @@ use Rattle.saftvrqmie_energies_ends.proofs.alphas_of.Statement.{stateme
 use Rattle.saftvrqmie_energies_ends.proofs.alphas_of.Tie as tie
 
 abbrev Inv-loop : tie.InvT-loop
-Inv-loop n sheets orders t table alphas₀ i₀ alphas i = (i ≤ n) × (held alphas ≡ walk i (alphaRow enclosures (calls enclosures port) (sheetsOf enclosures n sheets orders t table)) (replicate sheet (whole enclosures 0)))
+Inv-loop n sheets orders t table alphas₀ i₀ alphas i = (i ≤ n) × (held alphas ≡ walk i (alphaRow enclosures (calls enclosures port) (sheetsOfState enclosures n sheets orders t table)) (replicate sheet (whole enclosures 0)))
 
 abbrev μ-loop : tie.MeasureT-loop
 μ-loop n sheets orders t table alphas₀ i₀ alphas i = n - i

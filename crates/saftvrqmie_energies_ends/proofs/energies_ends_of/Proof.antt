@@ -16,11 +16,11 @@ right-lengths-requires c κs = search needs
 returns : tie.Need-returns
 returns c = refuses-1 _ _ _ _ _ _ _ (told ((c .before .right-lengths) .ensures) (not-true _ ((c .if1) .taken)))
 
-within-limits-requires : tie.Need-within-limits-requires
-within-limits-requires c κs = let h = right _ _ _ _ (told ((c .before .right-lengths) .ensures) (not-false _ ((c .if1) .left))) in (h .fractions, h .densities)
+state-within-requires : tie.Need-state-within-requires
+state-within-requires c κs = let h = right _ _ _ _ (told ((c .before .right-lengths) .ensures) (not-false _ ((c .if1) .left))) in (h .fractions, h .densities)
 
 returns-2 : tie.Need-returns-2
-returns-2 c = refuses-2 _ _ _ _ _ _ _ (told ((c .before .before .before .right-lengths) .ensures) (not-false _ ((c .before .before .if1) .left))) (told ((c .before .within-limits) .ensures) (not-true _ ((c .if2) .taken)))
+returns-2 c = refuses-2 _ _ _ _ _ _ _ (told ((c .before .before .before .right-lengths) .ensures) (not-false _ ((c .before .before .if1) .left))) (told ((c .before .state-within) .ensures) (not-true _ ((c .if2) .taken)))
 
 zeta-requires : tie.Need-zeta-requires
 zeta-requires c κs = let h = right _ _ _ _ (told ((c .before .before .before .right-lengths) .ensures) (not-false _ ((c .before .before .if1) .left))) in (h .high, h .densities, h .places)
@@ -35,7 +35,7 @@ enum-told : tie.Need-enum-told
 enum-told c = search needs
 
 returns-3 : tie.Need-returns-3
-returns-3 c = no-hard-sphere _ _ _ _ _ _ _ (told ((c .before .before .before .before .before .before .before .right-lengths) .ensures) (not-false _ ((c .before .before .before .before .before .before .if1) .left))) (told ((c .before .before .before .before .before .within-limits) .ensures) (not-false _ ((c .before .before .before .before .if2) .left))) _ (via answer ((c .before .before .hard-sphere) .ensures ∙ hard-sphere-at _ _ _ _ _ _ ((c .before .before .before .zeta) .ensures)) ((c .enum-told) .given .1))
+returns-3 c = no-hard-sphere _ _ _ _ _ _ _ (told ((c .before .before .before .before .before .before .before .right-lengths) .ensures) (not-false _ ((c .before .before .before .before .before .before .if1) .left))) (told ((c .before .before .before .before .before .state-within) .ensures) (not-false _ ((c .before .before .before .before .if2) .left))) _ (via answer ((c .before .before .hard-sphere) .ensures ∙ hard-sphere-at _ _ _ _ _ _ ((c .before .before .before .zeta) .ensures)) ((c .enum-told) .given .1))
 
 dispersion-requires : tie.Need-dispersion-requires
 dispersion-requires c κs = let h = right _ _ _ _ (told ((c .before .before .before .before .before .before .before .before .right-lengths) .ensures) (not-false _ ((c .before .before .before .before .before .before .before .if1) .left))) in (h .high, h .places, h .fractions, h .densities)
@@ -47,7 +47,7 @@ enum-told-2 : tie.Need-enum-told-2
 enum-told-2 c = search needs
 
 returns-4 : tie.Need-returns-4
-returns-4 c = no-dispersion _ _ _ _ _ _ _ (told ((c .before .before .before .before .before .before .before .before .before .before .before .right-lengths) .ensures) (not-false _ ((c .before .before .before .before .before .before .before .before .before .before .if1) .left))) (told ((c .before .before .before .before .before .before .before .before .before .within-limits) .ensures) (not-false _ ((c .before .before .before .before .before .before .before .before .if2) .left))) _ (via answer ((c .before .before .before .before .before .before .hard-sphere) .ensures ∙ hard-sphere-at _ _ _ _ _ _ ((c .before .before .before .before .before .before .before .zeta) .ensures)) ((c .before .before .before .before .h) .given .1)) _ (via answer ((c .before .before .dispersion) .ensures) ((c .enum-told2) .given .1))
+returns-4 c = no-dispersion _ _ _ _ _ _ _ (told ((c .before .before .before .before .before .before .before .before .before .before .before .right-lengths) .ensures) (not-false _ ((c .before .before .before .before .before .before .before .before .before .before .if1) .left))) (told ((c .before .before .before .before .before .before .before .before .before .state-within) .ensures) (not-false _ ((c .before .before .before .before .before .before .before .before .if2) .left))) _ (via answer ((c .before .before .before .before .before .before .hard-sphere) .ensures ∙ hard-sphere-at _ _ _ _ _ _ ((c .before .before .before .before .before .before .before .zeta) .ensures)) ((c .before .before .before .before .h) .given .1)) _ (via answer ((c .before .before .dispersion) .ensures) ((c .enum-told2) .given .1))
 
 wanted-part-requires : tie.Need-wanted-part-requires
 wanted-part-requires c κs = let h = right _ _ _ _ (told ((c .before .before .before .before .before .before .before .before .before .before .before .before .right-lengths) .ensures) (not-false _ ((c .before .before .before .before .before .before .before .before .before .before .before .if1) .left))) in (h .high, h .places, h .densities, (c .before .before .before .before .before .before .before .before .zeta) .ensures)
@@ -56,13 +56,13 @@ all-finite-requires : tie.Need-all-finite-requires
 all-finite-requires c κs = search needs
 
 returns-5 : tie.Need-returns-5
-returns-5 c = refuses-7 _ _ _ _ _ _ _ (told ((c .before .before .before .before .before .before .before .before .before .before .before .before .before .before .before .right-lengths) .ensures) (not-false _ ((c .before .before .before .before .before .before .before .before .before .before .before .before .before .before .if1) .left))) (told ((c .before .before .before .before .before .before .before .before .before .before .before .before .before .within-limits) .ensures) (not-false _ ((c .before .before .before .before .before .before .before .before .before .before .before .before .if2) .left))) _ (via answer ((c .before .before .before .before .before .before .before .before .before .before .hard-sphere) .ensures ∙ hard-sphere-at _ _ _ _ _ _ ((c .before .before .before .before .before .before .before .before .before .before .before .zeta) .ensures)) ((c .before .before .before .before .before .before .before .before .h) .given .1)) _ (via answer ((c .before .before .before .before .before .before .dispersion) .ensures) ((c .before .before .before .before .d) .given .1)) _ ((c .before .before .wanted-part) .ensures) (told ((c .before .all-finite) .ensures) (not-true _ ((c .if3) .taken)))
+returns-5 c = refuses-7 _ _ _ _ _ _ _ (told ((c .before .before .before .before .before .before .before .before .before .before .before .before .before .before .before .right-lengths) .ensures) (not-false _ ((c .before .before .before .before .before .before .before .before .before .before .before .before .before .before .if1) .left))) (told ((c .before .before .before .before .before .before .before .before .before .before .before .before .before .state-within) .ensures) (not-false _ ((c .before .before .before .before .before .before .before .before .before .before .before .before .if2) .left))) _ (via answer ((c .before .before .before .before .before .before .before .before .before .before .hard-sphere) .ensures ∙ hard-sphere-at _ _ _ _ _ _ ((c .before .before .before .before .before .before .before .before .before .before .before .zeta) .ensures)) ((c .before .before .before .before .before .before .before .before .h) .given .1)) _ (via answer ((c .before .before .before .before .before .before .dispersion) .ensures) ((c .before .before .before .before .d) .given .1)) _ ((c .before .before .wanted-part) .ensures) (told ((c .before .all-finite) .ensures) (not-true _ ((c .if3) .taken)))
 
 all-sound-requires : tie.Need-all-sound-requires
 all-sound-requires c κs = search needs
 
 returns-6 : tie.Need-returns-6
-returns-6 c = refuses-8 _ _ _ _ _ _ _ (told ((c .before .before .before .before .before .before .before .before .before .before .before .before .before .before .before .before .before .right-lengths) .ensures) (not-false _ ((c .before .before .before .before .before .before .before .before .before .before .before .before .before .before .before .before .if1) .left))) (told ((c .before .before .before .before .before .before .before .before .before .before .before .before .before .before .before .within-limits) .ensures) (not-false _ ((c .before .before .before .before .before .before .before .before .before .before .before .before .before .before .if2) .left))) _ (via answer ((c .before .before .before .before .before .before .before .before .before .before .before .before .hard-sphere) .ensures ∙ hard-sphere-at _ _ _ _ _ _ ((c .before .before .before .before .before .before .before .before .before .before .before .before .before .zeta) .ensures)) ((c .before .before .before .before .before .before .before .before .before .before .h) .given .1)) _ (via answer ((c .before .before .before .before .before .before .before .before .dispersion) .ensures) ((c .before .before .before .before .before .before .d) .given .1)) _ ((c .before .before .before .before .wanted-part) .ensures) (told ((c .before .before .before .all-finite) .ensures) (not-false _ ((c .before .before .if3) .left))) (told ((c .before .all-sound) .ensures) (not-true _ ((c .if4) .taken)))
+returns-6 c = refuses-8 _ _ _ _ _ _ _ (told ((c .before .before .before .before .before .before .before .before .before .before .before .before .before .before .before .before .before .right-lengths) .ensures) (not-false _ ((c .before .before .before .before .before .before .before .before .before .before .before .before .before .before .before .before .if1) .left))) (told ((c .before .before .before .before .before .before .before .before .before .before .before .before .before .before .before .state-within) .ensures) (not-false _ ((c .before .before .before .before .before .before .before .before .before .before .before .before .before .before .if2) .left))) _ (via answer ((c .before .before .before .before .before .before .before .before .before .before .before .before .hard-sphere) .ensures ∙ hard-sphere-at _ _ _ _ _ _ ((c .before .before .before .before .before .before .before .before .before .before .before .before .before .zeta) .ensures)) ((c .before .before .before .before .before .before .before .before .before .before .h) .given .1)) _ (via answer ((c .before .before .before .before .before .before .before .before .dispersion) .ensures) ((c .before .before .before .before .before .before .d) .given .1)) _ ((c .before .before .before .before .wanted-part) .ensures) (told ((c .before .before .before .all-finite) .ensures) (not-false _ ((c .before .before .if3) .left))) (told ((c .before .all-sound) .ensures) (not-true _ ((c .if4) .taken)))
 
 ends-in-requires : tie.Need-ends-in-requires
 ends-in-requires c κs = search needs
@@ -74,7 +74,7 @@ ends-in-requires-3 : tie.Need-ends-in-requires-3
 ends-in-requires-3 c κs = search needs
 
 returns-7 : tie.Need-returns-7
-returns-7 c = rw ((c .ends-in3) .ensures, (c .before .ends-in2) .ensures, (c .before .before .ends-in) .ensures) (holds _ _ _ _ _ _ _ (told ((c .before .before .before .before .before .before .before .before .before .before .before .before .before .before .before .before .before .before .before .before .right-lengths) .ensures) (not-false _ ((c .before .before .before .before .before .before .before .before .before .before .before .before .before .before .before .before .before .before .before .if1) .left))) (told ((c .before .before .before .before .before .before .before .before .before .before .before .before .before .before .before .before .before .before .within-limits) .ensures) (not-false _ ((c .before .before .before .before .before .before .before .before .before .before .before .before .before .before .before .before .before .if2) .left))) _ (via answer ((c .before .before .before .before .before .before .before .before .before .before .before .before .before .before .before .hard-sphere) .ensures ∙ hard-sphere-at _ _ _ _ _ _ ((c .before .before .before .before .before .before .before .before .before .before .before .before .before .before .before .before .zeta) .ensures)) ((c .before .before .before .before .before .before .before .before .before .before .before .before .before .h) .given .1)) _ (via answer ((c .before .before .before .before .before .before .before .before .before .before .before .dispersion) .ensures) ((c .before .before .before .before .before .before .before .before .before .d) .given .1)) _ ((c .before .before .before .before .before .before .before .wanted-part) .ensures) (told ((c .before .before .before .before .before .before .all-finite) .ensures) (not-false _ ((c .before .before .before .before .before .if3) .left))) (told ((c .before .before .before .before .all-sound) .ensures) (not-false _ ((c .before .before .before .if4) .left))))
+returns-7 c = rw ((c .ends-in3) .ensures, (c .before .ends-in2) .ensures, (c .before .before .ends-in) .ensures) (holds _ _ _ _ _ _ _ (told ((c .before .before .before .before .before .before .before .before .before .before .before .before .before .before .before .before .before .before .before .before .right-lengths) .ensures) (not-false _ ((c .before .before .before .before .before .before .before .before .before .before .before .before .before .before .before .before .before .before .before .if1) .left))) (told ((c .before .before .before .before .before .before .before .before .before .before .before .before .before .before .before .before .before .before .state-within) .ensures) (not-false _ ((c .before .before .before .before .before .before .before .before .before .before .before .before .before .before .before .before .before .if2) .left))) _ (via answer ((c .before .before .before .before .before .before .before .before .before .before .before .before .before .before .before .hard-sphere) .ensures ∙ hard-sphere-at _ _ _ _ _ _ ((c .before .before .before .before .before .before .before .before .before .before .before .before .before .before .before .before .zeta) .ensures)) ((c .before .before .before .before .before .before .before .before .before .before .before .before .before .h) .given .1)) _ (via answer ((c .before .before .before .before .before .before .before .before .before .before .before .dispersion) .ensures) ((c .before .before .before .before .before .before .before .before .before .d) .given .1)) _ ((c .before .before .before .before .before .before .before .wanted-part) .ensures) (told ((c .before .before .before .before .before .before .all-finite) .ensures) (not-false _ ((c .before .before .before .before .before .if3) .left))) (told ((c .before .before .before .before .all-sound) .ensures) (not-false _ ((c .before .before .before .if4) .left))))
 
 pub energies-ends-of-spec : {M : Type 1} → statement M
-energies-ends-of-spec = tie.close (tie.spec right-lengths-requires returns within-limits-requires returns-2 zeta-requires hard-sphere-requires enum-known-h enum-told returns-3 dispersion-requires enum-known-d enum-told-2 returns-4 wanted-part-requires all-finite-requires returns-5 all-sound-requires returns-6 ends-in-requires ends-in-requires-2 ends-in-requires-3 returns-7)
+energies-ends-of-spec = tie.close (tie.spec right-lengths-requires returns state-within-requires returns-2 zeta-requires hard-sphere-requires enum-known-h enum-told returns-3 dispersion-requires enum-known-d enum-told-2 returns-4 wanted-part-requires all-finite-requires returns-5 all-sound-requires returns-6 ends-in-requires ends-in-requires-2 ends-in-requires-3 returns-7)

@@ -12,7 +12,7 @@ use Rattle.elementary.specs.Port.{port}
 use Rattle.number.specs.Functions.{calls}
 use native.Mathlib.Omega.{arith}
 use Rattle.number.specs.Lists.{nth}
-use Rattle.saftvrqmie_energies.specs.State.{sheetsOf}
+use Rattle.saftvrqmie_energies.specs.State.{sheetsOfState}
 use Rattle.saftvrqmie_energies.specs.Dispersion.{firstRow, first}
 use Rattle.saftvrqmie_energies_ends.specs.Parts.{mixtureIn}
 use borrow.Author.Needs.{needs}
@@ -20,7 +20,7 @@ use Rattle.saftvrqmie_energies_ends.proofs.first.Statement.{statement}
 use Rattle.saftvrqmie_energies_ends.proofs.first.Tie as tie
 
 abbrev Inv-loop : tie.InvT-loop
-Inv-loop n sheets orders t table xs w a1₀ i₀ a1 i = (i ≤ n) × (held a1 ≡ walk i (firstRow enclosures (calls enclosures port) (sheetsOf enclosures n sheets orders t table) (nth enclosures xs) (mixtureIn w)) (whole enclosures 0))
+Inv-loop n sheets orders t table xs w a1₀ i₀ a1 i = (i ≤ n) × (held a1 ≡ walk i (firstRow enclosures (calls enclosures port) (sheetsOfState enclosures n sheets orders t table) (nth enclosures xs) (mixtureIn w)) (whole enclosures 0))
 
 abbrev μ-loop : tie.MeasureT-loop
 μ-loop n sheets orders t table xs w a1₀ i₀ a1 i = n - i

@@ -10,7 +10,7 @@ use Rattle.elementary.specs.Port.{port}
 use Rattle.number.specs.Functions.{calls}
 use native.Mathlib.Omega.{arith}
 use Rattle.number.specs.Lists.{nth}
-use Rattle.saftvrqmie_energies.specs.State.{sheetsOf}
+use Rattle.saftvrqmie_energies.specs.State.{sheetsOfState}
 use Rattle.saftvrqmie_energies.specs.Dispersion.{firstTurn, firstRow}
 use Rattle.saftvrqmie_energies_ends.specs.Parts.{mixtureIn}
 use Rattle.saftvrqmie_energies.proofs.Turns.{first-held, first-outside}
@@ -19,7 +19,7 @@ use Rattle.saftvrqmie_energies_ends.proofs.first_row.Statement.{stateme
 use Rattle.saftvrqmie_energies_ends.proofs.first_row.Tie as tie
 
 abbrev Inv-loop : tie.InvT-loop
-Inv-loop n sheets orders t table xs w i a1₀ k₀ k-end a1 k = (k-end ≡ n - i) × (k ≤ k-end) × (held a1 ≡ walk k (firstTurn enclosures (calls enclosures port) (sheetsOf enclosures n sheets orders t table) (nth enclosures xs) (mixtureIn w) i) a1₀)
+Inv-loop n sheets orders t table xs w i a1₀ k₀ k-end a1 k = (k-end ≡ n - i) × (k ≤ k-end) × (held a1 ≡ walk k (firstTurn enclosures (calls enclosures port) (sheetsOfState enclosures n sheets orders t table) (nth enclosures xs) (mixtureIn w) i) a1₀)
 
 abbrev μ-loop : tie.MeasureT-loop
 μ-loop n sheets orders t table xs w i a1₀ k₀ k-end a1 k = k-end - k

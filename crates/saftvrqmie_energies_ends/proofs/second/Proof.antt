@@ -12,7 +12,7 @@ use Rattle.elementary.specs.Port.{port}
 use Rattle.number.specs.Functions.{calls}
 use native.Mathlib.Omega.{arith}
 use Rattle.number.specs.Lists.{nth}
-use Rattle.saftvrqmie_energies.specs.State.{sheetsOf}
+use Rattle.saftvrqmie_energies.specs.State.{sheetsOfState}
 use Rattle.saftvrqmie_energies.specs.Dispersion.{secondRow, second}
 use Rattle.saftvrqmie_energies_ends.specs.Parts.{mixtureIn}
 use borrow.Author.Needs.{needs}
@@ -20,7 +20,7 @@ use Rattle.saftvrqmie_energies_ends.proofs.second.Statement.{statement}
 use Rattle.saftvrqmie_energies_ends.proofs.second.Tie as tie
 
 abbrev Inv-loop : tie.InvT-loop
-Inv-loop n sheets orders t table xs w alphas a2₀ i₀ a2 i = (i ≤ n) × (held a2 ≡ walk i (secondRow enclosures (calls enclosures port) (sheetsOf enclosures n sheets orders t table) (nth enclosures xs) (mixtureIn w) (nth enclosures alphas)) (whole enclosures 0))
+Inv-loop n sheets orders t table xs w alphas a2₀ i₀ a2 i = (i ≤ n) × (held a2 ≡ walk i (secondRow enclosures (calls enclosures port) (sheetsOfState enclosures n sheets orders t table) (nth enclosures xs) (mixtureIn w) (nth enclosures alphas)) (whole enclosures 0))
 
 abbrev μ-loop : tie.MeasureT-loop
 μ-loop n sheets orders t table xs w alphas a2₀ i₀ a2 i = n - i

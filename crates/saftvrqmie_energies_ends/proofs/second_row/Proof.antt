@@ -12,8 +12,8 @@ use Rattle.elementary.specs.Port.{port}
 use Rattle.number.specs.Functions.{calls}
 use native.Mathlib.Omega.{arith}
 use Rattle.number.specs.Lists.{nth}
-use Rattle.saftvrqmie_energies.specs.State.{sheetsOf}
-use Rattle.saftvrqmie_energies.specs.Dispersion.{secondTurn, secondRow}
+use Rattle.saftvrqmie_energies.specs.State.{sheetsOfState}
+use Rattle.saftvrqmie_energies.specs.Dispersion.{secondPairTurn, secondRow}
 use Rattle.saftvrqmie_energies_ends.specs.Parts.{mixtureIn}
 use Rattle.saftvrqmie_energies.proofs.Turns.{second-held, second-outside}
 use borrow.Author.Needs.{needs}
@@ -21,7 +21,7 @@ use Rattle.saftvrqmie_energies_ends.proofs.second_row.Statement.{statem
 use Rattle.saftvrqmie_energies_ends.proofs.second_row.Tie as tie
 
 abbrev Inv-loop : tie.InvT-loop
-Inv-loop n sheets orders t table xs w alphas i one a2₀ k₀ k-end a2 k = (k-end ≡ n - i) × (k ≤ k-end) × (held a2 ≡ walk k (secondTurn enclosures (calls enclosures port) (sheetsOf enclosures n sheets orders t table) (nth enclosures xs) (mixtureIn w) (nth enclosures alphas) i) a2₀)
+Inv-loop n sheets orders t table xs w alphas i one a2₀ k₀ k-end a2 k = (k-end ≡ n - i) × (k ≤ k-end) × (held a2 ≡ walk k (secondPairTurn enclosures (calls enclosures port) (sheetsOfState enclosures n sheets orders t table) (nth enclosures xs) (mixtureIn w) (nth enclosures alphas) i) a2₀)
 
 abbrev μ-loop : tie.MeasureT-loop
 μ-loop n sheets orders t table xs w alphas i one a2₀ k₀ k-end a2 k = k-end - k

@@ -1,8 +1,8 @@
--- `saftvrmie_energies::within_limits` meets its contract. Assumes nothing.
+-- `limits::state_within` meets its contract. Assumes nothing.
 use Rattle.limits.specs.Limits.{stateWithin}
 use borrow.Author.Needs.{needs}
-use Rattle.saftvrmie_energies.proofs.within_limits.Statement.{statement}
-use Rattle.saftvrmie_energies.proofs.within_limits.Tie as tie
+use Rattle.limits.proofs.state_within.Statement.{statement}
+use Rattle.limits.proofs.state_within.Tie as tie
 
 temperature-within-requires : tie.Need-temperature-within-requires
 temperature-within-requires c κs = search needs
@@ -15,13 +15,14 @@ shares-within-requires-2 c κs = search needs
 
 returns : tie.Need-returns
 unfolding stateWithin
-returns c = rw (
-  c .shares-within2 .ensures,
-  c .before .shares-within .ensures,
-  c .before .before .temperature-within .ensures,
-)
+returns c =
+    rw (
+      c .shares-within2 .ensures,
+      c .before .shares-within .ensures,
+      c .before .before .temperature-within .ensures,
+    )
 
-pub within-limits-spec : {M : Type 1} → statement M
-within-limits-spec =
+pub state-within-spec : {M : Type 1} → statement M
+state-within-spec =
     tie.close
     (tie.spec temperature-within-requires shares-within-requires shares-within-requires-2 returns)

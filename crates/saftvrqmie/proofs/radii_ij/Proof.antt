@@ -1,12 +1,12 @@
--- `saftvrqmie::searches_ij` meets its contract. Assumes nothing.
+-- `saftvrqmie::radii_ij` meets its contract. Assumes nothing.
 use Rattle.mie_parameters.proofs.Laws.{inside}
 use Rattle.saftvrqmie.proofs.Pairs.{searches-1, searches-2, searches-are}
 use Rattle.number.proofs.Walk.{told}
 use borrow.Author.Tests.{not-true, not-false}
 use native.Mathlib.Omega.{arith}
 use borrow.Author.Needs.{needs}
-use Rattle.saftvrqmie.proofs.searches_ij.Statement.{statement}
-use Rattle.saftvrqmie.proofs.searches_ij.Tie as tie
+use Rattle.saftvrqmie.proofs.radii_ij.Statement.{statement}
+use Rattle.saftvrqmie.proofs.radii_ij.Tie as tie
 
 index-within-requires : tie.Need-index-within-requires
 index-within-requires c κs = search needs
@@ -35,8 +35,8 @@ pair-searches-requires c κs = search needs
 returns-3 : tie.Need-returns-3
 returns-3 c = searches-are _ _ _ _ (told ((c .before .before .before .before .before .before .before .before .index-within) .ensures) (not-false _ ((c .before .before .before .before .before .before .before .if1) .left))) _ _ (told ((c .before .before .before .before .before .before .temperature-within) .ensures) (not-false _ ((c .before .before .before .before .before .if2) .left))) ((c .before .pair-at) .ensures) ((c .pair-searches) .ensures)
 
-pub searches-ij-spec : {M : Type 1} → statement M
-searches-ij-spec =
+pub radii-ij-spec : {M : Type 1} → statement M
+radii-ij-spec =
     tie.close
     (tie.spec
     index-within-requires
