@@ -14,10 +14,10 @@ fn main() {
     let folder = root.join("target/staticlib");
     let library = folder.join("libdomthelv.a");
     let declared = root.join("differential/run/src/port.rs");
-    let sources = root.join("crates/domthelv/src/lib.rt");
+    let sources = root.join("crates/domthelv/src");
     let unproved = env::var("CARGO_FEATURE_UNPROVED").is_ok();
     let has: Box<dyn Fn(&str) -> bool> = if unproved {
-        let text = fs::read_to_string(&sources).unwrap();
+        let text: String = fs::read_dir(&sources).unwrap().map(|file| fs::read_to_string(file.unwrap().path()).unwrap()).collect();
         Box::new(move |name| text.contains(&format!(" fn {name}(")))
     } else {
         let archive = fs::read(&library).expect("no target/staticlib/libdomthelv.a: run tools/library first");

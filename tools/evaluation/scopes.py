@@ -76,10 +76,12 @@ class Names:
         if not m:
             statement.refuse(f"a module that is not known, `{path}`")
         crate, rest = m.group(1), m.group(2).split(".")
-        if rest[0] == "declared" and len(rest) in (2, 3) and rest[2:] in ([], ["the-variants"]):
-            if rest[1] not in self.declared.get(crate, {}):
-                statement.refuse(f"crate {crate} declares no `{rest[1]}`")
-            return ("variants" if rest[2:] else "declared", crate, rest[1])
+        if rest[0] == "declared":
+            variants = rest[-1] == "the-variants"
+            declared = ".".join(rest[1:-1] if variants else rest[1:])
+            if declared not in self.declared.get(crate, {}):
+                statement.refuse(f"crate {crate} declares no `{declared}`")
+            return ("variants" if variants else "declared", crate, declared)
         if len(rest) != 1:
             statement.refuse(f"a module that is not known, `{path}`")
         return ("file", self.file(crate, rest[0]))
@@ -96,7 +98,7 @@ class Names:
             if found and found[0] in ("definition", "type", "constructor") and found[-1] != "private":
                 return found
         elif module[0] == "declared":
-            if name == module[2]:
+            if name == module[2].split(".")[-1]:
                 return ("type", name, None)
         elif name in self.declared[module[1]][module[2]]:
             return ("constructor", name, self.declared[module[1]][module[2]][name], "public")

@@ -42,10 +42,13 @@ def texts_of(folder):
 
 
 def declared_in(folder):
+    """Each crate's types by their path below `declared`: the module's name and a dot stand before the name of a type that no root declares."""
     found = {}
     for path in sorted(glob.glob(os.path.join(folder, "crates/*/src/*.rt"))):
+        crate, module = os.path.relpath(path, folder).split(os.sep)[1], os.path.basename(path)[:-len(".rt")]
+        below = "" if module in ("lib", "main") else module + "."
         with open(path) as f:
-            found.setdefault(os.path.relpath(path, folder).split(os.sep)[1], {}).update(types_of(f.read()))
+            found.setdefault(crate, {}).update({below + name: held for name, held in types_of(f.read()).items()})
     return found
 
 

@@ -35,7 +35,7 @@ for crate in sys.argv[1:]:
         new = re.sub(r"^-- src/[\w/]+\.rt:\d+:\d+\n", "", old, flags=re.M)
         new = pruned(new)
         if path.endswith("/Proof.antt") and not new.startswith("--"):
-            function = path.split("/")[-2]
+            function = "::".join(path.split("/")[3:-1])  # its module, then its name
             new = f"-- `{crate}::{function}` meets its contract. Assumes nothing.\n" + new
         if new != old:
             open(path, "w").write(new)

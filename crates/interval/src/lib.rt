@@ -72,7 +72,9 @@ fn worked(operation: Operation, x: f64, y: f64) -> f64
 }
 
 fn corners(o: Operands) -> Interval
-    ensures { λ r. ⌜ r ≡ around (o .sound) (workedOf (o .operation) (o .xl) (o .yl)) (workedOf (o .operation) (o .xl) (o .yu)) (workedOf (o .operation) (o .xu) (o .yl)) (workedOf (o .operation) (o .xu) (o .yu)) ⌝ }
+    ensures { λ r.
+        let worked = workedOf (o .operation) in
+        ⌜ r ≡ around (o .sound) (worked (o .xl) (o .yl)) (worked (o .xl) (o .yu)) (worked (o .xu) (o .yl)) (worked (o .xu) (o .yu)) ⌝ }
 {
     let operation = o.operation;
     let a = worked(operation, o.xl, o.yl);

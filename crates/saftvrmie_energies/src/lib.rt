@@ -1,6 +1,7 @@
 // Helmholtz energies of SAFT-VR Mie on a set (saftvrmie/eos/dispersion.rs): `Properties::new`, dispersion, and dispersion with chain.
 ghost use mathlib.Core.Path.{_≡_};
-ghost use Prim.Native.Nat.{_<_, _≤_};
+ghost use Prim.Native.Nat.{ℕ, _<_, _≤_};
+ghost use lib.Ieee.{Float};
 ghost use lib.ListN.{length};
 ghost use Rattle.number.specs.Answer.{answer};
 ghost use Rattle.number.specs.Arith.{floats};
@@ -8,6 +9,9 @@ ghost use Rattle.number.specs.Functions.{calls};
 ghost use Rattle.number.specs.Lists.{at};
 ghost use Rattle.sizes.specs.Sizes.{side};
 ghost use Rattle.elementary.specs.Port.{port};
+ghost use Rattle.saftvrmie_parameters.specs.declared.SaftVRMiePars.{SaftVRMiePars};
+ghost use Rattle.saftvrmie_dispersion.specs.Terms.{PairIn};
+ghost use Rattle.saftvrmie_dispersion.specs.Chain.{LinkIn};
 ghost use Rattle.saftvrmie_dispersion.specs.Answer.{pairOf, fluidIn, fluidDualIn, barIn, sumsIn, kIn, linkIn, sumsAnswer};
 ghost use Rattle.mie_parameters.specs.Sums.{weighted};
 ghost use Rattle.saftvrmie_energies.specs.Properties.{total, xsOf, dIj, d3Ij, s3Ij, zetaRow, zetaSum};
@@ -202,7 +206,13 @@ fn properties_of(
     d: &[f64],
 ) -> Properties
     requires { ⌜ (n ≤ side) × (length (now rho) ≡ n) × (length (now d) ≡ n) ⌝ }
-    ensures { λ r. ⌜ r ≡ packingOf n (at (now (xs .entry))) (at (now (rho .entry))) (at (now (d .entry))) (at (now (m .entry))) (λ i j. pairOf (pairAt (now (sheets .entry)) i j)) ⌝ }
+    ensures { λ r.
+        let xs = at (now (xs .entry)) in
+        let rho = at (now (rho .entry)) in
+        let d = at (now (d .entry)) in
+        let m = at (now (m .entry)) in
+        let pair : ℕ → ℕ → PairIn Float = λ i j. pairOf (pairAt (now (sheets .entry)) i j) in
+        ⌜ r ≡ packingOf n xs rho d m pair ⌝ }
 {
     let segment_density = weighted(n, rho, m);
     let zeta_x = zeta_sum(n, xs, d) * (segment_density * FRAC_PI_6);
@@ -227,7 +237,11 @@ fn pair_turn(
     s: Sums,
 ) -> SumsAnswer
     requires { ⌜ (i < side) × (j < side) × (i < length (now d)) × (j < length (now d)) ⌝ }
-    ensures { λ r. ⌜ sumsAnswer r ≡ pairTurn floats (calls floats port) (at (now (xs .entry))) (at (now (d .entry))) (λ i j. pairOf (pairAt (now (sheets .entry)) i j)) (fluidIn w) (barIn bar) i j (sumsIn s) ⌝ }
+    ensures { λ r.
+        let xs = at (now (xs .entry)) in
+        let d = at (now (d .entry)) in
+        let pair : ℕ → ℕ → PairIn Float = λ i j. pairOf (pairAt (now (sheets .entry)) i j) in
+        ⌜ sumsAnswer r ≡ pairTurn floats (calls floats port) xs d pair (fluidIn w) (barIn bar) i j (sumsIn s) ⌝ }
 {
     let p = pair_at(sheets, i, j);
     let TermsAnswer::At(t) = saftvrmie_dispersion::pair_terms(w, bar, p, d_ij(d, i, j)) else {
@@ -248,7 +262,11 @@ fn pair_row(
     start: Sums,
 ) -> SumsAnswer
     requires { ⌜ (n ≤ side) × (i < n) × (length (now d) ≡ n) ⌝ }
-    ensures { λ r. ⌜ sumsAnswer r ≡ pairRow floats (calls floats port) n (at (now (xs .entry))) (at (now (d .entry))) (λ i j. pairOf (pairAt (now (sheets .entry)) i j)) (fluidIn w) (barIn bar) i (sumsIn start) ⌝ }
+    ensures { λ r.
+        let xs = at (now (xs .entry)) in
+        let d = at (now (d .entry)) in
+        let pair : ℕ → ℕ → PairIn Float = λ i j. pairOf (pairAt (now (sheets .entry)) i j) in
+        ⌜ sumsAnswer r ≡ pairRow floats (calls floats port) n xs d pair (fluidIn w) (barIn bar) i (sumsIn start) ⌝ }
 {
     let mut s = start;
     for k in 0usize..n - (i + 1) {
@@ -273,7 +291,11 @@ fn disp_row(
     s: Sums,
 ) -> SumsAnswer
     requires { ⌜ (n ≤ side) × (i < n) × (length (now d) ≡ n) ⌝ }
-    ensures { λ r. ⌜ sumsAnswer r ≡ dispRow floats (calls floats port) n (at (now (xs .entry))) (at (now (d .entry))) (λ i j. pairOf (pairAt (now (sheets .entry)) i j)) (fluidIn w) (barIn bar) (pairOf p) i (sumsIn s) ⌝ }
+    ensures { λ r.
+        let xs = at (now (xs .entry)) in
+        let d = at (now (d .entry)) in
+        let pair : ℕ → ℕ → PairIn Float = λ i j. pairOf (pairAt (now (sheets .entry)) i j) in
+        ⌜ sumsAnswer r ≡ dispRow floats (calls floats port) n xs d pair (fluidIn w) (barIn bar) (pairOf p) i (sumsIn s) ⌝ }
 {
     let TermsAnswer::At(t) = saftvrmie_dispersion::pair_terms(w, bar, p, d[i]) else {
         return SumsAnswer::Outside;
@@ -298,7 +320,11 @@ fn chain_row(
     s: Sums,
 ) -> SumsAnswer
     requires { ⌜ (n ≤ side) × (i < n) × (length (now d) ≡ n) ⌝ }
-    ensures { λ r. ⌜ sumsAnswer r ≡ chainRow floats (calls floats port) n (at (now (xs .entry))) (at (now (d .entry))) (λ i j. pairOf (pairAt (now (sheets .entry)) i j)) (fluidIn w) (barIn bar) (fluidDualIn v) (kIn k) (pairOf p) (linkIn of) i (sumsIn s) ⌝ }
+    ensures { λ r.
+        let xs = at (now (xs .entry)) in
+        let d = at (now (d .entry)) in
+        let pair : ℕ → ℕ → PairIn Float = λ i j. pairOf (pairAt (now (sheets .entry)) i j) in
+        ⌜ sumsAnswer r ≡ chainRow floats (calls floats port) n xs d pair (fluidIn w) (barIn bar) (fluidDualIn v) (kIn k) (pairOf p) (linkIn of) i (sumsIn s) ⌝ }
 {
     let SumsAnswer::At(t) = saftvrmie_dispersion::chain_pure(v, bar, k, p, d[i], of, xs[i], s)
     else {
@@ -320,7 +346,12 @@ fn disp_rows(
     bar: Bar,
 ) -> SumsAnswer
     requires { ⌜ (n ≤ side) × (length (now d) ≡ n) ⌝ }
-    ensures { λ r. ⌜ sumsAnswer r ≡ dispRows floats (calls floats port) n (at (now (xs .entry))) (at (now (d .entry))) (λ i j. pairOf (pairAt (now (sheets .entry)) i j)) (fluidIn w) (barIn bar) (λ i. pairOf (pureAt (now (sigma .entry)) (now («epsilon_k» .entry)) (now (lr .entry)) (now (la .entry)) (now (sheets .entry)) i)) ⌝ }
+    ensures { λ r.
+        let xs = at (now (xs .entry)) in
+        let d = at (now (d .entry)) in
+        let pair : ℕ → ℕ → PairIn Float = λ i j. pairOf (pairAt (now (sheets .entry)) i j) in
+        let pure : ℕ → PairIn Float = λ i. pairOf (pureAt (now (sigma .entry)) (now («epsilon_k» .entry)) (now (lr .entry)) (now (la .entry)) (now (sheets .entry)) i) in
+        ⌜ sumsAnswer r ≡ dispRows floats (calls floats port) n xs d pair (fluidIn w) (barIn bar) pure ⌝ }
 {
     let mut s = Sums {
         a1: 0.0,
@@ -356,7 +387,13 @@ fn chain_rows(
     t_inv: f64,
 ) -> SumsAnswer
     requires { ⌜ (n ≤ side) × (length (now x) ≡ n) × (length (now d) ≡ n) ⌝ }
-    ensures { λ r. ⌜ sumsAnswer r ≡ chainRows floats (calls floats port) n (at (now (xs .entry))) (at (now (d .entry))) (λ i j. pairOf (pairAt (now (sheets .entry)) i j)) (fluidIn w) (barIn bar) (λ i. pairOf (pureAt (now (sigma .entry)) (now («epsilon_k» .entry)) (now (lr .entry)) (now (la .entry)) (now (sheets .entry)) i)) (fluidDualIn v) (kIn k) (λ i. record { m = at (now (m .entry)) i; fraction = at (now (x .entry)) i; t-inv = «t_inv» }) ⌝ }
+    ensures { λ r.
+        let xs = at (now (xs .entry)) in
+        let d = at (now (d .entry)) in
+        let pair : ℕ → ℕ → PairIn Float = λ i j. pairOf (pairAt (now (sheets .entry)) i j) in
+        let pure : ℕ → PairIn Float = λ i. pairOf (pureAt (now (sigma .entry)) (now («epsilon_k» .entry)) (now (lr .entry)) (now (la .entry)) (now (sheets .entry)) i) in
+        let link : ℕ → LinkIn Float = λ i. record { m = at (now (m .entry)) i; fraction = at (now (x .entry)) i; t-inv = «t_inv» } in
+        ⌜ sumsAnswer r ≡ chainRows floats (calls floats port) n xs d pair (fluidIn w) (barIn bar) pure (fluidDualIn v) (kIn k) link ⌝ }
 {
     let mut s = Sums {
         a1: 0.0,
@@ -395,7 +432,10 @@ fn helmholtz_energy_density_disp(
     d: &[f64],
 ) -> FloatAnswer
     requires { ⌜ (n ≤ side) × (length (now x) ≡ n) × (length (now rho) ≡ n) × (length (now d) ≡ n) ⌝ }
-    ensures { λ r. ⌜ answer r ≡ dispersion floats (calls floats port) n (stateIn (λ v. v) (record { count = n; m = now (m .entry); sigma = now (sigma .entry); «epsilon_k» = now («epsilon_k» .entry); lr = now (lr .entry); la = now (la .entry); sheets = now (sheets .entry) }) temperature (now (x .entry)) (now (rho .entry)) (now (d .entry))) ⌝ }
+    ensures { λ r.
+        let set : SaftVRMiePars =
+        record { count = n; m = now (m .entry); sigma = now (sigma .entry); «epsilon_k» = now («epsilon_k» .entry); lr = now (lr .entry); la = now (la .entry); sheets = now (sheets .entry) } in
+        ⌜ answer r ≡ dispersion floats (calls floats port) n (stateIn (λ v. v) set temperature (now (x .entry)) (now (rho .entry)) (now (d .entry))) ⌝ }
 {
     let mean = weighted(n, x, m);
     let xs = xs_of(n, x, m, mean);
@@ -427,7 +467,10 @@ fn helmholtz_energy_density_disp_chain(
     d: &[f64],
 ) -> FloatAnswer
     requires { ⌜ (n ≤ side) × (length (now x) ≡ n) × (length (now rho) ≡ n) × (length (now d) ≡ n) ⌝ }
-    ensures { λ r. ⌜ answer r ≡ dispersionChain floats (calls floats port) n (stateIn (λ v. v) (record { count = n; m = now (m .entry); sigma = now (sigma .entry); «epsilon_k» = now («epsilon_k» .entry); lr = now (lr .entry); la = now (la .entry); sheets = now (sheets .entry) }) temperature (now (x .entry)) (now (rho .entry)) (now (d .entry))) ⌝ }
+    ensures { λ r.
+        let set : SaftVRMiePars =
+        record { count = n; m = now (m .entry); sigma = now (sigma .entry); «epsilon_k» = now («epsilon_k» .entry); lr = now (lr .entry); la = now (la .entry); sheets = now (sheets .entry) } in
+        ⌜ answer r ≡ dispersionChain floats (calls floats port) n (stateIn (λ v. v) set temperature (now (x .entry)) (now (rho .entry)) (now (d .entry))) ⌝ }
 {
     let mean = weighted(n, x, m);
     let xs = xs_of(n, x, m, mean);
@@ -485,7 +528,10 @@ fn work(
     chain: bool,
 ) -> FloatAnswer
     requires { ⌜ (n ≤ side) × (length (now x) ≡ n) × (length (now rho) ≡ n) × (length (now d) ≡ n) ⌝ }
-    ensures { λ r. ⌜ answer r ≡ energyRun floats (calls floats port) (record { count = n; m = now (m .entry); sigma = now (sigma .entry); «epsilon_k» = now («epsilon_k» .entry); lr = now (lr .entry); la = now (la .entry); sheets = now (sheets .entry) }) temperature (now (x .entry)) (now (rho .entry)) (now (d .entry)) chain ⌝ }
+    ensures { λ r.
+        let set : SaftVRMiePars =
+        record { count = n; m = now (m .entry); sigma = now (sigma .entry); «epsilon_k» = now («epsilon_k» .entry); lr = now (lr .entry); la = now (la .entry); sheets = now (sheets .entry) } in
+        ⌜ answer r ≡ energyRun floats (calls floats port) set temperature (now (x .entry)) (now (rho .entry)) (now (d .entry)) chain ⌝ }
 {
     if chain {
         return helmholtz_energy_density_disp_chain(
@@ -532,7 +578,10 @@ pub fn dispersion_of(
     diameters: &[f64],
     chain: bool,
 ) -> EnergyAnswer
-    ensures { λ r. ⌜ energyAnswer r ≡ energy (record { count = n; m = now (m .entry); sigma = now (sigma .entry); «epsilon_k» = now («epsilon_k» .entry); lr = now (lr .entry); la = now (la .entry); sheets = now (sheets .entry) }) temperature (now (fractions .entry)) (now (densities .entry)) (now (diameters .entry)) chain ⌝ }
+    ensures { λ r.
+        let set : SaftVRMiePars =
+        record { count = n; m = now (m .entry); sigma = now (sigma .entry); «epsilon_k» = now («epsilon_k» .entry); lr = now (lr .entry); la = now (la .entry); sheets = now (sheets .entry) } in
+        ⌜ energyAnswer r ≡ energy set temperature (now (fractions .entry)) (now (densities .entry)) (now (diameters .entry)) chain ⌝ }
 {
     if !right_lists(n, fractions.len(), densities.len(), diameters.len()) {
         return EnergyAnswer::Refused(1);

@@ -12,7 +12,7 @@ ghost use Rattle.sizes.specs.Sizes.{side, sheet};
 ghost use Rattle.number.specs.Walk.{walk};
 ghost use Rattle.limits.specs.Limits.{square, components};
 ghost use Rattle.saftvrmie_parameters.specs.Combine.{sigmaIj, alphaIj, lrIj};
-ghost use Rattle.saftvrmie_parameters.specs.Parameters.{pairAnswer, rightLengths, withinLimits, pairParameters, storePair, sheetsRow, saftVRMiePars, given};
+ghost use Rattle.saftvrmie_parameters.specs.Parameters.{Lists, pairAnswer, rightLengths, withinLimits, pairParameters, storePair, sheetsRow, saftVRMiePars, given};
 ghost use Rattle.mie_parameters.specs.Answer.{outcome};
 use limits::Component;
 use mie_parameters::ParameterAnswer;
@@ -154,8 +154,14 @@ fn sheets_row(
     i: usize,
     s: &mut [f64; SHEETS],
 ) -> ParameterAnswer
-    requires { ⌜ (n ≤ side) × (i < n) × (length (now sigma) ≡ n) × (length (now «epsilon_k») ≡ n) × (length (now lr) ≡ n) × (length (now la) ≡ n) × (length (now «k_ij») ≡ n * n) × (length (now «gamma_ij») ≡ n * n) ⌝ }
-    ensures { λ r. ⌜ outcome r (now (s .exit)) ≡ sheetsRow n (components (now (sigma .entry)) (now («epsilon_k» .entry)) (now (lr .entry)) (now (la .entry))) (square n (now («k_ij» .entry))) (square n (now («gamma_ij» .entry))) i (now (s .entry)) ⌝ }
+    requires { ⌜ (n ≤ side) × (i < n)
+        × (length (now sigma) ≡ n) × (length (now «epsilon_k») ≡ n) × (length (now lr) ≡ n) × (length (now la) ≡ n)
+        × (length (now «k_ij») ≡ n * n) × (length (now «gamma_ij») ≡ n * n) ⌝ }
+    ensures { λ r.
+        let c = components (now (sigma .entry)) (now («epsilon_k» .entry)) (now (lr .entry)) (now (la .entry)) in
+        let k = square n (now («k_ij» .entry)) in
+        let gamma = square n (now («gamma_ij» .entry)) in
+        ⌜ outcome r (now (s .exit)) ≡ sheetsRow n c k gamma i (now (s .entry)) ⌝ }
 {
     let a = limits::component_at(sigma, epsilon_k, lr, la, i);
     for j in 0usize..n {
@@ -178,8 +184,14 @@ fn fill_sheets(
     gamma_ij: &[f64],
     s: &mut [f64; SHEETS],
 ) -> ParameterAnswer
-    requires { ⌜ (n ≤ side) × (length (now sigma) ≡ n) × (length (now «epsilon_k») ≡ n) × (length (now lr) ≡ n) × (length (now la) ≡ n) × (length (now «k_ij») ≡ n * n) × (length (now «gamma_ij») ≡ n * n) ⌝ }
-    ensures { λ r. ⌜ outcome r (now (s .exit)) ≡ walk n (sheetsRow n (components (now (sigma .entry)) (now («epsilon_k» .entry)) (now (lr .entry)) (now (la .entry))) (square n (now («k_ij» .entry))) (square n (now («gamma_ij» .entry)))) (now (s .entry)) ⌝ }
+    requires { ⌜ (n ≤ side)
+        × (length (now sigma) ≡ n) × (length (now «epsilon_k») ≡ n) × (length (now lr) ≡ n) × (length (now la) ≡ n)
+        × (length (now «k_ij») ≡ n * n) × (length (now «gamma_ij») ≡ n * n) ⌝ }
+    ensures { λ r.
+        let c = components (now (sigma .entry)) (now («epsilon_k» .entry)) (now (lr .entry)) (now (la .entry)) in
+        let k = square n (now («k_ij» .entry)) in
+        let gamma = square n (now («gamma_ij» .entry)) in
+        ⌜ outcome r (now (s .exit)) ≡ walk n (sheetsRow n c k gamma) (now (s .entry)) ⌝ }
 {
     for i in 0usize..n {
         let answer = sheets_row(n, sigma, epsilon_k, lr, la, k_ij, gamma_ij, i, s);
@@ -200,7 +212,18 @@ fn right_lengths(
     k_ij: &[f64],
     gamma_ij: &[f64],
 ) -> bool
-    ensures { λ r. ⌜ r ≡ rightLengths (record { count = count; m = now (m .entry); sigma = now (sigma .entry); epsilon-k = now («epsilon_k» .entry); lr = now (lr .entry); la = now (la .entry); k-ij = now («k_ij» .entry); gamma-ij = now («gamma_ij» .entry) }) ⌝ }
+    ensures { λ r.
+        let l : Lists = record {
+          count = count;
+          m = now (m .entry);
+          sigma = now (sigma .entry);
+          epsilon-k = now («epsilon_k» .entry);
+          lr = now (lr .entry);
+          la = now (la .entry);
+          k-ij = now («k_ij» .entry);
+          gamma-ij = now («gamma_ij» .entry);
+        } in
+        ⌜ r ≡ rightLengths l ⌝ }
 {
     if !limits::count_within(count) {
         return false;
@@ -226,8 +249,15 @@ fn within_limits(
     k_ij: &[f64],
     gamma_ij: &[f64],
 ) -> bool
-    requires { ⌜ (n ≤ side) × (length (now m) ≡ n) × (length (now sigma) ≡ n) × (length (now «epsilon_k») ≡ n) × (length (now lr) ≡ n) × (length (now la) ≡ n) × (length (now «k_ij») ≡ n * n) × (length (now «gamma_ij») ≡ n * n) ⌝ }
-    ensures { λ r. ⌜ r ≡ withinLimits n (components (now (sigma .entry)) (now («epsilon_k» .entry)) (now (lr .entry)) (now (la .entry))) (at (now (m .entry))) (square n (now («k_ij» .entry))) (square n (now («gamma_ij» .entry))) ⌝ }
+    requires { ⌜ (n ≤ side) × (length (now m) ≡ n)
+        × (length (now sigma) ≡ n) × (length (now «epsilon_k») ≡ n) × (length (now lr) ≡ n) × (length (now la) ≡ n)
+        × (length (now «k_ij») ≡ n * n) × (length (now «gamma_ij») ≡ n * n) ⌝ }
+    ensures { λ r.
+        let c = components (now (sigma .entry)) (now («epsilon_k» .entry)) (now (lr .entry)) (now (la .entry)) in
+        let m = at (now (m .entry)) in
+        let k = square n (now («k_ij» .entry)) in
+        let gamma = square n (now («gamma_ij» .entry)) in
+        ⌜ r ≡ withinLimits n c m k gamma ⌝ }
 {
     limits::components_within(n, sigma, epsilon_k, lr, la)
         & limits::segments_within(n, m)
@@ -246,7 +276,18 @@ pub fn parameters(
     k_ij: &[f64],
     gamma_ij: &[f64],
 ) -> ParameterSet
-    ensures { λ r. ⌜ r ≡ given (saftVRMiePars (record { count = count; m = now (m .entry); sigma = now (sigma .entry); epsilon-k = now («epsilon_k» .entry); lr = now (lr .entry); la = now (la .entry); k-ij = now («k_ij» .entry); gamma-ij = now («gamma_ij» .entry) })) ⌝ }
+    ensures { λ r.
+        let l : Lists = record {
+          count = count;
+          m = now (m .entry);
+          sigma = now (sigma .entry);
+          epsilon-k = now («epsilon_k» .entry);
+          lr = now (lr .entry);
+          la = now (la .entry);
+          k-ij = now («k_ij» .entry);
+          gamma-ij = now («gamma_ij» .entry);
+        } in
+        ⌜ r ≡ given (saftVRMiePars l) ⌝ }
 {
     if !right_lengths(count, m, sigma, epsilon_k, lr, la, k_ij, gamma_ij) {
         return refused_with(1);

@@ -66,7 +66,11 @@ fn inverse_cube(x: Enclosure) -> Enclosure
 
 // k0's polynomial: -z * 39.0 + z2 * 9.0 - z3 * 2.0 + 42.0
 fn k0_sum(z: Enclosure, z2: Enclosure, z3: Enclosure) -> Enclosure
-    ensures { λ r. ⌜ r ≡ addE (subE (addE (mulE (negE z) (point (decimal false 39 0))) (mulE z2 (point (decimal false 9 0)))) (mulE z3 (point (decimal false 2 0)))) (point (decimal false 42 0)) ⌝ }
+    ensures { λ r.
+        let a = mulE (negE z) (point (decimal false 39 0)) in
+        let b = mulE z2 (point (decimal false 9 0)) in
+        let c = mulE z3 (point (decimal false 2 0)) in
+        ⌜ r ≡ addE (subE (addE a b) c) (point (decimal false 42 0)) ⌝ }
 {
     let c1 = enclosure::point(39.0);
     let c2 = enclosure::point(9.0);
@@ -349,7 +353,13 @@ pub fn properties_of(
     d: &[f64],
 ) -> PropertiesEnclosuresAnswer
     requires { ⌜ (n ≤ side) × (length (now rho) ≡ n) × (length (now d) ≡ n) ⌝ }
-    ensures { λ r. ⌜ propertiesAnswer r ≡ properties enclosures (calls enclosures port) n (nth enclosures xs) (points (now (rho .entry))) (points (now (d .entry))) (points (now (m .entry))) (pairs (now (sheets .entry))) ⌝ }
+    ensures { λ r.
+        let xs = nth enclosures xs in
+        let rho = points (now (rho .entry)) in
+        let d = points (now (d .entry)) in
+        let m = points (now (m .entry)) in
+        let pair = pairs (now (sheets .entry)) in
+        ⌜ propertiesAnswer r ≡ properties enclosures (calls enclosures port) n xs rho d m pair ⌝ }
 {
     let segment_density = weighted(n, rho, m);
     let a = zeta_sum(n, xs, d);

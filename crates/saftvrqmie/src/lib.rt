@@ -9,7 +9,7 @@ ghost use Rattle.elementary.specs.Port.{port};
 ghost use Rattle.mie_parameters.specs.Answer.{outcome, verdict, numberAnswer, stored};
 ghost use Rattle.saftvrqmie_potential.specs.Potential.{pairIn};
 ghost use Rattle.saftvrqmie_properties.specs.Properties.{pairPropertiesIn};
-ghost use Rattle.saftvrqmie.specs.Table.{store, workRow, workPairs, tableFinite, rightLists, temperatureTable, pairsOf};
+ghost use Rattle.saftvrqmie.specs.Table.{Lent, store, workRow, workPairs, tableFinite, rightLists, temperatureTable, pairsOf};
 ghost use Rattle.saftvrqmie.specs.Pairs.{searchesAnswer, pairSearches, radiiIj, diameterIj};
 use mie_parameters::NumberAnswer;
 use mie_parameters::ParameterAnswer;
@@ -51,7 +51,10 @@ pub enum SearchesAnswer {
 
 fn store(values: &mut [f64; TABLE], numbers: &mut [u8; COUNTS], e: usize, p: PairProperties)
     requires { ⌜ e < sheet ⌝ }
-    ensures { λ _. ⌜ record { values = now (values .exit); numbers = now (numbers .exit) } ≡ store (record { values = now (values .entry); numbers = now (numbers .entry) }) e (pairPropertiesIn p) ⌝ }
+    ensures { λ _.
+        let old : Lent = record { values = now (values .entry); numbers = now (numbers .entry) } in
+        let new : Lent = record { values = now (values .exit); numbers = now (numbers .exit) } in
+        ⌜ new ≡ store old e (pairPropertiesIn p) ⌝ }
 {
     values[e] = p.sigma_eff;
     values[HS_DIAMETER + e] = p.hs_diameter;
@@ -72,7 +75,10 @@ fn work_row(
     numbers: &mut [u8; COUNTS],
 ) -> ParameterAnswer
     requires { ⌜ (n ≤ side) × (i < n) ⌝ }
-    ensures { λ r. ⌜ outcome r (record { values = now (values .exit); numbers = now (numbers .exit) }) ≡ workRow n (now (s .entry)) orders t i (record { values = now (values .entry); numbers = now (numbers .entry) }) ⌝ }
+    ensures { λ r.
+        let old : Lent = record { values = now (values .entry); numbers = now (numbers .entry) } in
+        let new : Lent = record { values = now (values .exit); numbers = now (numbers .exit) } in
+        ⌜ outcome r new ≡ workRow n (now (s .entry)) orders t i old ⌝ }
 {
     for j in 0usize..n {
         let pair = saftvrqmie_potential::pair_at(s, orders, t, SIDE * i + j);
@@ -93,7 +99,10 @@ fn work_pairs(
     numbers: &mut [u8; COUNTS],
 ) -> ParameterAnswer
     requires { ⌜ n ≤ side ⌝ }
-    ensures { λ r. ⌜ outcome r (record { values = now (values .exit); numbers = now (numbers .exit) }) ≡ workPairs n (now (s .entry)) orders t (record { values = now (values .entry); numbers = now (numbers .entry) }) ⌝ }
+    ensures { λ r.
+        let old : Lent = record { values = now (values .entry); numbers = now (numbers .entry) } in
+        let new : Lent = record { values = now (values .exit); numbers = now (numbers .exit) } in
+        ⌜ outcome r new ≡ workPairs n (now (s .entry)) orders t old ⌝ }
 {
     for i in 0usize..n {
         let answer = work_row(n, s, orders, t, i, values, numbers);
@@ -169,7 +178,11 @@ pub fn table_of(
     table: &mut [f64],
     counts: &mut [u8],
 ) -> ParameterAnswer
-    ensures { λ r. ⌜ (r ≡ verdict (temperatureTable (pairsOf n (now (sheets .entry)) orders) temperature (record { values = now (table .entry); numbers = now (counts .entry) }))) × (now (table .exit) ≡ stored (record { values = now (table .entry); numbers = now (counts .entry) }) (temperatureTable (pairsOf n (now (sheets .entry)) orders) temperature (record { values = now (table .entry); numbers = now (counts .entry) })) .values) × (now (counts .exit) ≡ stored (record { values = now (table .entry); numbers = now (counts .entry) }) (temperatureTable (pairsOf n (now (sheets .entry)) orders) temperature (record { values = now (table .entry); numbers = now (counts .entry) })) .numbers) ⌝ }
+    ensures { λ r.
+        let set = pairsOf n (now (sheets .entry)) orders in
+        let l : Lent = record { values = now (table .entry); numbers = now (counts .entry) } in
+        let q = temperatureTable set temperature l in
+        ⌜ (r ≡ verdict q) × (now (table .exit) ≡ stored l q .values) × (now (counts .exit) ≡ stored l q .numbers) ⌝ }
 {
     if !right_lists(n, table.len(), counts.len()) {
         return ParameterAnswer::Refused(1);
@@ -198,7 +211,10 @@ pub fn temperature_dependent_properties(
     table: &mut [f64],
     counts: &mut [u8],
 ) -> ParameterAnswer
-    ensures { λ r. ⌜ (r ≡ verdict (temperatureTable set temperature (record { values = now (table .entry); numbers = now (counts .entry) }))) × (now (table .exit) ≡ stored (record { values = now (table .entry); numbers = now (counts .entry) }) (temperatureTable set temperature (record { values = now (table .entry); numbers = now (counts .entry) })) .values) × (now (counts .exit) ≡ stored (record { values = now (table .entry); numbers = now (counts .entry) }) (temperatureTable set temperature (record { values = now (table .entry); numbers = now (counts .entry) })) .numbers) ⌝ }
+    ensures { λ r.
+        let l : Lent = record { values = now (table .entry); numbers = now (counts .entry) } in
+        let q = temperatureTable set temperature l in
+        ⌜ (r ≡ verdict q) × (now (table .exit) ≡ stored l q .values) × (now (counts .exit) ≡ stored l q .numbers) ⌝ }
 {
     let sheets = set.sheets;
     let orders = set.orders;

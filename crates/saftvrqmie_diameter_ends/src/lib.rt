@@ -48,7 +48,10 @@ fn node(
     d_hs: Enclosure,
 ) -> EnclosureAnswer
     requires { ⌜ k < 21 ⌝ }
-    ensures { λ r. ⌜ (Sharing w → x ≡ aloneOf w → (sigmaEff : Enclosure) → width ≡ widthOf sigmaEff r0 → answer r ≡ nodeTurn enclosures (calls enclosures port) (potential enclosures (calls enclosures port) (pairIn (w .pair))) temperature sigmaEff r0 k «d_hs») ⌝ }
+    ensures { λ r.
+        let F = calls enclosures port in
+        let u = potential enclosures F (pairIn (w .pair)) in
+        ⌜ (Sharing w → x ≡ aloneOf w → (sigmaEff : Enclosure) → width ≡ widthOf sigmaEff r0 → answer r ≡ nodeTurn enclosures F u temperature sigmaEff r0 k «d_hs») ⌝ }
 {
     let r = enclosure::add(
         enclosure::add(enclosure::mul(width, abscissa(k)), width),

@@ -17,7 +17,7 @@ use Rattle.mie_parameters.specs.Sums.{weighted, ordersSum}
 use Rattle.saftvrqmie_dispersion.specs.Alpha.{alpha, chi, thirdOrderIj}
 use Rattle.saftvrqmie_dispersion.specs.Perturbation.{DispersionIn, dispersionPair, firstOrderIj, secondOrderIj, kFactor}
 use Rattle.saftvrqmie_energies.specs.State.{SheetsIn}
-use Rattle.saftvrqmie_energies.specs.declared.SegmentState.{SegmentState}
+use Rattle.saftvrqmie_energies.specs.declared.dispersion.SegmentState.{SegmentState}
 
 -- what the sums over pairs share
 pub record MixtureIn (N : Type 0) : Type 0 where

@@ -7,8 +7,8 @@ use Rattle.number.specs.Arith.{Arith, decimal, whole}
 use Rattle.number.specs.Functions.{Functions}
 use Rattle.number.specs.Walk.{turns}
 use Rattle.saftvrqmie_potential.specs.Potential.{recip}
-use Rattle.saftvrqmie_energies.specs.declared.Zetas.{Zetas}
-use Rattle.saftvrqmie_energies.specs.declared.Zeta23.{Zeta23}
+use Rattle.saftvrqmie_energies.specs.declared.hard_sphere.Zetas.{Zetas}
+use Rattle.saftvrqmie_energies.specs.declared.hard_sphere.Zeta23.{Zeta23}
 
 -- zeta[0] to zeta[3]
 pub record ZetaIn (N : Type 0) : Type 0 where

@@ -10,7 +10,7 @@ ghost use Rattle.sizes.specs.Sizes.{side, sheet};
 ghost use Rattle.number.specs.Walk.{walk};
 ghost use Rattle.limits.specs.Limits.{square, components};
 ghost use Rattle.saftvrqmie_parameters.specs.Combine.{sigmaIj, massIj};
-ghost use Rattle.saftvrqmie_parameters.specs.Parameters.{pairAnswer, rightLengths, withinLimits, recordM, pairOrders, orderRow, orderWalk, pairParameters, storePair, sheetsRow, orderOf, ordersRow, ordersOf, saftVRQMiePars, given};
+ghost use Rattle.saftvrqmie_parameters.specs.Parameters.{Lists, pairAnswer, rightLengths, withinLimits, recordM, pairOrders, orderRow, orderWalk, pairParameters, storePair, sheetsRow, orderOf, ordersRow, ordersOf, saftVRQMiePars, given};
 ghost use Rattle.mie_parameters.specs.Answer.{outcome};
 use limits::Component;
 use mie_parameters::ParameterAnswer;
@@ -193,8 +193,15 @@ fn sheets_row(
     i: usize,
     s: &mut [f64; SHEETS],
 ) -> ParameterAnswer
-    requires { ⌜ (n ≤ side) × (i < n) × (length (now sigma) ≡ n) × (length (now «epsilon_k») ≡ n) × (length (now lr) ≡ n) × (length (now la) ≡ n) × (length (now mass) ≡ n) × (length (now «k_ij») ≡ n * n) × (length (now «l_ij») ≡ n * n) ⌝ }
-    ensures { λ r. ⌜ outcome r (now (s .exit)) ≡ sheetsRow n (components (now (sigma .entry)) (now («epsilon_k» .entry)) (now (lr .entry)) (now (la .entry))) (at (now (mass .entry))) (square n (now («k_ij» .entry))) (square n (now («l_ij» .entry))) i (now (s .entry)) ⌝ }
+    requires { ⌜ (n ≤ side) × (i < n)
+        × (length (now sigma) ≡ n) × (length (now «epsilon_k») ≡ n) × (length (now lr) ≡ n) × (length (now la) ≡ n)
+        × (length (now mass) ≡ n) × (length (now «k_ij») ≡ n * n) × (length (now «l_ij») ≡ n * n) ⌝ }
+    ensures { λ r.
+        let c = components (now (sigma .entry)) (now («epsilon_k» .entry)) (now (lr .entry)) (now (la .entry)) in
+        let mass = at (now (mass .entry)) in
+        let k = square n (now («k_ij» .entry)) in
+        let l = square n (now («l_ij» .entry)) in
+        ⌜ outcome r (now (s .exit)) ≡ sheetsRow n c mass k l i (now (s .entry)) ⌝ }
 {
     let a = limits::component_at(sigma, epsilon_k, lr, la, i);
     for j in 0usize..n {
@@ -225,8 +232,15 @@ fn fill_sheets(
     l_ij: &[f64],
     s: &mut [f64; SHEETS],
 ) -> ParameterAnswer
-    requires { ⌜ (n ≤ side) × (length (now sigma) ≡ n) × (length (now «epsilon_k») ≡ n) × (length (now lr) ≡ n) × (length (now la) ≡ n) × (length (now mass) ≡ n) × (length (now «k_ij») ≡ n * n) × (length (now «l_ij») ≡ n * n) ⌝ }
-    ensures { λ r. ⌜ outcome r (now (s .exit)) ≡ walk n (sheetsRow n (components (now (sigma .entry)) (now («epsilon_k» .entry)) (now (lr .entry)) (now (la .entry))) (at (now (mass .entry))) (square n (now («k_ij» .entry))) (square n (now («l_ij» .entry)))) (now (s .entry)) ⌝ }
+    requires { ⌜ (n ≤ side)
+        × (length (now sigma) ≡ n) × (length (now «epsilon_k») ≡ n) × (length (now lr) ≡ n) × (length (now la) ≡ n)
+        × (length (now mass) ≡ n) × (length (now «k_ij») ≡ n * n) × (length (now «l_ij») ≡ n * n) ⌝ }
+    ensures { λ r.
+        let c = components (now (sigma .entry)) (now («epsilon_k» .entry)) (now (lr .entry)) (now (la .entry)) in
+        let mass = at (now (mass .entry)) in
+        let k = square n (now («k_ij» .entry)) in
+        let l = square n (now («l_ij» .entry)) in
+        ⌜ outcome r (now (s .exit)) ≡ walk n (sheetsRow n c mass k l) (now (s .entry)) ⌝ }
 {
     for i in 0usize..n {
         let answer = sheets_row(n, sigma, epsilon_k, lr, la, mass, k_ij, l_ij, i, s);
@@ -294,7 +308,20 @@ fn right_lengths(
     k_ij: &[f64],
     l_ij: &[f64],
 ) -> bool
-    ensures { λ r. ⌜ r ≡ rightLengths (record { count = count; m = now (m .entry); sigma = now (sigma .entry); epsilon-k = now («epsilon_k» .entry); lr = now (lr .entry); la = now (la .entry); mass = now (mass .entry); fh = now (fh .entry); k-ij = now («k_ij» .entry); l-ij = now («l_ij» .entry) }) ⌝ }
+    ensures { λ r.
+        let l : Lists = record {
+          count = count;
+          m = now (m .entry);
+          sigma = now (sigma .entry);
+          epsilon-k = now («epsilon_k» .entry);
+          lr = now (lr .entry);
+          la = now (la .entry);
+          mass = now (mass .entry);
+          fh = now (fh .entry);
+          k-ij = now («k_ij» .entry);
+          l-ij = now («l_ij» .entry);
+        } in
+        ⌜ r ≡ rightLengths l ⌝ }
 {
     if !limits::count_within(count) {
         return false;
@@ -322,8 +349,15 @@ fn within_limits(
     k_ij: &[f64],
     l_ij: &[f64],
 ) -> bool
-    requires { ⌜ (n ≤ side) × (length (now sigma) ≡ n) × (length (now «epsilon_k») ≡ n) × (length (now lr) ≡ n) × (length (now la) ≡ n) × (length (now mass) ≡ n) × (length (now «k_ij») ≡ n * n) × (length (now «l_ij») ≡ n * n) ⌝ }
-    ensures { λ r. ⌜ r ≡ withinLimits n (components (now (sigma .entry)) (now («epsilon_k» .entry)) (now (lr .entry)) (now (la .entry))) (at (now (mass .entry))) (square n (now («k_ij» .entry))) (square n (now («l_ij» .entry))) ⌝ }
+    requires { ⌜ (n ≤ side)
+        × (length (now sigma) ≡ n) × (length (now «epsilon_k») ≡ n) × (length (now lr) ≡ n) × (length (now la) ≡ n)
+        × (length (now mass) ≡ n) × (length (now «k_ij») ≡ n * n) × (length (now «l_ij») ≡ n * n) ⌝ }
+    ensures { λ r.
+        let c = components (now (sigma .entry)) (now («epsilon_k» .entry)) (now (lr .entry)) (now (la .entry)) in
+        let mass = at (now (mass .entry)) in
+        let k = square n (now («k_ij» .entry)) in
+        let l = square n (now («l_ij» .entry)) in
+        ⌜ r ≡ withinLimits n c mass k l ⌝ }
 {
     limits::components_within(n, sigma, epsilon_k, lr, la)
         & limits::masses_within(n, mass)
@@ -355,7 +389,20 @@ pub fn parameters(
     k_ij: &[f64],
     l_ij: &[f64],
 ) -> ParameterSet
-    ensures { λ r. ⌜ r ≡ given (saftVRQMiePars (record { count = count; m = now (m .entry); sigma = now (sigma .entry); epsilon-k = now («epsilon_k» .entry); lr = now (lr .entry); la = now (la .entry); mass = now (mass .entry); fh = now (fh .entry); k-ij = now («k_ij» .entry); l-ij = now («l_ij» .entry) })) ⌝ }
+    ensures { λ r.
+        let l : Lists = record {
+          count = count;
+          m = now (m .entry);
+          sigma = now (sigma .entry);
+          epsilon-k = now («epsilon_k» .entry);
+          lr = now (lr .entry);
+          la = now (la .entry);
+          mass = now (mass .entry);
+          fh = now (fh .entry);
+          k-ij = now («k_ij» .entry);
+          l-ij = now («l_ij» .entry);
+        } in
+        ⌜ r ≡ given (saftVRQMiePars l) ⌝ }
 {
     if !right_lengths(count, m, sigma, epsilon_k, lr, la, mass, fh, k_ij, l_ij) {
         return refused_with(1);

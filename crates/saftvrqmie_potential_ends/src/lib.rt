@@ -377,7 +377,10 @@ fn add_second(w: PairShared, r: Enclosure, v: PotentialEnclosures) -> PotentialE
 
 // What a radius ends with, at every order.
 fn finished(w: PairShared, v: PotentialEnclosures) -> PotentialEnclosuresAnswer
-    ensures { λ x. ⌜ (Sharing w → potentialAnswer x ≡ held (afterShared enclosures (calls enclosures port) (pairIn (w .pair)) (scaled enclosures (enclosures .mul (w .pair .c) (w .pair .«epsilon_k»)) (potentialIn v)))) ⌝ }
+    ensures { λ x.
+        let pre = enclosures .mul (w .pair .c) (w .pair .«epsilon_k») in
+        let u = scaled enclosures pre (potentialIn v) in
+        ⌜ (Sharing w → potentialAnswer x ≡ held (afterShared enclosures (calls enclosures port) (pairIn (w .pair)) u)) ⌝ }
 {
     PotentialEnclosuresAnswer::Value(after_shared(w, scaled_by(w.ce, v)))
 }

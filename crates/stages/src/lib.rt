@@ -2,6 +2,8 @@
 ghost use mathlib.Core.Path.{_≡_};
 ghost use Rattle.saftvrqmie_energies.specs.Energies.{energiesAnswer};
 ghost use Rattle.saftvrmie_energies.specs.Energies.{energyAnswer};
+ghost use Rattle.saftvrqmie_parameters.specs.Parameters as Quantum;
+ghost use Rattle.saftvrmie_parameters.specs.Parameters as Mie;
 ghost use Rattle.stages.specs.Stages.{quantumStage, mieEnergy, mieStage};
 use mie_parameters::ParameterAnswer;
 use saftvrmie_energies::EnergyAnswer;
@@ -28,7 +30,20 @@ pub fn quantum_stage(
     densities: &[f64],
     non_additive: bool,
 ) -> EnergiesAnswer
-    ensures { λ r. ⌜ energiesAnswer r ≡ quantumStage (record { count = count; m = now (m .entry); sigma = now (sigma .entry); epsilon-k = now («epsilon_k» .entry); lr = now (lr .entry); la = now (la .entry); mass = now (mass .entry); fh = now (order .entry); k-ij = now («k_ij» .entry); l-ij = now («l_ij» .entry) }) temperature (now (fractions .entry)) (now (densities .entry)) «non_additive» ⌝ }
+    ensures { λ r.
+        let l : Quantum.Lists = record {
+          count = count;
+          m = now (m .entry);
+          sigma = now (sigma .entry);
+          epsilon-k = now («epsilon_k» .entry);
+          lr = now (lr .entry);
+          la = now (la .entry);
+          mass = now (mass .entry);
+          fh = now (order .entry);
+          k-ij = now («k_ij» .entry);
+          l-ij = now («l_ij» .entry);
+        } in
+        ⌜ energiesAnswer r ≡ quantumStage l temperature (now (fractions .entry)) (now (densities .entry)) «non_additive» ⌝ }
 {
     let given = saftvrqmie_parameters::parameters(
         count,
@@ -101,7 +116,18 @@ pub fn mie_stage(
     densities: &[f64],
     chain: bool,
 ) -> EnergyAnswer
-    ensures { λ r. ⌜ energyAnswer r ≡ mieStage (record { count = count; m = now (m .entry); sigma = now (sigma .entry); epsilon-k = now («epsilon_k» .entry); lr = now (lr .entry); la = now (la .entry); k-ij = now («k_ij» .entry); gamma-ij = now («gamma_ij» .entry) }) temperature (now (fractions .entry)) (now (densities .entry)) chain ⌝ }
+    ensures { λ r.
+        let l : Mie.Lists = record {
+          count = count;
+          m = now (m .entry);
+          sigma = now (sigma .entry);
+          epsilon-k = now («epsilon_k» .entry);
+          lr = now (lr .entry);
+          la = now (la .entry);
+          k-ij = now («k_ij» .entry);
+          gamma-ij = now («gamma_ij» .entry);
+        } in
+        ⌜ energyAnswer r ≡ mieStage l temperature (now (fractions .entry)) (now (densities .entry)) chain ⌝ }
 {
     let given = saftvrmie_parameters::parameters(
         count,

@@ -1,0 +1,67 @@
+-- `saftvrqmie_energies::dispersion::third` meets its contract. Assumes nothing.
+use Rattle.saftvrqmie_energies.specs.Dispersion.{thirdRow, third}
+use Rattle.number.specs.Answer.{answer}
+use Rattle.number.specs.Arith.{floats, decimal}
+use lib.Ieee.{ofBits}
+use Rattle.elementary.specs.Port.{port}
+use Rattle.number.specs.Functions.{calls}
+use Prim.Native.Nat.{_≤_, _-_}
+use mathlib.Core.Path.{_≡_}
+use Rattle.number.specs.Walk.{walk}
+use Rattle.number.specs.Ans.{held}
+use Rattle.number.proofs.Walk.{via, walk-none, walk-next, walk-stop, walk-end}
+use Rattle.saftvrqmie_energies.specs.State.{points, sheetOf}
+use borrow.Author.Needs.{needs}
+use Rattle.saftvrqmie_energies.proofs.dispersion.third.Statement.{statement}
+use Rattle.saftvrqmie_energies.proofs.dispersion.third.Tie as tie
+
+abbrev Inv-loop : tie.InvT-loop
+Inv-loop n table xs w alphas a3₀ i₀ a3 i = (i ≤ n) × (held a3 ≡ walk i (thirdRow floats (calls floats port) n (sheetOf floats table 2) (points floats xs) (w .«zeta_bar») (points floats alphas)) a3₀)
+
+abbrev μ-loop : tie.MeasureT-loop
+μ-loop n table xs w alphas a3₀ i₀ a3 i = n - i
+
+loop-holds : tie.Need-loop-holds Inv-loop μ-loop
+loop-holds c = (search needs, walk-none _ _)
+
+third-row-requires : tie.Need-third-row-requires Inv-loop μ-loop
+third-row-requires c κs = search needs
+
+enum-known-next : tie.Need-enum-known-next Inv-loop μ-loop
+enum-known-next c = search needs
+
+enum-told : tie.Need-enum-told Inv-loop μ-loop
+enum-told c = search needs
+
+returns : tie.Need-returns Inv-loop μ-loop
+unfolding third decimal ofBits
+returns c = (walk-stop _ _ _ _ _ _ ((c .before .before .before .loop-test) .taken) ((c .before .before .before .before .loop) .inv .1) (via answer ((c .before .before .third-row) .ensures) ((c .enum-told) .given .1)))
+
+add-i : tie.Need-add-i Inv-loop μ-loop
+add-i c = search needs
+
+loop-less : tie.Need-loop-less Inv-loop μ-loop
+loop-less c = search needs
+
+loop-again : tie.Need-loop-again Inv-loop μ-loop
+loop-again c = (search needs, walk-next _ _ _ _ _ ((c .before .before .before .before .before .loop) .inv .1) (via answer ((c .before .before .before .third-row) .ensures) ((c .before .next) .given .1)))
+
+returns-2 : tie.Need-returns-2 Inv-loop μ-loop
+unfolding third decimal ofBits
+returns-2 c = walk-end _ _ _ _ _ ((c .before .loop) .inv .0) ((c .loop-test) .left) ((c .before .loop) .inv .1)
+
+pub third-spec : {M : Type 1} → statement M
+third-spec =
+    tie.close
+    (tie.spec
+    Inv-loop
+    μ-loop
+    loop-holds
+    third-row-requires
+    enum-known-next
+    enum-told
+    returns
+    add-i
+    loop-less
+    loop-again
+    returns-2)
