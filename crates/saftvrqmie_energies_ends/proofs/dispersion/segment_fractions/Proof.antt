@@ -5,6 +5,7 @@ use Rattle.enclosure.specs.Enclosure.{enclosures, mulE, point}
 use Rattle.number.specs.Walk.{turns}
 use Rattle.number.proofs.Walk.{turns-none, turns-next, turns-end}
 use Rattle.number.specs.Arith.{zero64}
+use Rattle.sizes.specs.Sizes.{side}
 use Rattle.mie_parameters.specs.Places.{inPlaces}
 use Rattle.saftvrqmie_energies.specs.State.{points}
 use Rattle.saftvrqmie_energies.specs.Dispersion.{segmentFractions}
@@ -14,7 +15,7 @@ use Rattle.saftvrqmie_energies_ends.proofs.dispersion.segment_fractions
 use Rattle.saftvrqmie_energies_ends.proofs.dispersion.segment_fractions.Tie as tie
 
 abbrev Inv-loop : tie.InvT-loop
-Inv-loop n x m inv xs₀ i₀ xs i = (i ≤ n) × (xs ≡ turns i (λ i l. set l i (mulE (mulE (points enclosures x i) (points enclosures m i)) inv)) (replicate 8 (point zero64)))
+Inv-loop n x m inv xs₀ i₀ xs i = (i ≤ n) × (xs ≡ turns i (λ i l. set l i (mulE (mulE (points enclosures x i) (points enclosures m i)) inv)) (replicate side (point zero64)))
 
 abbrev μ-loop : tie.MeasureT-loop
 μ-loop n x m inv xs₀ i₀ xs i = n - i

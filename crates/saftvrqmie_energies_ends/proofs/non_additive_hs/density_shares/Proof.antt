@@ -5,6 +5,7 @@ use Rattle.enclosure.specs.Enclosure.{enclosures, mulE, divE, point}
 use Rattle.number.specs.Walk.{turns}
 use Rattle.number.proofs.Walk.{turns-none, turns-next, turns-end}
 use Rattle.number.specs.Arith.{zero64}
+use Rattle.sizes.specs.Sizes.{side}
 use Rattle.mie_parameters.specs.Places.{inPlaces}
 use Rattle.saftvrqmie_energies.specs.State.{points}
 use Rattle.saftvrqmie_energies.specs.NonAdditive.{densityShares}
@@ -14,7 +15,7 @@ use Rattle.saftvrqmie_energies_ends.proofs.non_additive_hs.density_shar
 use Rattle.saftvrqmie_energies_ends.proofs.non_additive_hs.density_shares.Tie as tie
 
 abbrev Inv-loop : tie.InvT-loop
-Inv-loop n rho-s rho m x₀ i₀ x i = (i ≤ n) × (x ≡ turns i (λ i l. set l i (divE (mulE (points enclosures rho i) (points enclosures m i)) rho-s)) (replicate 8 (point zero64)))
+Inv-loop n rho-s rho m x₀ i₀ x i = (i ≤ n) × (x ≡ turns i (λ i l. set l i (divE (mulE (points enclosures rho i) (points enclosures m i)) rho-s)) (replicate side (point zero64)))
 
 abbrev μ-loop : tie.MeasureT-loop
 μ-loop n rho-s rho m x₀ i₀ x i = n - i
