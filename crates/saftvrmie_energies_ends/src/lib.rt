@@ -1,7 +1,7 @@
 // Helmholtz energies of SAFT-VR Mie on a set (saftvrmie/eos/dispersion.rs) in the two-ended run: dispersion, and dispersion with chain.
 ghost use mathlib.Core.Path.{_≡_};
 ghost use mathlib.Core.Bool.{false};
-ghost use Prim.Native.Nat.{_<_, _≤_};
+ghost use Prim.Native.Nat.{ℕ, _<_, _≤_};
 ghost use lib.ListN.{length};
 ghost use Rattle.number.specs.Arith.{decimal};
 ghost use Rattle.number.specs.Functions.{calls};
@@ -9,6 +9,10 @@ ghost use Rattle.sizes.specs.Sizes.{side};
 ghost use Rattle.elementary.specs.Port.{port};
 ghost use Rattle.enclosure.specs.Answer.{answer, ends};
 ghost use Rattle.enclosure.specs.Enclosure.{enclosures, divE, afterE, point};
+ghost use Rattle.enclosure.specs.declared.Enclosure.{Enclosure};
+ghost use Rattle.saftvrmie_parameters.specs.declared.SaftVRMiePars.{SaftVRMiePars};
+ghost use Rattle.saftvrmie_dispersion.specs.Terms.{PairIn};
+ghost use Rattle.saftvrmie_dispersion.specs.Chain.{LinkIn};
 ghost use Rattle.saftvrmie_dispersion.specs.Answer.{pairIn};
 ghost use Rattle.number.specs.Lists.{nth};
 ghost use Rattle.saftvrmie_energies.specs.Dispersion.{pairTurn, pairRow, dispRow, chainRow, dispRows, chainRows, dispersion, dispersionChain};
@@ -48,7 +52,11 @@ fn pair_turn(
     s: SumsEnclosures,
 ) -> SumsEnclosuresAnswer
     requires { ⌜ (i < side) × (j < side) × (i < length (now d)) × (j < length (now d)) ⌝ }
-    ensures { λ r. ⌜ sumsAnswer r ≡ pairTurn enclosures (calls enclosures port) (nth enclosures xs) (points (now (d .entry))) (pairs (now (sheets .entry))) (fluidIn w) (barIn bar) i j (sumsIn s) ⌝ }
+    ensures { λ r.
+        let xs = nth enclosures xs in
+        let d = points (now (d .entry)) in
+        let pair = pairs (now (sheets .entry)) in
+        ⌜ sumsAnswer r ≡ pairTurn enclosures (calls enclosures port) xs d pair (fluidIn w) (barIn bar) i j (sumsIn s) ⌝ }
 {
     let p = saftvrmie_energies::pair_at(sheets, i, j);
     let e = saftvrmie_properties_ends::d_ij(d, i, j);
@@ -72,7 +80,11 @@ fn pair_row(
     start: SumsEnclosures,
 ) -> SumsEnclosuresAnswer
     requires { ⌜ (n ≤ side) × (i < n) × (length (now d) ≡ n) ⌝ }
-    ensures { λ r. ⌜ sumsAnswer r ≡ pairRow enclosures (calls enclosures port) n (nth enclosures xs) (points (now (d .entry))) (pairs (now (sheets .entry))) (fluidIn w) (barIn bar) i (sumsIn start) ⌝ }
+    ensures { λ r.
+        let xs = nth enclosures xs in
+        let d = points (now (d .entry)) in
+        let pair = pairs (now (sheets .entry)) in
+        ⌜ sumsAnswer r ≡ pairRow enclosures (calls enclosures port) n xs d pair (fluidIn w) (barIn bar) i (sumsIn start) ⌝ }
 {
     let mut s = start;
     for k in 0usize..n - (i + 1) {
@@ -98,7 +110,11 @@ fn disp_row(
     s: SumsEnclosures,
 ) -> SumsEnclosuresAnswer
     requires { ⌜ (n ≤ side) × (i < n) × (length (now d) ≡ n) ⌝ }
-    ensures { λ r. ⌜ sumsAnswer r ≡ dispRow enclosures (calls enclosures port) n (nth enclosures xs) (points (now (d .entry))) (pairs (now (sheets .entry))) (fluidIn w) (barIn bar) (pairIn point p) i (sumsIn s) ⌝ }
+    ensures { λ r.
+        let xs = nth enclosures xs in
+        let d = points (now (d .entry)) in
+        let pair = pairs (now (sheets .entry)) in
+        ⌜ sumsAnswer r ≡ dispRow enclosures (calls enclosures port) n xs d pair (fluidIn w) (barIn bar) (pairIn point p) i (sumsIn s) ⌝ }
 {
     let e = enclosure::point(d[i]);
     let TermsEnclosuresAnswer::At(t) = saftvrmie_dispersion_ends::pair_terms(w, bar, p, e) else {
@@ -125,7 +141,11 @@ fn chain_row(
     s: SumsEnclosures,
 ) -> SumsEnclosuresAnswer
     requires { ⌜ (n ≤ side) × (i < n) × (length (now d) ≡ n) ⌝ }
-    ensures { λ r. ⌜ sumsAnswer r ≡ chainRow enclosures (calls enclosures port) n (nth enclosures xs) (points (now (d .entry))) (pairs (now (sheets .entry))) (fluidIn w) (barIn bar) (fluidDualIn v) (kIn k) (pairIn point p) (linkIn of) i (sumsIn s) ⌝ }
+    ensures { λ r.
+        let xs = nth enclosures xs in
+        let d = points (now (d .entry)) in
+        let pair = pairs (now (sheets .entry)) in
+        ⌜ sumsAnswer r ≡ chainRow enclosures (calls enclosures port) n xs d pair (fluidIn w) (barIn bar) (fluidDualIn v) (kIn k) (pairIn point p) (linkIn of) i (sumsIn s) ⌝ }
 {
     let e = enclosure::point(d[i]);
     let xi = saftvrmie_properties_ends::at_component(xs, i);
@@ -149,7 +169,12 @@ fn disp_rows(
     bar: BarEnclosures,
 ) -> SumsEnclosuresAnswer
     requires { ⌜ (n ≤ side) × (length (now d) ≡ n) ⌝ }
-    ensures { λ r. ⌜ sumsAnswer r ≡ dispRows enclosures (calls enclosures port) n (nth enclosures xs) (points (now (d .entry))) (pairs (now (sheets .entry))) (fluidIn w) (barIn bar) (λ i. pairIn point (pureAt (now (sigma .entry)) (now («epsilon_k» .entry)) (now (lr .entry)) (now (la .entry)) (now (sheets .entry)) i)) ⌝ }
+    ensures { λ r.
+        let xs = nth enclosures xs in
+        let d = points (now (d .entry)) in
+        let pair = pairs (now (sheets .entry)) in
+        let pure : ℕ → PairIn Enclosure = λ i. pairIn point (pureAt (now (sigma .entry)) (now («epsilon_k» .entry)) (now (lr .entry)) (now (la .entry)) (now (sheets .entry)) i) in
+        ⌜ sumsAnswer r ≡ dispRows enclosures (calls enclosures port) n xs d pair (fluidIn w) (barIn bar) pure ⌝ }
 {
     let zero = enclosure::point(0.0);
     let mut s = SumsEnclosures {
@@ -200,7 +225,13 @@ fn chain_rows(
     t_inv: Enclosure,
 ) -> SumsEnclosuresAnswer
     requires { ⌜ (n ≤ side) × (length (now x) ≡ n) × (length (now d) ≡ n) ⌝ }
-    ensures { λ r. ⌜ sumsAnswer r ≡ chainRows enclosures (calls enclosures port) n (nth enclosures xs) (points (now (d .entry))) (pairs (now (sheets .entry))) (fluidIn w) (barIn bar) (λ i. pairIn point (pureAt (now (sigma .entry)) (now («epsilon_k» .entry)) (now (lr .entry)) (now (la .entry)) (now (sheets .entry)) i)) (fluidDualIn v) (kIn k) (λ i. record { m = points (now (m .entry)) i; fraction = points (now (x .entry)) i; t-inv = «t_inv» }) ⌝ }
+    ensures { λ r.
+        let xs = nth enclosures xs in
+        let d = points (now (d .entry)) in
+        let pair = pairs (now (sheets .entry)) in
+        let pure : ℕ → PairIn Enclosure = λ i. pairIn point (pureAt (now (sigma .entry)) (now («epsilon_k» .entry)) (now (lr .entry)) (now (la .entry)) (now (sheets .entry)) i) in
+        let link : ℕ → LinkIn Enclosure = λ i. record { m = points (now (m .entry)) i; fraction = points (now (x .entry)) i; t-inv = «t_inv» } in
+        ⌜ sumsAnswer r ≡ chainRows enclosures (calls enclosures port) n xs d pair (fluidIn w) (barIn bar) pure (fluidDualIn v) (kIn k) link ⌝ }
 {
     let zero = enclosure::point(0.0);
     let mut s = SumsEnclosures {
@@ -253,7 +284,10 @@ fn helmholtz_energy_density_disp(
     d: &[f64],
 ) -> EnclosureAnswer
     requires { ⌜ (n ≤ side) × (length (now x) ≡ n) × (length (now rho) ≡ n) × (length (now d) ≡ n) ⌝ }
-    ensures { λ r. ⌜ answer r ≡ dispersion enclosures (calls enclosures port) n (stateIn point (record { count = n; m = now (m .entry); sigma = now (sigma .entry); «epsilon_k» = now («epsilon_k» .entry); lr = now (lr .entry); la = now (la .entry); sheets = now (sheets .entry) }) temperature (now (x .entry)) (now (rho .entry)) (now (d .entry))) ⌝ }
+    ensures { λ r.
+        let set : SaftVRMiePars =
+        record { count = n; m = now (m .entry); sigma = now (sigma .entry); «epsilon_k» = now («epsilon_k» .entry); lr = now (lr .entry); la = now (la .entry); sheets = now (sheets .entry) } in
+        ⌜ answer r ≡ dispersion enclosures (calls enclosures port) n (stateIn point set temperature (now (x .entry)) (now (rho .entry)) (now (d .entry))) ⌝ }
 {
     let mean = saftvrmie_properties_ends::weighted(n, x, m);
     let xs = saftvrmie_properties_ends::xs_of(n, x, m, mean);
@@ -294,7 +328,10 @@ fn helmholtz_energy_density_disp_chain(
     d: &[f64],
 ) -> EnclosureAnswer
     requires { ⌜ (n ≤ side) × (length (now x) ≡ n) × (length (now rho) ≡ n) × (length (now d) ≡ n) ⌝ }
-    ensures { λ r. ⌜ answer r ≡ dispersionChain enclosures (calls enclosures port) n (stateIn point (record { count = n; m = now (m .entry); sigma = now (sigma .entry); «epsilon_k» = now («epsilon_k» .entry); lr = now (lr .entry); la = now (la .entry); sheets = now (sheets .entry) }) temperature (now (x .entry)) (now (rho .entry)) (now (d .entry))) ⌝ }
+    ensures { λ r.
+        let set : SaftVRMiePars =
+        record { count = n; m = now (m .entry); sigma = now (sigma .entry); «epsilon_k» = now («epsilon_k» .entry); lr = now (lr .entry); la = now (la .entry); sheets = now (sheets .entry) } in
+        ⌜ answer r ≡ dispersionChain enclosures (calls enclosures port) n (stateIn point set temperature (now (x .entry)) (now (rho .entry)) (now (d .entry))) ⌝ }
 {
     let mean = saftvrmie_properties_ends::weighted(n, x, m);
     let xs = saftvrmie_properties_ends::xs_of(n, x, m, mean);
