@@ -24,8 +24,9 @@ use Rattle.number.proofs.Walk.{held-inj}
 use Rattle.number.proofs.Grid.{grid-le}
 use Rattle.number.proofs.Round.{round-value}
 use Rattle.elementary.specs.Port.{port}
-use Rattle.power.specs.Power.{exponentInside, exponentOf, powerOf, powfOf}
-use Rattle.binary_log.specs.BinaryLog.{baseInside, logOf}
+use Rattle.number.specs.Domain.{baseInside, exponentInside}
+use Rattle.power.specs.Power.{exponentOf, powerOf, powfOf}
+use Rattle.binary_log.specs.BinaryLog.{logOf}
 use Rattle.power.proofs.Corners.{base-one}
 use Rattle.saftvrqmie_dispersion_terms.specs.Terms.{ilambda, ilambdaOf}
 use Rattle.saftvrmie_dispersion.specs.Sutherland.{iOf}

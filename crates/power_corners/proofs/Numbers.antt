@@ -12,7 +12,7 @@ use Rattle.number.specs.Arith.{floats, bits, decimal, one64}
 use Rattle.number.specs.Functions.{calls, answered, answered₂}
 use Rattle.elementary.specs.Port.{port}
 use Rattle.root.specs.Root.{wholeRoot, positiveRoot, root}
-use Rattle.binary_log.specs.BinaryLog.{baseInside}
+use Rattle.number.specs.Domain.{baseInside}
 use Rattle.power.proofs.Corners.{exponent-one}
 use Rattle.mie_parameters.specs.Combine.{lambdaIj, cIj}
 use Rattle.saftvrmie_parameters.specs.Combine.{lrIj}

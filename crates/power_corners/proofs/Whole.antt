@@ -2,8 +2,7 @@
 use lib.Ieee.{Float}
 use lib.Ieee.Fits.{and-i}
 use Rattle.number.specs.Ans.{Ans}
-use Rattle.binary_log.specs.BinaryLog.{baseInside}
-use Rattle.power.specs.Power.{exponentInside}
+use Rattle.number.specs.Domain.{baseInside, exponentInside}
 use Rattle.elementary.specs.Promised.{PowfAt}
 use Rattle.elementary.proofs.Promised.{promised}
 use Rattle.power_corners.specs.Corners.{PowerAt, Slip3}

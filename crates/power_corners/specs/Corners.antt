@@ -16,8 +16,7 @@ use Rattle.number.specs.Lists.{at}
 use Rattle.sizes.specs.Sizes.{sheet, cell}
 use Rattle.series.specs.Exact.{PowerValue}
 use Rattle.series.specs.Distance.{within}
-use Rattle.binary_log.specs.BinaryLog.{baseInside}
-use Rattle.power.specs.Power.{exponentInside}
+use Rattle.number.specs.Domain.{baseInside, exponentInside}
 use Rattle.elementary.specs.Port.{port}
 use Rattle.limits.specs.Limits.{square}
 use Rattle.saftvrqmie_parameters.specs.Parameters as Quantum
