@@ -44,7 +44,7 @@ meets k (refused j) = eqb j k
 unfoldable pub falling : (Ans Bool → Bool) → ℕ → ℕ
 falling t n = howMany (λ l. t (orderWalk n l)) (ticked n)
 
--- the operation: 'for 1 to 12 components (else 1)'
+-- the operation: 'For 1 to 12 components (else 1)'
 unfoldable pub orderCounts : ℕ → Ans OrderCounts
 orderCounts n = demand 1 (countWithin n) >>= λ _. held (record { passing = falling passes n; «meeting_4» = falling (meets 4) n; «meeting_5» = falling (meets 5) n })
 
