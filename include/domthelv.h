@@ -74,6 +74,7 @@
 #define DOMTHELV_ENERGIES_ENDS 6 /* low and high end: 0, 1 hard sphere; 2, 3 dispersion; 4, 5 non-additive */
 #define DOMTHELV_ENDS 2          /* 0 low end, 1 high end */
 #define DOMTHELV_RADII 6         /* radius and last potential of the search for: 0, 1 sigma; 2, 3 zero; 4, 5 depth */
+#define DOMTHELV_ORDER_COUNTS 3  /* whole numbers: order lists that 0 pass the order walk, 1 meet 4, 2 meet 5 */
 #define DOMTHELV_RADII_COUNTS 3  /* bytes: evaluations of the search for 0 sigma, 1 zero, 2 depth; 1 to 19, or 20 if spent */
 
 /* Entry (i, j) of a sheet, in the sheets of a set, in a table and in counts. */
@@ -134,6 +135,10 @@ uint8_t domthelv_vrq_parameters(size_t count, const double *m, size_t m_len, con
     const double *mass, size_t mass_len, const uint8_t *order, size_t order_len, const double *k_ij, size_t k_ij_len,
     const double *l_ij, size_t l_ij_len, double *set_m, size_t set_m_len, double *set_sheets, size_t set_sheets_len,
     uint8_t *set_orders, size_t set_orders_len);
+
+/* How the order lists fall: of the 4^count lists of orders 0 to 3, how many pass the walk over the pairs, meet 4 and
+ * meet 5. out (3). 1: out's length, the count. */
+uint8_t domthelv_order_counts(size_t count, uint64_t *out, size_t out_len);
 
 /* Temperature table (sigma_eff, hs_diameter, epsilon_k_eff, quantum_d) and counts (searches for sigma, zero,
  * depth; 1 to 19, or 20 if spent). 1: the count, a list of the set or a lent list; 4: an order byte of a pair in use is

@@ -33,6 +33,10 @@ unsafe extern "C" {
         set_sheets: *mut f64, set_sheets_len: usize,
         set_orders: *mut u8, set_orders_len: usize,
     ) -> u8;
+    pub fn domthelv_order_counts(
+        count: usize,
+        out: *mut u64, out_len: usize,
+    ) -> u8;
     pub fn domthelv_vrq_table(
         count: usize,
         m: *const f64, m_len: usize,

@@ -204,6 +204,23 @@ pub fn quantum_record_m(m: f64) -> Result<(), Refusal> {
     given(unsafe { raw::domthelv_vrq_record_m(m) }, ())
 }
 
+/// How many lists of orders 0 to 3, one for each component, pass the walk over the pairs, meet [`Refusal::Order`] and meet [`Refusal::MixedOrders`].
+#[derive(Clone, Copy, Debug, PartialEq, Eq)]
+pub struct OrderCounts {
+    pub passing: u64,
+    pub order: u64,
+    pub mixed_orders: u64,
+}
+
+/// How the 4^count order lists fall, where all else is within limits.
+#[inline]
+pub fn quantum_order_counts(count: usize) -> Result<OrderCounts, Refusal> {
+    let mut out = [0; 3];
+    let number = unsafe { raw::domthelv_order_counts(count, out.as_mut_ptr(), out.len()) };
+    let [passing, order, mixed_orders] = out;
+    given(number, OrderCounts { passing, order, mixed_orders })
+}
+
 /// The set of some components.
 #[inline]
 pub fn quantum_parameters(c: &QuantumComponents) -> Result<QuantumSet, Refusal> {
@@ -539,6 +556,14 @@ mod tests {
         assert_eq!(set.energies_ends(&short, &table, true), Err(Refusal::Length));
         set.count = SIDE + 1;
         assert_eq!(set.table(30.0).unwrap_err(), Refusal::Length);
+    }
+
+    #[test]
+    fn the_order_lists_of_two_and_three_components_fall() {
+        assert_eq!(quantum_order_counts(2), Ok(OrderCounts { passing: 7, order: 7, mixed_orders: 2 }));
+        assert_eq!(quantum_order_counts(3), Ok(OrderCounts { passing: 15, order: 35, mixed_orders: 14 }));
+        assert_eq!(quantum_order_counts(0), Err(Refusal::Length));
+        assert_eq!(quantum_order_counts(SIDE + 1), Err(Refusal::Length));
     }
 
     #[test]

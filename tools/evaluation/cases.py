@@ -5,6 +5,7 @@ import re
 import struct
 from decimal import Decimal, localcontext
 from fractions import Fraction
+from itertools import product
 
 from . import chains, promises, specs
 from .library import same
@@ -227,6 +228,20 @@ class Cases:
             for e in (0, 1, SIDE, SIDE + 1):
                 yield compared(f"{crate}: lr, la and c at {e}", tuple(sheets[k * SIDE**2 + e] for k in places), (twelve, six, four))
 
+    # ---- how the order lists fall: each list walked here too, as the words of document 01 have it
+    def orders(self):
+        names = {"order_counts": ("ticked", "below4", "same"), "domthelv": ("orderCountsOut",)}
+        ticked, below4, alike, counts = (self.c.get(crate, "Counts" if crate == "order_counts" else "Operations", name) for crate in names for name in names[crate])
+        for n in range(1, 6 if self.whole else 5):
+            lists = tuple(product(range(4), repeat=n))
+            yield compared(f"the lists of {n} orders", tuple(sorted(ticked(n))), lists)
+            yield compared(f"{n} orders below 4", tuple(map(below4, lists)) + (below4(lists[0] + (4,)),), (True,) * len(lists) + (False,))
+            yield compared(f"{n} orders, each once", tuple(sum(alike(l, k) for k in ticked(n)) for l in lists[:64]), (1,) * len(lists[:64]))
+            fell = [fallen(l) for l in lists]
+            yield compared(f"how {n} orders fall", counts(n, (9, 9, 9)), ("held", tuple(map(fell.count, (0, 4, 5)))))
+        for n, out in ((0, (9, 9, 9)), (SIDE + 1, (9, 9, 9)), (2, (9, 9)), (2, (9, 9, 9, 9))):
+            yield compared(f"{n} orders, {len(out)} places", counts(n, out), ("refused", 1))
+
     # ---- slopes: the rules on fractions, at floats that are short, beside the derivative of a power, a product and a quotient
     def slopes(self):
         c = self.c
@@ -269,6 +284,16 @@ class Cases:
             for k in range(degree + 1):
                 error = abs(sum(b * a**k for a, b in zip(x, w)) - Fraction(2 * (k % 2 == 0), k + 1))
                 yield "quadrature", f"{crate}: the sum of x^{k} is {float(error)} away" if error > Fraction(1, 10**15) else None
+
+
+def fallen(orders):
+    """The number that the first pair met, row by row, gives; 0 if none does."""
+    for a, b in product(orders, repeat=2):
+        if max(a, b) > 2:
+            return 4
+        if {a, b} == {1, 2}:
+            return 5
+    return 0
 
 
 def neighbour(x, towards):
@@ -333,7 +358,7 @@ class Exact:
         return {"value": value, "fraction": exact.exact[1] if exact.exact[0] == "some" else None}
 
 
-SECTIONS = ["decimals", "tables", "elementary", "promises", "intervals", "table", "corners", "quadrature", "slopes", "mie_ends", "quantum_ends", "mie", "quantum", "mie_9_to_12", "quantum_9_to_12", "refusals", "stages", "exact", "believed"]
+SECTIONS = ["decimals", "tables", "elementary", "promises", "intervals", "table", "corners", "orders", "quadrature", "slopes", "mie_ends", "quantum_ends", "mie", "quantum", "mie_9_to_12", "quantum_9_to_12", "refusals", "stages", "exact", "believed"]
 
 
 def load(folder, texts, whole=False):

@@ -187,7 +187,7 @@ NATIVE = {
         "true": (0, "True"), "false": (0, "False"), "cond": (3, "({1} if {0} else {2})"), "not": (1, "(not {0})"),
         "_&&_": (2, "({0} and {1})"), "_||_": (2, "({0} or {1})"), "Bool·beq": (2, "({0} is {1})"),
     },
-    "mathlib.Core.List": {"[]": (0, "()"), "_∷_": (2, "(({0},) + {1})")},
+    "mathlib.Core.List": {"[]": (0, "()"), "_∷_": (2, "(({0},) + {1})"), "_++_": (2, "({0} + {1})"), "map": (2, "tuple(map({0}, {1}))")},
     "mathlib.Core.Option": {"none": (0, "('none',)"), "some": (1, "('some', {0})")},
     "mathlib.Core.Path": {"_≡_": (2, "same({0}, {1})")},
     "lib.Dec": {"T": (1, "{0}"), "eqb": (2, "({0} == {1})"), "leb": (2, "({0} <= {1})"), "ltb": (2, "({0} < {1})")},
@@ -214,7 +214,7 @@ FIXITY = {
     ("Prim.Native.Nat", "_+_"): ("infixl", 65), ("Prim.Native.Nat", "_-_"): ("infixl", 65), ("Prim.Native.Nat", "_*_"): ("infixl", 70),
     ("Prim.Native.Nat", "_/_"): ("infixl", 70), ("Prim.Native.Nat", "_%_"): ("infixl", 70), ("Prim.Native.Nat", "_^_"): ("infixr", 75),
     ("Prim.Native.Nat", "_≤_"): ("infix", 50), ("Prim.Native.Nat", "_<_"): ("infix", 50), ("mathlib.Core.Bool", "_&&_"): ("infixl", 35),
-    ("mathlib.Core.Bool", "_||_"): ("infixl", 30), ("mathlib.Core.List", "_∷_"): ("infixr", 67), ("mathlib.Core.Path", "_≡_"): ("infix", 4),
+    ("mathlib.Core.Bool", "_||_"): ("infixl", 30), ("mathlib.Core.List", "_∷_"): ("infixr", 67), ("mathlib.Core.List", "_++_"): ("infixl", 65), ("mathlib.Core.Path", "_≡_"): ("infix", 4),
 }
 # a constructor in a pattern: the test of a value, and its arguments
 PATTERN = {

@@ -15,6 +15,8 @@ CHANGED = [
     ("7 for 8", "saftvrqmie_energies_ends/specs/Operation", "demand 8 (allSound b)", "demand 7 (allSound b)", "quantum_ends"),
     ("a shorter series", "series/specs/Exact", "expSum t = sumF 30 (expTerm t)", "expSum t = sumF 20 (expTerm t)", "promises"),
     ("a test before another", "saftvrqmie_parameters/specs/Parameters", "    demand 3 (allOne (l .count) (at (l .m))) >>= λ _.\n    orderWalk (l .count) (l .fh) >>= λ _.\n", "    orderWalk (l .count) (l .fh) >>= λ _.\n    demand 3 (allOne (l .count) (at (l .m))) >>= λ _.\n", "table"),
+    ("an order that cannot be ticked", "order_counts/specs/Counts", "map (λ l. 3 ∷ l)", "map (λ l. 4 ∷ l)", "orders"),
+    ("a pair of orders that meets 4", "saftvrqmie_parameters/specs/Parameters", "demand 4 (leb (max a b) 2)", "demand 4 (leb a 2)", "orders"),
     ("a digit of a node", "saftvrqmie_searches/specs/Diameter", "below 995657163025808080735527280689003", "below 995657163025818080735527280689003", "quadrature"),
     ("a step of the wrong sign", "number/specs/Neighbour", "ofBits binary64 (stepDown (toBits binary64 (fin s m e)))", "ofBits binary64 (stepUp (toBits binary64 (fin s m e)))", "intervals"),
     ("a divisor that touches zero", "interval/specs/Interval", "(x .sound && y .sound && oneSign y)", "(x .sound && y .sound)", "intervals"),

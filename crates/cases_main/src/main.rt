@@ -326,6 +326,32 @@ fn vrq_stage(f: &[f64], b: &[u8], x: &mut [f64]) -> u8 {
     )
 }
 
+// A whole number as the float of its pattern, where the place is there.
+fn store_whole(l: &mut [f64], at: usize, n: u64) {
+    if at < l.len() {
+        l[at] = number::of_bits(n);
+    }
+}
+
+fn order_counts(f: &[f64], x: &mut [f64]) -> u8 {
+    let k = x.len();
+    if 4 < k {
+        return 255;
+    }
+    let mut out = [
+        whole_at(x, 0) as u64,
+        whole_at(x, 1) as u64,
+        whole_at(x, 2) as u64,
+        whole_at(x, 3) as u64,
+    ];
+    let n = domthelv::domthelv_order_counts(whole_at(f, 2), &mut out[0..k]);
+    store_whole(x, 0, out[0]);
+    store_whole(x, 1, out[1]);
+    store_whole(x, 2, out[2]);
+    store_whole(x, 3, out[3]);
+    n
+}
+
 fn quantum(f: &[f64], b: &[u8], x: &mut [f64], y: &mut [f64], z: &mut [u8]) -> u8 {
     let which = whole_at(f, 0);
     match which {
@@ -338,6 +364,7 @@ fn quantum(f: &[f64], b: &[u8], x: &mut [f64], y: &mut [f64], z: &mut [u8]) -> u
         22 => vrq_diameter_ends(f, b, x),
         23 => vrq_stage(f, b, x),
         24 => domthelv::domthelv_vrq_record_m(number_at(f, 6)),
+        25 => order_counts(f, x),
         _ => 255,
     }
 }

@@ -22,6 +22,8 @@ use Rattle.limits.specs.Limits.{indexWithin}
 use Rattle.saftvrqmie.specs.Table.{Lent, rightLists, temperatureTable, pairsOf}
 use Rattle.saftvrqmie.specs.Pairs as Pairs
 use Rattle.saftvrqmie.specs.Pairs.{SearchesIn, radiiIj}
+use Rattle.order_counts.specs.Counts.{orderCounts}
+use Rattle.order_counts.specs.declared.OrderCounts.{OrderCounts}
 use Rattle.saftvrqmie_energies.specs.Energies.{EnergiesIn, stateLengths, energies}
 use Rattle.elementary.specs.Port.{port}
 use Rattle.enclosure.specs.declared.Ends.{Ends}
@@ -34,7 +36,7 @@ use Rattle.saftvrmie_energies.specs.Energies.{energy}
 use Rattle.saftvrmie_energies_ends.specs.Operation.{dispersionEnds}
 use Rattle.saftvrmie_diameter_ends.specs.Operations as MieDiameter
 use Rattle.set_lists.specs.Sets.{QuantumLists, taken, quantumLengths, quantumSet, MieLists, mieLengths, mieRead, mieSet}
-use Rattle.domthelv.specs.Operations.{QuantumLent, MieLent, setWritten, vrqParameters, vrqTable, radiiLengths, radiiWritten, vrqRadii, energiesWritten, vrqEnergies, endsWritten, vrqEnergiesEnds, pairWritten, vrqDiameter, vrqDiameterEnds, vrqStage, mieWritten, vrParameters, vrDiameters, vrRadius, vrDiameter, vrDispersion, vrDispersionEnds, vrDiameterEnds}
+use Rattle.domthelv.specs.Operations.{QuantumLent, MieLent, countsWritten, orderCountsOut, setWritten, vrqParameters, vrqTable, radiiLengths, radiiWritten, vrqRadii, energiesWritten, vrqEnergies, endsWritten, vrqEnergiesEnds, pairWritten, vrqDiameter, vrqDiameterEnds, vrqStage, mieWritten, vrParameters, vrDiameters, vrRadius, vrDiameter, vrDispersion, vrDispersionEnds, vrDiameterEnds}
 
 -- an operation that gives a parameter answer and leaves its lists by `stored`
 pub through-status : {S : Type 0} (q p : Ans S) (a : ParameterAnswer) (r : ℕ) → q ≡ p → a ≡ verdict p → r ≡ numberOf a → r ≡ status q
@@ -66,6 +68,19 @@ radii-lengths l p =
     let a = eqb (length (l .values)) 6 in
     let b = eqb (length (l .numbers)) 3 in
     (eqb-true (length (l .values)) 6 (and-left a b p), eqb-true (length (l .numbers)) 3 (and-right a b p))
+
+module _ (n : ℕ) (l : List ℕ) where
+  pub counts-1 : eqb (length l) 3 ≡ false → orderCountsOut n l ≡ refused 1
+  unfolding orderCountsOut demand _>>=_
+  counts-1 p = rw p
+
+  pub counts-refused : (k : ℕ) → eqb (length l) 3 ≡ true → orderCounts n ≡ refused k → orderCountsOut n l ≡ refused k
+  unfolding orderCountsOut demand _>>=_
+  counts-refused k p q = rw (p, q)
+
+  pub counts-held : (c : OrderCounts) → eqb (length l) 3 ≡ true → orderCounts n ≡ held c → orderCountsOut n l ≡ held (countsWritten c l)
+  unfolding orderCountsOut demand _>>=_
+  counts-held c p q = rw (p, q)
 
 module _ (x : Quantum.Lists) (l : QuantumLent) where
   pub parameters-1 : quantumLengths (l .m) (l .sheets) (l .orders) ≡ false → vrqParameters x l ≡ refused 1

@@ -11,6 +11,8 @@ use Rattle.saftvrqmie_parameters.specs.Parameters as Quantum
 use Rattle.saftvrqmie_parameters.specs.declared.SaftVRQMiePars.{SaftVRQMiePars}
 use Rattle.saftvrmie_parameters.specs.Parameters as Mie
 use Rattle.saftvrmie_parameters.specs.declared.SaftVRMiePars.{SaftVRMiePars}
+use Rattle.order_counts.specs.Counts.{orderCounts}
+use Rattle.order_counts.specs.declared.OrderCounts.{OrderCounts}
 use Rattle.saftvrqmie_properties.specs.Properties.{radiusOf, lastOf}
 use Rattle.limits.specs.Limits.{indexWithin}
 use Rattle.saftvrqmie.specs.Table.{Lent, rightLists, temperatureTable}
@@ -29,6 +31,16 @@ use Rattle.saftvrmie_energies_ends.specs.Operation.{dispersionEnds}
 use Rattle.saftvrmie_diameter_ends.specs.Operations as MieDiameter
 use Rattle.set_lists.specs.Sets.{QuantumLists, quantumLengths, quantumSet, MieLists, mieLengths, mieSet}
 use Rattle.domthelv.specs.Sets.{placed, ordersWritten, listsWritten}
+
+-- how many order lists pass, meet 4, meet 5
+unfoldable pub countsWritten : OrderCounts → List ℕ → List ℕ
+countsWritten c l = set (set (set l 0 (c .passing)) 1 (c .«meeting_4»)) 2 (c .«meeting_5»)
+
+unfoldable pub orderCountsOut : ℕ → List ℕ → Ans (List ℕ)
+orderCountsOut n l =
+    demand 1 (eqb (length l) 3) >>= λ _.
+    orderCounts n >>= λ c.
+    held (countsWritten c l)
 
 -- the lists that a quantum set is written into
 pub record QuantumLent : Type 0 where

@@ -23,6 +23,7 @@ pub use crate::mie::domthelv_vr_dispersion;
 pub use crate::mie::domthelv_vr_parameters;
 pub use crate::mie::domthelv_vr_radius;
 pub use crate::mie::domthelv_vr_stage;
+pub use crate::quantum::domthelv_order_counts;
 pub use crate::quantum::domthelv_vrq_diameter;
 pub use crate::quantum::domthelv_vrq_energies;
 pub use crate::quantum::domthelv_vrq_parameters;

@@ -5,7 +5,7 @@ ghost use Rattle.sizes.specs.Sizes.{sheet};
 ghost use Rattle.mie_parameters.specs.Answer.{status, stored};
 ghost use Rattle.set_lists.specs.Sets.{QuantumLists};
 ghost use Rattle.domthelv.specs.Sets.{ordersWritten};
-ghost use Rattle.domthelv.specs.Operations.{QuantumLent, vrqParameters, vrqTable, radiiWritten, radiiLengths, vrqRadii, energiesWritten, vrqEnergies, vrqDiameter, vrqStage};
+ghost use Rattle.domthelv.specs.Operations.{QuantumLent, countsWritten, orderCountsOut, vrqParameters, vrqTable, radiiWritten, radiiLengths, vrqRadii, energiesWritten, vrqEnergies, vrqDiameter, vrqStage};
 ghost use Rattle.saftvrqmie_parameters.specs.Parameters as Quantum;
 ghost use Rattle.saftvrqmie_potential.specs.Potential.{orderNumber};
 ghost use Rattle.saftvrqmie.specs.Table.{Lent};
@@ -14,6 +14,8 @@ ghost use Rattle.saftvrqmie_energies.specs.Energies.{energiesIn};
 use crate::places;
 use mie_parameters::NumberAnswer;
 use mie_parameters::ParameterAnswer;
+use order_counts::CountsAnswer;
+use order_counts::OrderCounts;
 use saftvrqmie::PairSearches;
 use saftvrqmie::SearchesAnswer;
 use saftvrqmie_energies::EnergiesAnswer;
@@ -50,6 +52,35 @@ pub extern "C" fn domthelv_vrq_record_m(m: f64) -> u8
 {
     let answer = saftvrqmie_parameters::record_m(m);
     mie_parameters::number(answer)
+}
+
+fn write_counts(c: OrderCounts, out: &mut [u64])
+    requires { ⌜ length (now out) ≡ 3 ⌝ }
+    ensures { λ _. ⌜ now (out .exit) ≡ countsWritten c (now (out .entry)) ⌝ }
+{
+    out[0] = c.passing;
+    out[1] = c.meeting_4;
+    out[2] = c.meeting_5;
+}
+
+// Of all lists of orders 0 to 3, one for each component: how many pass the order walk, meet 4, meet 5. 1 for `out`, then for the count.
+#[no_mangle]
+pub extern "C" fn domthelv_order_counts(count: usize, out: &mut [u64]) -> u8
+    ensures { λ r.
+        let q = orderCountsOut count (now (out .entry)) in
+        ⌜ (r ≡ status q) × (now (out .exit) ≡ stored (now (out .entry)) q) ⌝ }
+{
+    if out.len() != 3 {
+        return 1;
+    }
+    let counted = order_counts::order_counts(count);
+    match counted {
+        CountsAnswer::Refused(n) => n,
+        CountsAnswer::Counts(c) => {
+            write_counts(c, out);
+            0
+        }
+    }
 }
 
 // Quantum parameters. 1, 2, 3, 4 or 5, 6.

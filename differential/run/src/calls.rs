@@ -94,6 +94,14 @@ impl Caller {
         Some(unsafe { f(m) })
     }
 
+    pub fn order_counts(&mut self, count: usize, out: usize) -> Option<u8> {
+        let f = port::ORDER_COUNTS?;
+        self.lent.clear();
+        let list: Vec<u64> = (0..out).map(|_| self.random.next()).collect();
+        let counts = self.lend(&list);
+        Some(unsafe { f(count, counts, out) })
+    }
+
     pub fn vrq_diameter(&mut self, s: &QuantumSet, i: usize, j: usize, t: f64, radii: [f64; 2]) -> Option<u8> {
         let f = port::VRQ_DIAMETER?;
         self.lent.clear();

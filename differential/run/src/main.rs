@@ -12,6 +12,7 @@ mod exact;
 mod fuzz;
 mod lent;
 mod oracle;
+mod orders;
 mod port;
 mod random;
 mod selfcheck;
@@ -60,6 +61,7 @@ fn main() {
     });
     part("elementary functions", &mut |t| elementary::run(50 * count, seed, t));
     part("operations", &mut |t| compare::run(count, seed, option("--only"), t));
+    part("order lists", &mut |t| orders::run(seed, t));
     part("exact run", &mut |t| exact::run(option("--exact").unwrap_or(count / 100), seed, t));
     part("arbitrary bits", &mut |t| fuzz::run(option("--fuzz").unwrap_or(count / 4), seed, t));
     tally.print("answers met");

@@ -246,6 +246,36 @@ pub fn vrq_parameters(l: &Lists, out: [usize; 3]) -> Result<QuantumSet, u8> {
     Ok(QuantumSet { count: n, m: in_places(&l.m), sheets: sheets.to_vec(), orders: orders.to_vec() })
 }
 
+/// How many of the lists of orders 0 to 3 pass, meet 4, meet 5: each list goes through the Rust, all else within limits.
+pub fn order_counts(count: usize, out: usize) -> Result<[u64; 3], u8> {
+    lengths(count_right(count) && out == 3)?;
+    let each = |x: f64| vec![x; count];
+    let pairs = vec![0.0; count * count];
+    let mut l = Lists {
+        count,
+        m: each(1.0),
+        sigma: each(3.0),
+        epsilon_k: each(30.0),
+        lr: each(12.0),
+        la: each(6.0),
+        mass: each(3e-27),
+        order: vec![0; count],
+        k_ij: pairs.clone(),
+        l_ij: pairs,
+    };
+    let mut counts = [0; 3];
+    for ticked in 0..4u32.pow(count as u32) {
+        l.order = (0..count).map(|k| (ticked >> (2 * k) & 3) as u8).collect();
+        match vrq_parameters(&l, QUANTUM_SET) {
+            Ok(_) => counts[0] += 1,
+            Err(4) => counts[1] += 1,
+            Err(5) => counts[2] += 1,
+            Err(n) => panic!("the orders {:?} meet {n}", l.order),
+        }
+    }
+    Ok(counts)
+}
+
 /// Evaluations of a search that has just run, its last radius before a step, and whether it was found.
 fn searched(order: u8) -> (u8, f64, bool) {
     let per_evaluation = 12 * (1 + order as usize);

@@ -5,6 +5,7 @@ type In = *const f64;
 type Out = *mut f64;
 type BytesIn = *const u8;
 type BytesOut = *mut u8;
+type WholesOut = *mut u64;
 type Len = usize;
 
 /// The energies and their ends are called alike.
@@ -40,6 +41,8 @@ boundary! {
     TANH = domthelv_tanh(f64, Out);
     POWF = domthelv_powf(f64, f64, Out);
     VRQ_RECORD_M = domthelv_vrq_record_m(f64);
+    // count; out: how many pass, meet 4, meet 5
+    ORDER_COUNTS = domthelv_order_counts(usize, WholesOut, Len);
     // count, m, sigma, epsilon_k, lr, la, mass, order, k_ij, l_ij; set_m, set_sheets, set_orders
     VRQ_PARAMETERS = domthelv_vrq_parameters(
         usize, In, Len, In, Len, In, Len, In, Len, In, Len, In, Len, BytesIn, Len, In, Len, In, Len,

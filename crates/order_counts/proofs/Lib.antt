@@ -1,0 +1,5 @@
+pub mod Walked
+pub mod Tally
+pub mod Laws
+pub mod Rows
+pub mod Ticked
