@@ -162,7 +162,8 @@ impl Quantum {
         r.number = answer.as_ref().err().copied().unwrap_or(0) as u64;
         let held = answer.is_ok();
         self.set = answer.unwrap_or_else(|_| Quantum::new().set);
-        r.answers = vec![hash(&[filled_lists(&self.set.m), filled(SET, &all_bits(&self.set.sheets)), filled(ORDERS, &wide(&self.set.orders))])];
+        r.answers =
+            vec![hash(&[filled_lists(&self.set.m), filled(SET, &all_bits(&self.set.sheets)), filled(ORDERS, &wide(&self.set.orders))])];
         self.file.call(QUANTUM[0], r);
         held
     }
