@@ -71,6 +71,7 @@
 
 /* Lengths of `out`, and what stands at each place. */
 #define DOMTHELV_ENERGIES 3      /* 0 hard sphere, 1 dispersion, 2 non-additive (+0 where not wanted) */
+#define DOMTHELV_TOTAL 4         /* 0 hard sphere and dispersion, 1 its remainder; 2 that and non-additive, 3 its remainder */
 #define DOMTHELV_ENERGIES_ENDS 6 /* low and high end: 0, 1 hard sphere; 2, 3 dispersion; 4, 5 non-additive */
 #define DOMTHELV_ENDS 2          /* 0 low end, 1 high end */
 #define DOMTHELV_RADII 6         /* radius and last potential of the search for: 0, 1 sigma; 2, 3 zero; 4, 5 depth */
@@ -161,7 +162,16 @@ uint8_t domthelv_vrq_energies(size_t count, const double *m, size_t m_len, const
     const double *densities, size_t densities_len, const double *table, size_t table_len, bool non_additive,
     double *out, size_t out_len);
 
-/* Two ends of the energies. out (6): low and high end of each of the three (+0, +0 where not wanted). Refusals as above,
+/* The energies as one number. out (4): the sum of hard sphere and dispersion and its remainder, then the sum of that and
+ * the non-additive part and its remainder (where not wanted: the first sum again and +0). A sum and its remainder are
+ * together exact; no remainder is +0. 1: the count, a list of the set, fractions, densities, table or out; 4: an order;
+ * 2: temperature, a fraction or a density not 0 to 1; 6; 7: a contribution or a sum is not finite. */
+uint8_t domthelv_vrq_total(size_t count, const double *m, size_t m_len, const double *sheets, size_t sheets_len,
+    const uint8_t *orders, size_t orders_len, double temperature, const double *fractions, size_t fractions_len,
+    const double *densities, size_t densities_len, const double *table, size_t table_len, bool non_additive,
+    double *out, size_t out_len);
+
+/* Two ends of the energies. out (6): low and high end of each of the three (+0, +0 where not wanted). Refusals as of the energies,
  * then 8: at an operation on the way a divisor's ends enclose or touch zero, or an end is not finite. */
 uint8_t domthelv_vrq_energies_ends(size_t count, const double *m, size_t m_len, const double *sheets, size_t sheets_len,
     const uint8_t *orders, size_t orders_len, double temperature, const double *fractions, size_t fractions_len,

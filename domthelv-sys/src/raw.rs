@@ -68,6 +68,18 @@ unsafe extern "C" {
         non_additive: bool,
         out: *mut f64, out_len: usize,
     ) -> u8;
+    pub fn domthelv_vrq_total(
+        count: usize,
+        m: *const f64, m_len: usize,
+        sheets: *const f64, sheets_len: usize,
+        orders: *const u8, orders_len: usize,
+        temperature: f64,
+        fractions: *const f64, fractions_len: usize,
+        densities: *const f64, densities_len: usize,
+        table: *const f64, table_len: usize,
+        non_additive: bool,
+        out: *mut f64, out_len: usize,
+    ) -> u8;
     pub fn domthelv_vrq_energies_ends(
         count: usize,
         m: *const f64, m_len: usize,

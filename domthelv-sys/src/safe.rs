@@ -182,6 +182,23 @@ pub struct Energies {
     pub non_additive: f64,
 }
 
+/// A rounded sum and what the rounding left; together they are exact.
+#[derive(Clone, Copy, Debug, PartialEq)]
+pub struct RoundedSum {
+    pub sum: f64,
+    /// +0 where nothing is left.
+    pub remainder: f64,
+}
+
+/// The energies as one number.
+#[derive(Clone, Copy, Debug, PartialEq)]
+pub struct Total {
+    /// Hard sphere and dispersion.
+    pub first: RoundedSum,
+    /// That and the non-additive part; where it was not wanted, the first sum and +0.
+    pub last: RoundedSum,
+}
+
 /// Two ends that enclose the float result and the exact one.
 #[derive(Clone, Copy, Debug, PartialEq)]
 pub struct Ends {
@@ -295,6 +312,22 @@ impl QuantumSet {
             )
         };
         given(number, Energies { hard_sphere: out[0], dispersion: out[1], non_additive: out[2] })
+    }
+
+    /// The energies as one number, with what each rounded sum left.
+    #[inline]
+    pub fn total(&self, s: &State, table: &[f64], non_additive: bool) -> Result<Total, Refusal> {
+        let mut out = [0.0; 4];
+        #[rustfmt::skip]
+        let number = unsafe {
+            raw::domthelv_vrq_total(
+                self.count, self.m.as_ptr(), SIDE, self.sheets.as_ptr(), SHEETS, self.orders.as_ptr(), SHEET, s.temperature,
+                s.fractions.as_ptr(), s.fractions.len(), s.densities.as_ptr(), s.densities.len(), table.as_ptr(), table.len(),
+                non_additive, out.as_mut_ptr(), 4,
+            )
+        };
+        let at = |k: usize| RoundedSum { sum: out[2 * k], remainder: out[2 * k + 1] };
+        given(number, Total { first: at(0), last: at(1) })
     }
 
     /// Two ends of the energies.

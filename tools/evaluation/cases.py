@@ -131,6 +131,22 @@ class Cases:
         sound = x.sound and y.sound and math.isfinite(low) and math.isfinite(high)
         return self.c.record(lower=low, upper=high, sound=sound and (name != "div" or y.lower > 0 or y.upper < 0))
 
+    # ---- rounded sums with what they leave, and the total of three contributions: Python's sum, and its error by fractions
+    def sums(self):
+        rounded, total = self.c.get("rounded_sum", "RoundedSum", "roundedSum"), self.c.get("saftvrqmie_total", "Total", "contributionsTotal")
+        g = Random(0x5)
+        for k in range(1000):
+            x, y, z = (g.float() for _ in range(3))
+            yield compared(f"the rounded sum of {x!r} and {y!r}", rounded(x, y), self.summed(*chains.summed(x, y)))
+            for wanted in (False, True):
+                said, values = chains.totalled(("held", (x, y, z)), wanted)
+                expected = (said, self.c.record(first=self.summed(*values[:2]), last=self.summed(*values[2:])) if said == "held" else values)
+                contributions = self.c.record(**{"hard-sphere": x, "dispersion": y, "non-additive": z})
+                yield compared(f"the total of {x!r}, {y!r}, {z!r}, {wanted}", total(contributions, wanted), expected)
+
+    def summed(self, s, left):
+        return self.c.record(sum=s, remainder=left)
+
     # ---- the operations: chains of docs/VECTORS.md
     def run(self, path, model, every):
         for k, chain in enumerate(chains.chains(self.path(path))):
@@ -269,7 +285,7 @@ class Cases:
     # ---- that nothing was left out: what the boundary, demand 3, the table, Slip 3 and the promises use was evaluated, but for statements about all values
     def believed(self):
         c = self.c
-        files = [c.file(*f) for f in (("domthelv", "Operations"), ("domthelv", "Sets"), ("demand_three", "Demand"), ("proved_table", "Table"), ("power_corners", "Corners"), ("elementary", "Promised"), ("elementary", "Port"))]
+        files = [c.file(*f) for f in (("domthelv", "Operations"), ("domthelv", "Total"), ("domthelv", "Sets"), ("demand_three", "Demand"), ("proved_table", "Table"), ("power_corners", "Corners"), ("elementary", "Promised"), ("elementary", "Port"))]
         for d in sorted((d for d in c.used_by(files) if isinstance(d, Definition)), key=lambda d: d.python):
             name = f"{d.file.name}.{d.name}"
             if not (d.is_type and c.states_of_all(d)):
@@ -358,7 +374,7 @@ class Exact:
         return {"value": value, "fraction": exact.exact[1] if exact.exact[0] == "some" else None}
 
 
-SECTIONS = ["decimals", "tables", "elementary", "promises", "intervals", "table", "corners", "orders", "quadrature", "slopes", "mie_ends", "quantum_ends", "mie", "quantum", "mie_9_to_12", "quantum_9_to_12", "refusals", "stages", "exact", "believed"]
+SECTIONS = ["decimals", "tables", "elementary", "promises", "intervals", "table", "corners", "orders", "quadrature", "slopes", "mie_ends", "quantum_ends", "mie", "quantum", "mie_9_to_12", "quantum_9_to_12", "refusals", "stages", "exact", "sums", "believed"]
 
 
 def load(folder, texts, whole=False):

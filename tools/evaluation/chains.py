@@ -1,5 +1,7 @@
 """Chains of calls from a file of docs/VECTORS.md, each call worked by the definitions and held to the file's answer."""
+import math
 import struct
+from fractions import Fraction
 
 from .library import of_bits, same, to_bits
 from .sizes import COUNTS, LISTS, SHEET, SHEETS, SIDE, TABLE
@@ -153,7 +155,15 @@ class Quantum:
             a = self.at("vrqRadii", *call.lengths[:2], t, self.c.record(values=OUT[:6], numbers=(7,) * 3))
             return refusal(a), patterns(a[1].values) + list(a[1].numbers) if a[0] == "held" else []
         name, out = {3: ("vrqEnergies", OUT[:3]), 7: ("vrqEnergiesEnds", OUT[:6])}[call.what]
-        return told(self.at(name, t, *map(floats, call.cut(2)), self.table[:lent(call.lengths[2], TABLE)], call.flag == 1, out))
+        handed = (t, *map(floats, call.cut(2)), self.table[:lent(call.lengths[2], TABLE)], call.flag == 1)
+        a = self.at(name, *handed, out)
+        if call.what == 3 and not same(self.total(*handed), totalled(a, call.flag == 1)):
+            return None, []
+        return told(a)
+
+    def total(self, *handed):
+        s = self.c.record(count=self.count, m=self.m, sheets=self.sheets, orders=self.orders)
+        return self.c.get("domthelv", "Total", "vrqTotal")(s, *handed, OUT[:4])
 
     def parameters(self, lists):
         a = self.c.get("saftvrqmie_parameters", "Parameters", "saftVRQMiePars")(lists)
@@ -245,6 +255,21 @@ def operation(c, name):
 def boundary(c, name, lists, more):
     takes = len(c.definition_of("domthelv", "Operations", name).domains) - len(more)
     return operation(c, name)(*([c.record(**lists)] if takes == 1 else lists.values()), *more)
+
+
+# a sum and what it leaves, by fractions; of energies that were given, the two sums as the boundary writes them
+def summed(x, y):
+    s = x + y
+    return s, float(Fraction(x) + Fraction(y) - Fraction(s)) if math.isfinite(s) else 0.0
+
+
+def totalled(energies, wanted):
+    if energies[0] != "held":
+        return energies
+    h, d, a = energies[1]
+    first = summed(h, d)
+    last = summed(first[0], a) if wanted else (first[0], 0.0)
+    return ("held", (*first, *last)) if math.isfinite(first[0]) and math.isfinite(last[0]) else ("refused", 7)
 
 
 def refusal(a):

@@ -258,6 +258,21 @@ fn vrq_energies(f: &[f64], b: &[u8], x: &mut [f64]) -> u8 {
     )
 }
 
+fn vrq_total(f: &[f64], b: &[u8], x: &mut [f64]) -> u8 {
+    domthelv::domthelv_vrq_total(
+        whole_at(f, 2),
+        list(f, 9),
+        list(f, 21),
+        bytes(b, 16, whole_at(f, 24)),
+        number_at(f, 5),
+        list(f, 17),
+        list(f, 18),
+        list(f, 22),
+        whole_at(f, 8) == 1,
+        x,
+    )
+}
+
 fn vrq_energies_ends(f: &[f64], b: &[u8], x: &mut [f64]) -> u8 {
     domthelv::domthelv_vrq_energies_ends(
         whole_at(f, 2),
@@ -365,6 +380,7 @@ fn quantum(f: &[f64], b: &[u8], x: &mut [f64], y: &mut [f64], z: &mut [u8]) -> u
         23 => vrq_stage(f, b, x),
         24 => domthelv::domthelv_vrq_record_m(number_at(f, 6)),
         25 => order_counts(f, x),
+        26 => vrq_total(f, b, x),
         _ => 255,
     }
 }
@@ -503,6 +519,11 @@ fn mie(f: &[f64], x: &mut [f64], y: &mut [f64]) -> u8 {
 
 // ---- numbers
 
+fn remainder(x: f64, y: f64) -> f64 {
+    let r = rounded_sum::rounded_sum(x, y);
+    r.remainder
+}
+
 // What cannot be refused.
 fn plain(f: &[f64], x: &mut [f64]) -> u8 {
     let which = whole_at(f, 0);
@@ -516,6 +537,7 @@ fn plain(f: &[f64], x: &mut [f64]) -> u8 {
         5 => number::least(a, b),
         6 => number::greatest(a, b),
         7 => number::abs(a),
+        8 => remainder(a, b),
         _ => a,
     };
     store(x, r);

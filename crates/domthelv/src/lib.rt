@@ -31,3 +31,4 @@ pub use crate::quantum::domthelv_vrq_radii;
 pub use crate::quantum::domthelv_vrq_record_m;
 pub use crate::quantum::domthelv_vrq_stage;
 pub use crate::quantum::domthelv_vrq_table;
+pub use crate::quantum::domthelv_vrq_total;

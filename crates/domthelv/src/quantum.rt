@@ -6,11 +6,13 @@ ghost use Rattle.mie_parameters.specs.Answer.{status, stored};
 ghost use Rattle.set_lists.specs.Sets.{QuantumLists};
 ghost use Rattle.domthelv.specs.Sets.{ordersWritten};
 ghost use Rattle.domthelv.specs.Operations.{QuantumLent, countsWritten, orderCountsOut, vrqParameters, vrqTable, radiiWritten, radiiLengths, vrqRadii, energiesWritten, vrqEnergies, vrqDiameter, vrqStage};
+ghost use Rattle.domthelv.specs.Total.{totalWritten, totalStored, vrqTotal};
 ghost use Rattle.saftvrqmie_parameters.specs.Parameters as Quantum;
 ghost use Rattle.saftvrqmie_potential.specs.Potential.{orderNumber};
 ghost use Rattle.saftvrqmie.specs.Table.{Lent};
 ghost use Rattle.saftvrqmie.specs.Pairs.{searchesIn};
 ghost use Rattle.saftvrqmie_energies.specs.Energies.{energiesIn};
+ghost use Rattle.saftvrqmie_total.specs.Total.{totalAnswer};
 use crate::places;
 use mie_parameters::NumberAnswer;
 use mie_parameters::ParameterAnswer;
@@ -22,6 +24,8 @@ use saftvrqmie_energies::EnergiesAnswer;
 use saftvrqmie_energies::QuantumEnergies;
 use saftvrqmie_parameters::FeynmanHibbsOrder;
 use saftvrqmie_parameters::OrderRecord;
+use saftvrqmie_total::QuantumTotal;
+use saftvrqmie_total::TotalAnswer;
 use sizes::SHEET;
 
 fn order_byte(order: FeynmanHibbsOrder) -> u8
@@ -292,6 +296,83 @@ pub extern "C" fn domthelv_vrq_energies(
         EnergiesAnswer::Energies(e) => {
             write_energies(e, out);
             0
+        }
+    }
+}
+
+fn write_total(w: QuantumTotal, out: &mut [f64])
+    requires { ⌜ length (now out) ≡ 4 ⌝ }
+    ensures { λ _. ⌜ now (out .exit) ≡ totalWritten w (now (out .entry)) ⌝ }
+{
+    let first = w.first;
+    let last = w.last;
+    out[0] = first.sum;
+    out[1] = first.remainder;
+    out[2] = last.sum;
+    out[3] = last.remainder;
+}
+
+fn deliver_total(a: TotalAnswer, out: &mut [f64]) -> u8
+    requires { ⌜ length (now out) ≡ 4 ⌝ }
+    ensures { λ r.
+        let q = totalStored (totalAnswer a) (now (out .entry)) in
+        ⌜ (r ≡ status q) × (now (out .exit) ≡ stored (now (out .entry)) q) ⌝ }
+{
+    match a {
+        TotalAnswer::Refused(n) => n,
+        TotalAnswer::Total(w) => {
+            write_total(w, out);
+            0
+        }
+    }
+}
+
+// Quantum energies as one number: the sum of hard sphere and dispersion and its remainder, then that sum with the non-additive part and its remainder (where not wanted, the first sum again and +0). 1, 4, then 2, 6, 7.
+#[no_mangle]
+pub extern "C" fn domthelv_vrq_total(
+    count: usize,
+    m: &[f64],
+    sheets: &[f64],
+    orders: &[u8],
+    temperature: f64,
+    fractions: &[f64],
+    densities: &[f64],
+    table: &[f64],
+    non_additive: bool,
+    out: &mut [f64],
+) -> u8
+    ensures { λ r.
+        let s : QuantumLists = record { count = count; m = now (m .entry); sheets = now (sheets .entry); orders = now (orders .entry) } in
+        let q = vrqTotal s temperature (now (fractions .entry)) (now (densities .entry)) (now (table .entry)) «non_additive» (now (out .entry)) in
+        ⌜ (r ≡ status q) × (now (out .exit) ≡ stored (now (out .entry)) q) ⌝ }
+{
+    if out.len() != 4 {
+        return 1;
+    }
+    let right = saftvrqmie_energies::right_lengths(count, fractions, densities, table);
+    let read = set_lists::quantum_answer(count, m, sheets, orders, right);
+    let ParameterAnswer::Held = read else {
+        return mie_parameters::number(read);
+    };
+    let places = set_lists::places(m, 0);
+    let flat = set_lists::flat(sheets);
+    let records = set_lists::order_records(orders);
+    let worked = saftvrqmie_energies::energies_of(
+        count,
+        &places,
+        &flat,
+        records,
+        temperature,
+        fractions,
+        densities,
+        table,
+        non_additive,
+    );
+    match worked {
+        EnergiesAnswer::Refused(n) => n,
+        EnergiesAnswer::Energies(e) => {
+            let total = saftvrqmie_total::contributions_total(e, non_additive);
+            deliver_total(total, out)
         }
     }
 }

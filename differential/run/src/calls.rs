@@ -84,6 +84,10 @@ impl Caller {
         })
     }
 
+    pub fn vrq_total(&mut self, s: &QuantumSet, st: &State, table: &[f64], non_additive: bool, out: usize) -> Option<u8> {
+        self.vrq_energies_by(port::VRQ_TOTAL?, s, st, table, non_additive, out)
+    }
+
     pub fn vrq_energies_ends(&mut self, s: &QuantumSet, st: &State, table: &[f64], non_additive: bool, out: usize) -> Option<u8> {
         self.vrq_energies_by(port::VRQ_ENERGIES_ENDS?, s, st, table, non_additive, out)
     }

@@ -158,6 +158,11 @@ fn quantum(g: &mut Random, case: u64, c: &mut Caller, tally: &mut Tally, tell_al
     if let Some(number) = c.vrq_energies(&set, &state, &table, non_additive, out) {
         judge(tally, "vrq_energies", case, c, 1, number, &expected, |e| floats("energies", &c.lent.out(0), e));
     }
+    let out = length(g, 4);
+    let expected = oracle::vrq_total(&set, &state, &table, non_additive, out);
+    if let Some(number) = c.vrq_total(&set, &state, &table, non_additive, out) {
+        judge(tally, "vrq_total", case, c, 1, number, &expected, |e| floats("total", &c.lent.out(0), e));
+    }
     let float = oracle::vrq_energies(&set, &state, &table, non_additive, 3);
     two_runs(tally, case, float.map(|e| e.to_vec()), oracle::vrq_energies_ends(&set, &state, &table, non_additive, 6));
     let out = length(g, 6);

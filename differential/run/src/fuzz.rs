@@ -106,6 +106,11 @@ fn quantum(g: &mut Random, case: u64, c: &mut Caller, tally: &mut Tally) {
     if let Some(number) = c.vrq_energies(&set, &s, &table, wanted, out) {
         judge(tally, "fuzz vrq_energies", case, c, 1, number, &expected, |e| floats("energies", &c.lent.out(0), e));
     }
+    let out = if g.once_in(25) { g.below(7) } else { 4 };
+    let expected = oracle::vrq_total(&set, &s, &table, wanted, out);
+    if let Some(number) = c.vrq_total(&set, &s, &table, wanted, out) {
+        judge(tally, "fuzz vrq_total", case, c, 1, number, &expected, |e| floats("total", &c.lent.out(0), e));
+    }
     let out = if g.once_in(25) { g.below(9) } else { 6 };
     if let Some(number) = c.vrq_energies_ends(&set, &s, &table, wanted, out) {
         let expected = oracle::vrq_energies_ends(&set, &s, &table, wanted, out);

@@ -348,6 +348,27 @@ pub fn vrq_energies(s: &QuantumSet, st: &State, table: &[f64], non_additive: boo
     Ok(energies)
 }
 
+/// A sum and what its rounding left, by Knuth's six operations. They overflow near the largest float, and are done on halves there.
+fn with_remainder(x: f64, y: f64) -> [f64; 2] {
+    let left = |x: f64, y: f64| {
+        let s = x + y;
+        let b = s - x;
+        (x - (s - b)) + (y - b)
+    };
+    let r = left(x, y);
+    [x + y, if r.is_finite() { r } else { 2.0 * left(x / 2.0, y / 2.0) } + 0.0]
+}
+
+/// The energies as one number: two sums, each with its remainder.
+pub fn vrq_total(s: &QuantumSet, st: &State, table: &[f64], non_additive: bool, out: usize) -> Result<[f64; 4], u8> {
+    let [h, d, a] = vrq_energies(s, st, table, non_additive, if out == 4 { 3 } else { 0 })?;
+    let first = with_remainder(h, d);
+    finite(&first[..1])?;
+    let last = if non_additive { with_remainder(first[0], a) } else { [first[0], 0.0] };
+    finite(&last[..1])?;
+    Ok([first[0], first[1], last[0], last[1]])
+}
+
 /// Parameters, table and energies; the first refusal on the way is given.
 pub fn vrq_stage(l: &Lists, st: &State, non_additive: bool, out: usize) -> Result<[f64; 3], u8> {
     lengths(out == 3)?;

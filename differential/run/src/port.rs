@@ -56,6 +56,10 @@ boundary! {
     VRQ_ENERGIES = domthelv_vrq_energies(
         usize, In, Len, In, Len, BytesIn, Len, f64, In, Len, In, Len, In, Len, bool, Out, Len,
     );
+    // the same; out: two sums, each with its remainder
+    VRQ_TOTAL = domthelv_vrq_total(
+        usize, In, Len, In, Len, BytesIn, Len, f64, In, Len, In, Len, In, Len, bool, Out, Len,
+    );
     // the same; out: low and high end of each
     VRQ_ENERGIES_ENDS = domthelv_vrq_energies_ends(
         usize, In, Len, In, Len, BytesIn, Len, f64, In, Len, In, Len, In, Len, bool, Out, Len,
