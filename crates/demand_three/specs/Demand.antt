@@ -1,4 +1,4 @@
--- Demand 3, whole. A float run and an exact run on fractions get the same elementary answers, call by call: wherever two ends are reported, the exact run divides by no zero, and both results lie between the ends or on them, whatever is handed in and 'whatever those answers are'. 'Ends are reported wherever no numbered refusal applies', and they 'equal, bit for bit, those that document 01's outward rules give'.
+-- Demand 3, whole. A float run and an exact run on fractions get the same elementary answers, call by call: wherever two ends are reported, the exact run divides by no zero, and both results lie between the ends or on them, whatever is handed in and whatever is answered. Ends are reported wherever no numbered refusal applies, and they are, by bits, those that the outward rules give.
 -- Answers are functions of the arguments here; ByHistory has those that may differ from call to call.
 -- The contracts of the two-ended operations say that they answer `energiesEnds`, `dispersionEnds` and the two `diameterEnds` at the port's own answers.
 use Prim.Native.Nat.{ℕ}
