@@ -85,6 +85,7 @@ fn goal(name: &str) -> Option<f64> {
         "quantum table" | "quantum energies" => Some(0.6),
         "VR Mie dispersion" | "VR Mie and chain" => Some(0.75),
         "VR Mie diameters" => Some(1.0),
+        "quantum energies' total" => Some(1.05),
         _ if name.ends_with("diameter, two ends") => Some(4.0),
         _ if name.ends_with("two ends") => Some(10.0),
         _ => None,
@@ -251,6 +252,9 @@ fn quantum_ends(rows: &mut Rows, n: usize, order: u8) {
         out
     };
     rows.row("quantum energies, two ends", n, Some(order), k, |i| worked(energies, 3, i), |i| worked(ends, 6, i));
+    if let Some(total) = port::VRQ_TOTAL {
+        rows.row("quantum energies' total", n, Some(order), k, |i| worked(energies, 3, i), |i| worked(total, 4, i));
+    }
     if n > 1 {
         return;
     }
@@ -389,5 +393,5 @@ pub fn run() {
     for n in SIZES {
         vr_mie_ends(&mut rows, n);
     }
-    print("two ends: the port's floats, and its ends", ["float us", "ends us"], &rows);
+    print("two ends, and the total: the port's floats, and these", ["float us", "port us"], &rows);
 }
