@@ -1,5 +1,6 @@
-/* Liquid hydrogen at 25 K, order 1 after Aasen et al. 2019: energies per cubic angstrom, and their two ends. */
-#include "../include/domthelv.h"
+/* Liquid hydrogen at 25 K: energies per cubic angstrom, and their two ends. The parameters are those of the worked case 'hydrogen' (first
+ * Feynman-Hibbs order, after Aasen et al. 2019), which no table of the literature was held to: for a plotter take those of a source. */
+#include <domthelv.h>
 #include <stdio.h>
 
 static double m[DOMTHELV_M], sheets[DOMTHELV_SHEETS], table[DOMTHELV_TABLE], out[DOMTHELV_ENERGIES], ends[DOMTHELV_ENERGIES_ENDS];

@@ -1,6 +1,6 @@
 /* Helmholtz energies of tank fluids after SAFT-VRQ Mie (the quantum model) and SAFT-VR Mie: the C boundary of domthelv.
- * Link target/staticlib/libdomthelv.a, which tools/library proves and builds: x86-64, System V calls; it calls memcpy and memset.
- * docs/DATASHEET.md has accuracy, times, stack and what is proved.
+ * Link libdomthelv.a: for x86-64, as tools/library proves and builds it, or for 64-bit ARM, as tools/aarch64 compiles the same module;
+ * it calls memcpy and memset. DATASHEET.md has accuracy, times, stack and what is proved. domthelv.hpp has types for C++.
  *
  * ANSWERS. A function that can refuse gives 0 where the call is accepted, and the refusal's number (enum domthelv_refusal)
  * where it is not. The first that applies, in the order beside the function, is given; a refused call leaves everything it

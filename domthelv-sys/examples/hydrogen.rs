@@ -1,13 +1,12 @@
 //! Liquid hydrogen at 25 K: hard-sphere and dispersion energy with their two ends. `cargo run --example hydrogen`
 use domthelv_sys::safe::{Ends, QuantumComponents, Refusal, State, quantum_parameters};
-use domthelv_sys::sizes;
 
 fn print(name: &str, value: f64, ends: Ends) {
     println!("{name:<12} {value:>24.17}  from {:.17} to {:.17}  width {:.1e}", ends.low, ends.high, ends.high - ends.low);
 }
 
 fn main() -> Result<(), Refusal> {
-    // parameters of first Feynman-Hibbs order, after Aasen et al. 2019
+    // those of the worked case 'hydrogen', of first Feynman-Hibbs order after Aasen et al. 2019; no table of the literature was held to them
     let hydrogen = QuantumComponents {
         m: &[1.0],
         sigma: &[3.0243],
@@ -27,7 +26,7 @@ fn main() -> Result<(), Refusal> {
     let radii = set.radii(0, 0, state.temperature)?;
     let diameter = set.diameter_ends(0, 0, state.temperature, radii.sigma[0], radii.zero[0])?;
     println!("hydrogen at {} K, {} molecules per cubic ångström", state.temperature, state.densities[0]);
-    print("diameter", table.values[sizes::at(sizes::table::HS_DIAMETER, 0, 0)], diameter);
+    print("diameter", table.hs_diameter(0, 0)?, diameter);
     print("hard sphere", energies.hard_sphere, ends.hard_sphere);
     print("dispersion", energies.dispersion, ends.dispersion);
     Ok(())

@@ -2,7 +2,10 @@
 //!
 //! [`raw`] declares the C boundary, include/domthelv.h. [`safe`] takes slices and gives a value or a [`Refusal`].
 //! [`sizes`] has the lengths of lists and where sheets start.
+//! [`accessors`] gives sets and tables their entries by name. Nothing is allocated, and only `core` is used.
 //! Link `libdomthelv.a`: the build takes it from `DOMTHELV_LIB_DIR`, or from target/staticlib of the repository.
+#![cfg_attr(not(test), no_std)]
+pub mod accessors;
 pub mod raw;
 pub mod safe;
 pub mod sizes;

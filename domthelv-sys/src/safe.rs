@@ -38,8 +38,8 @@ impl Refusal {
     }
 }
 
-impl std::fmt::Display for Refusal {
-    fn fmt(&self, f: &mut std::fmt::Formatter<'_>) -> std::fmt::Result {
+impl core::fmt::Display for Refusal {
+    fn fmt(&self, f: &mut core::fmt::Formatter<'_>) -> core::fmt::Result {
         let text = match self {
             Refusal::Length => "a count or a list's length is outside",
             Refusal::Limit => "a number is outside its limit",
@@ -53,7 +53,7 @@ impl std::fmt::Display for Refusal {
         write!(f, "refused ({}): {text}", self.number())
     }
 }
-impl std::error::Error for Refusal {}
+impl core::error::Error for Refusal {}
 
 #[inline]
 fn given<T>(number: u8, value: T) -> Result<T, Refusal> {
