@@ -14,6 +14,7 @@
 #include <cstddef>
 #include <cstdint>
 #include <limits>
+#include <type_traits>
 
 namespace domthelv {
 
@@ -74,8 +75,10 @@ template <class T> class list {
 public:
     constexpr list() noexcept : data_(nullptr), size_(0) {}
     constexpr list(const T *data, std::size_t size) noexcept : data_(data), size_(data ? size : 0) {}
-    template <std::size_t N> constexpr list(const T (&array)[N]) noexcept : data_(array), size_(N) {}
-    template <std::size_t N> list(const T (&&)[N]) = delete;
+    template <class A, class = typename std::enable_if<std::is_same<A, T[std::extent<A>::value]>::value>::type>
+    constexpr list(const A &array) noexcept : data_(array), size_(std::extent<A>::value) {}
+    template <class A, class = typename std::enable_if<std::is_same<A, T[std::extent<A>::value]>::value>::type>
+    list(const A &&) = delete;
     template <class C, class = decltype(static_cast<const T *>(static_cast<const C *>(nullptr)->data())),
         class = decltype(static_cast<const C *>(nullptr)->size())>
     list(const C &container) noexcept : data_(container.data()), size_(container.size()) {}
