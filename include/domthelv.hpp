@@ -5,7 +5,7 @@
 // - A call gives a `refusal`, or an `answer`: a value or why there is none. The value of a refused answer is NaN, never unset.
 // - Sets, tables and diameters are objects of a fixed size that hold their own lists. They begin empty, with a count of 0, which every
 //   call refuses with 1. A refused call leaves them as they were.
-// - An index is tested: outside the count it is refused with 1, and nothing is read.
+// - An index is tested: outside the count it is refused with 1, and nothing is read. So are components whose lists lie in the set itself.
 #ifndef DOMTHELV_HPP
 #define DOMTHELV_HPP
 
@@ -13,6 +13,8 @@
 
 #include <cstddef>
 #include <cstdint>
+#include <functional>
+#include <initializer_list>
 #include <limits>
 #include <type_traits>
 
@@ -98,6 +100,12 @@ using bytes = list<std::uint8_t>;
 
 namespace detail {
 inline answer<double> one(std::uint8_t number, double value) noexcept { return answer<double>(number, value, nothing); }
+
+// Whether no element of a list lies in an object that is about to be written.
+template <class T, class Object> bool apart(const list<T> &l, const Object &object) noexcept {
+    const std::less<const void *> before = std::less<const void *>();
+    return l.size() == 0 || !before(l.data(), &object + 1) || !before(&object, l.data() + l.size());
+}
 } // namespace detail
 
 inline answer<double> sqrt(double x) noexcept { double out = 0; std::uint8_t r = domthelv_sqrt(x, &out); return detail::one(r, out); }
@@ -206,6 +214,9 @@ public:
 
     // The set of some components, in the place of what stands here.
     refusal assign(const quantum_components &c) noexcept {
+        for (const floats *l : {&c.m, &c.sigma, &c.epsilon_k, &c.lr, &c.la, &c.mass, &c.k_ij, &c.l_ij})
+            if (!detail::apart(*l, *this)) return refusal::length;
+        if (!detail::apart(c.order, *this)) return refusal::length;
         std::uint8_t r = domthelv_vrq_parameters(c.m.size(), c.m.data(), c.m.size(), c.sigma.data(), c.sigma.size(), c.epsilon_k.data(),
             c.epsilon_k.size(), c.lr.data(), c.lr.size(), c.la.data(), c.la.size(), c.mass.data(), c.mass.size(), c.order.data(),
             c.order.size(), c.k_ij.data(), c.k_ij.size(), c.l_ij.data(), c.l_ij.size(), m_, DOMTHELV_M, sheets_, DOMTHELV_SHEETS, orders_,
@@ -242,10 +253,13 @@ public:
         return answer<ends>(r, ends{out[0], out[1]}, ends{nothing, nothing});
     }
 
-    // The lists as the C functions take them.
-    floats m_list() const noexcept { return floats(m_, DOMTHELV_M); }
-    floats sheets() const noexcept { return floats(sheets_, DOMTHELV_SHEETS); }
-    bytes orders() const noexcept { return bytes(orders_, DOMTHELV_ORDERS); }
+    // The lists as the C functions take them; not of a temporary.
+    floats m_list() const & noexcept { return floats(m_, DOMTHELV_M); }
+    floats m_list() const && = delete;
+    floats sheets() const & noexcept { return floats(sheets_, DOMTHELV_SHEETS); }
+    floats sheets() const && = delete;
+    bytes orders() const & noexcept { return bytes(orders_, DOMTHELV_ORDERS); }
+    bytes orders() const && = delete;
 };
 
 // A temperature table.
@@ -280,8 +294,10 @@ public:
         return static_cast<refusal>(r);
     }
 
-    floats values() const noexcept { return floats(values_, DOMTHELV_TABLE); }
-    bytes counts() const noexcept { return bytes(counts_, DOMTHELV_COUNTS); }
+    floats values() const & noexcept { return floats(values_, DOMTHELV_TABLE); }
+    floats values() const && = delete;
+    bytes counts() const & noexcept { return bytes(counts_, DOMTHELV_COUNTS); }
+    bytes counts() const && = delete;
 };
 
 // A table of another count than the set's, an empty one among them, is refused with 1: it is lent as a list of no elements.
@@ -354,6 +370,8 @@ public:
 
     // The set of some components, in the place of what stands here.
     refusal assign(const mie_components &c) noexcept {
+        for (const floats *l : {&c.m, &c.sigma, &c.epsilon_k, &c.lr, &c.la, &c.k_ij, &c.gamma_ij})
+            if (!detail::apart(*l, *this)) return refusal::length;
         std::uint8_t r = domthelv_vr_parameters(c.m.size(), c.m.data(), c.m.size(), c.sigma.data(), c.sigma.size(), c.epsilon_k.data(),
             c.epsilon_k.size(), c.lr.data(), c.lr.size(), c.la.data(), c.la.size(), c.k_ij.data(), c.k_ij.size(), c.gamma_ij.data(),
             c.gamma_ij.size(), lists_, DOMTHELV_LISTS, sheets_, DOMTHELV_SHEETS);
@@ -382,8 +400,10 @@ public:
         return answer<ends>(r, ends{out[0], out[1]}, ends{nothing, nothing});
     }
 
-    floats lists() const noexcept { return floats(lists_, DOMTHELV_LISTS); }
-    floats sheets() const noexcept { return floats(sheets_, DOMTHELV_SHEETS); }
+    floats lists() const & noexcept { return floats(lists_, DOMTHELV_LISTS); }
+    floats lists() const && = delete;
+    floats sheets() const & noexcept { return floats(sheets_, DOMTHELV_SHEETS); }
+    floats sheets() const && = delete;
 };
 
 // The diameters of a set's components.
@@ -403,7 +423,8 @@ public:
         if (r == 0) count_ = n;
         return static_cast<refusal>(r);
     }
-    floats values() const noexcept { return floats(values_, count_); }
+    floats values() const & noexcept { return floats(values_, count_); }
+    floats values() const && = delete;
 };
 
 inline answer<double> mie_set::dispersion(const state &s, const diameters &d, bool chain) const noexcept {

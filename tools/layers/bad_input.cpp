@@ -169,6 +169,27 @@ static void indexes() {
     holds(count_orders(2).value().passing == 7 && count_orders(13).refused() == refusal::length && record_m(2.0) == refusal::segment_number, "orders and records");
 }
 
+// Components that lie in the set which is to be written.
+static void within() {
+    quantum_set set;
+    mie_set mie;
+    holds(set.assign(right) == refusal::accepted && mie.assign(mie_right) == refusal::accepted, "sets");
+    const quantum_set before = set;
+    const mie_set mie_before = mie;
+    quantum_components c = right;
+    c.m = floats(set.m_list().data(), 2);
+    holds(set.assign(c) == refusal::length && same(set, before), "a list in the set");
+    c = right, c.l_ij = floats(set.sheets().data() + 700, 4);
+    holds(set.assign(c) == refusal::length && same(set, before), "a list in the set's sheets");
+    c = right, c.order = bytes(set.orders().data() + 142, 2);
+    holds(set.assign(c) == refusal::length && same(set, before), "orders in the set");
+    c = right, c.m = floats(before.m_list().data(), 2);
+    holds(set.assign(c) == refusal::accepted && same(set, before), "a list in another set");
+    mie_components mc = mie_right;
+    mc.sigma = floats(mie.lists().data() + 12, 2);
+    holds(mie.assign(mc) == refusal::length && std::memcmp(&mie, &mie_before, sizeof mie) == 0, "a list in the Mie set");
+}
+
 static void containers() {
     const std::vector<double> v(2, 1.0);
     const std::array<double, 2> a = {{1.0, 1.0}};
@@ -184,6 +205,7 @@ int main() {
     mie_lengths();
     states();
     indexes();
+    within();
     containers();
     std::printf("%d passed, %d failed\n", passed, failed);
     return failed != 0;
