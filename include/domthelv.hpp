@@ -195,7 +195,7 @@ class quantum_set {
     double m_[DOMTHELV_M] = {}, sheets_[DOMTHELV_SHEETS] = {};
     std::uint8_t orders_[DOMTHELV_ORDERS] = {};
 
-    answer<double> entry(int sheet, std::size_t i, std::size_t j) const noexcept {
+    answer<double> entry(std::size_t sheet, std::size_t i, std::size_t j) const noexcept {
         return i < count_ && j < count_ ? detail::one(0, sheets_[DOMTHELV_AT(sheet, i, j)]) : detail::one(DOMTHELV_LENGTH, nothing);
     }
 
@@ -268,10 +268,10 @@ class table {
     double values_[DOMTHELV_TABLE] = {};
     std::uint8_t counts_[DOMTHELV_COUNTS] = {};
 
-    answer<double> entry(int sheet, std::size_t i, std::size_t j) const noexcept {
+    answer<double> entry(std::size_t sheet, std::size_t i, std::size_t j) const noexcept {
         return i < count_ && j < count_ ? detail::one(0, values_[DOMTHELV_AT(sheet, i, j)]) : detail::one(DOMTHELV_LENGTH, nothing);
     }
-    answer<std::uint8_t> spent(int sheet, std::size_t i, std::size_t j) const noexcept {
+    answer<std::uint8_t> spent(std::size_t sheet, std::size_t i, std::size_t j) const noexcept {
         return i < count_ && j < count_ ? answer<std::uint8_t>(0, counts_[DOMTHELV_AT(sheet, i, j)], 0) : answer<std::uint8_t>(DOMTHELV_LENGTH, 0, 0);
     }
 
@@ -347,7 +347,7 @@ class mie_set {
     std::size_t count_ = 0;
     double lists_[DOMTHELV_LISTS] = {}, sheets_[DOMTHELV_SHEETS] = {};
 
-    answer<double> entry(int sheet, std::size_t i, std::size_t j) const noexcept {
+    answer<double> entry(std::size_t sheet, std::size_t i, std::size_t j) const noexcept {
         return i < count_ && j < count_ ? detail::one(0, sheets_[DOMTHELV_AT(sheet, i, j)]) : detail::one(DOMTHELV_LENGTH, nothing);
     }
     answer<double> of(std::size_t which, std::size_t i) const noexcept {
