@@ -1,0 +1,11 @@
+pub mod Rational
+pub mod Polynomial
+pub mod Stands
+pub mod Jet
+pub mod Results
+pub mod Guarded
+pub mod Derives
+pub mod Chain
+pub mod Run
+pub mod Example
+pub mod Whole
