@@ -28,7 +28,7 @@ use Rattle.chain_derivatives.proofs.Polynomial.{rationals, value, slope
 use Rattle.chain_derivatives.proofs.Stands.{Stands, proper, itself, equals, one-number, stands-mul, stands-div, is-not-zero, not-zero, stand-evaluated, stand-sum, stand-negative, stand-product, stand-derivative}
 use Rattle.chain_derivatives.proofs.Jet.{Jet, Derived, derived-constant, derived-variable}
 use Rattle.chain_derivatives.proofs.Results.{Known, known, exactly-known, one-result, from-div, has-div}
-use Rattle.chain_derivatives.proofs.Guarded.{guarded, same-fluid, same-orders}
+use Rattle.chain_derivatives.proofs.Guarded.{noResult, guarded, same-fluid, same-orders}
 use Rattle.chain_derivatives.proofs.Derives.{Derives, result-is, result-zero, derives-plain, derives-mul, derivatives}
 
 -- ---- from the relation to the claim
@@ -105,7 +105,7 @@ module _ (ratio x : Frac) (zeta-x rho : Exact) (h : DensityAt ratio x zeta-x rho
   abbrev r : Rational
   r = of (proper x (h .proper))
 
-  rho-derives : Derives r (rhoDual exacts rho) variable
+  pub rho-derives : Derives r (rhoDual exacts rho) variable
   unfolding rhoDual whole decimal
   rho-derives s t =
       record {
@@ -116,7 +116,7 @@ module _ (ratio x : Frac) (zeta-x rho : Exact) (h : DensityAt ratio x zeta-x rho
         derived = derived-variable r;
       }
 
-  ratio-derives : Derives r (plainD exacts (divX zeta-x rho)) (constantOf (some ratio))
+  pub ratio-derives : Derives r (plainD exacts (divX zeta-x rho)) (constantOf (some ratio))
   unfolding plainD
   ratio-derives s t =
       let k = from-div zeta-x rho s in
@@ -145,8 +145,8 @@ module _ (ratio x : Frac) (zeta-x rho : Exact) (h : DensityAt ratio x zeta-x rho
   unfolding fluidDual fluidQuotient
   fluid-derives =
       subst (λ (w : FluidIn (DualOf Exact)). Fluids (Derives r) w (fluidOf quotients variable (mulQ (constantOf (some ratio)) variable) (kHs quotients (mulQ (constantOf (some ratio)) variable))))
-      (same-fluid (rhoDual exacts rho) (zetaDual exacts zeta-x rho))
-      (fluidOf-rel guarded quotients (derivatives r) rho-derives zeta-derives (kHs-rel guarded quotients (derivatives r) zeta-derives))
+      (same-fluid exacts noResult (rhoDual exacts rho) (zetaDual exacts zeta-x rho))
+      (fluidOf-rel (guarded exacts noResult) quotients (derivatives r) rho-derives zeta-derives (kHs-rel (guarded exacts noResult) quotients (derivatives r) zeta-derives))
 
 -- ---- the theorem
 pair-known : (p : PairParameters) → Pairs Known (pairIn exactly p) (pairIn exactly p)
@@ -171,8 +171,8 @@ chain-slopes E ratio p d x zeta-x rho o h e =
     let r = of (proper x (h .proper)) in
     let F = calls exacts E in
     let all =
-    ordersOf-rel exacts exacts known guarded quotients (derivatives r) (plainD exacts) constant (λ y u k. derives-plain r y u k) F F (calls-rel exacts exacts known E)
+    ordersOf-rel exacts exacts known (guarded exacts noResult) quotients (derivatives r) (plainD exacts) constant (λ y u k. derives-plain r y u k) F F (calls-rel exacts exacts known E)
     (fluid-derives ratio x zeta-x rho h) (pair-known p) (exactly-known d) in
-    let k = both-of o all (same-orders F (fluidDual exacts zeta-x rho) (pairIn exactly p) (exactly d) ∙ e) in
+    let k = both-of o all (same-orders exacts noResult F (fluidDual exacts zeta-x rho) (pairIn exactly p) (exactly d) ∙ e) in
     let at = itself x (h .proper) in
     (k .0, k .1, record { first = claim r x at _ _ (k .2 .a1); second = claim r x at _ _ (k .2 .a2) })

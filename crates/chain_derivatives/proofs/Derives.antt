@@ -21,7 +21,7 @@ use Rattle.chain_derivatives.proofs.Rational.{Rational, Proper, Equal, 
 use Rattle.chain_derivatives.proofs.Stands.{Stands, proper, itself, stands-add, stands-mul, stands-neg, stands-whole, stands-div, not-zero, is-not-zero}
 use Rattle.chain_derivatives.proofs.Jet.{Derived, derived-as, derived-constant, derived-add, derived-sub, derived-neg, derived-mul, derived-div}
 use Rattle.chain_derivatives.proofs.Results.{Has, Some, Known, exactly-known, none-some, one-result, from-add, from-sub, from-mul, from-div, from-neg, has-add, has-sub, has-mul, has-div, has-neg}
-use Rattle.chain_derivatives.proofs.Guarded.{guarded, nothing, powG, downG}
+use Rattle.chain_derivatives.proofs.Guarded.{noResult, nothing, powG, downG, guarded}
 
 -- a result, and the number it stands for
 pub record Result (x : Exact) (a : Rational) : Type 0 where
@@ -280,10 +280,10 @@ module _ (r : Rational) where
         derived = derived-div r one-is (derived-3 (m .derived)) n (z .2) (slope-down (whole 3) (i .0) (m .a) (m .b) (i .2));
       }
 
-  nothing-derives : (u : Quotient) → Derives nothing u
+  nothing-derives : (u : Quotient) → Derives (nothing exacts noResult) u
   nothing-derives u (v, e) t = absurd (none-some e)
 
-  pub derives-pow : (n : ℕ) (x : DualOf Exact) (u : Quotient) → Derives x u → Derives (powG x n) (powQ u n)
+  pub derives-pow : (n : ℕ) (x : DualOf Exact) (u : Quotient) → Derives x u → Derives (powG exacts noResult x n) (powQ u n)
   derives-pow zero x u h = nothing-derives _
   derives-pow (suc zero) x u h = nothing-derives _
   derives-pow (suc (suc zero)) x u h = derives-2 x u h
@@ -291,14 +291,14 @@ module _ (r : Rational) where
   derives-pow (suc (suc (suc (suc zero)))) x u h = derives-4 x u h
   derives-pow (suc (suc (suc (suc (suc n))))) x u h = nothing-derives _
 
-  pub derives-downs : (n : ℕ) (x : DualOf Exact) (u : Quotient) → Derives x u → Derives (downG x n) (downQ u n)
+  pub derives-downs : (n : ℕ) (x : DualOf Exact) (u : Quotient) → Derives x u → Derives (downG exacts noResult x n) (downQ u n)
   derives-downs zero x u h = nothing-derives _
   derives-downs (suc zero) x u h = nothing-derives _
   derives-downs (suc (suc zero)) x u h = nothing-derives _
   derives-downs (suc (suc (suc zero))) x u h = derives-down x u h
   derives-downs (suc (suc (suc (suc n)))) x u h = nothing-derives _
 
-  abbrev pub derivatives : Rel guarded quotients
+  abbrev pub derivatives : Rel (guarded exacts noResult) quotients
   derivatives =
       record {
         R = Derives;

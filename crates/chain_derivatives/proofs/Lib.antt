@@ -6,6 +6,7 @@ pub mod Results
 pub mod Guarded
 pub mod Derives
 pub mod Chain
+pub mod ByHistory
 pub mod Run
 pub mod Example
 pub mod Whole

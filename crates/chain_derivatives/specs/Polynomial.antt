@@ -17,7 +17,7 @@ module _ {N : Type 0} (C : Coefficients N) where
   infix 80 ⊖_
   -- c0 + x (c1 + x (c2 + ..))
   unfoldable pub evaluated : List N → N → N
-  evaluated [] x = whole 0
+  evaluated [] _ = whole 0
   evaluated (c ∷ p) x = c ⊕ x ⊗ evaluated p x
 
   unfoldable pub sum : List N → List N → List N
@@ -30,16 +30,16 @@ module _ {N : Type 0} (C : Coefficients N) where
   negative (c ∷ p) = (⊖ c) ∷ negative p
 
   unfoldable pub scaled : N → List N → List N
-  scaled k [] = []
+  scaled _ [] = []
   scaled k (c ∷ p) = (k ⊗ c) ∷ scaled k p
 
   unfoldable pub product : List N → List N → List N
-  product [] q = []
+  product [] _ = []
   product (c ∷ p) q = sum (scaled c q) (whole 0 ∷ product p q)
 
   -- k times the first, k + 1 times the second, and so on
   unfoldable pub counted : ℕ → List N → List N
-  counted k [] = []
+  counted _ [] = []
   counted k (c ∷ p) = (whole k ⊗ c) ∷ counted (suc k) p
 
   -- 'taken on the coefficients': the one of x^k, multiplied by k, is that of x^(k − 1); the lowest goes
