@@ -69,6 +69,6 @@ example =
       count = refl;
       orders = _;
       worked = refl;
-      first = (_, _, refl, refl, tt);
-      second = (_, _, refl, refl, tt);
+      first = record { v = _; s = _; value = refl; slope = refl; not-zero = tt };
+      second = record { v = _; s = _; value = refl; slope = refl; not-zero = tt };
     }

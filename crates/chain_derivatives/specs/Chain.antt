@@ -129,8 +129,12 @@ OwnRun =
 
 -- ---- the claim is not empty
 -- a term that has a result, with a slope that is not zero
-abbrev pub Moves : DualOf Exact → Type 0
-Moves t = (v : Frac) × (s : Frac) × (t .re .exact ≡ some v) × (t .eps .exact ≡ some s) × T (not (isZero s))
+pub record Moves (t : DualOf Exact) : Type 0 where
+  pub v : Frac
+  pub s : Frac
+  pub value : t .re .exact ≡ some v
+  pub slope : t .eps .exact ≡ some s
+  pub not-zero : T (not (isZero s))
 
 -- a state of `OwnRun` at which both terms of the first component do
 pub record Example : Type 0 where

@@ -13,12 +13,9 @@ use Rattle.chain_derivatives.specs.Polynomial.{Coefficients, evaluated, 
 abbrev pub fractions : Coefficients Frac
 fractions = record { add = addF; mul = mulF; neg = negF; whole = λ n. frac n 0 1 }
 
-abbrev pub Polynomial : Type 0
-Polynomial = List Frac
-
 pub record Quotient : Type 0 where
-  pub numerator : Polynomial
-  pub denominator : Polynomial
+  pub numerator : List Frac
+  pub denominator : List Frac
 
 abbrev zero : Frac
 zero = frac 0 0 1
