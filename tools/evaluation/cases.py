@@ -8,6 +8,7 @@ from fractions import Fraction
 from itertools import product
 
 from . import chains, promises, specs
+from .derivatives import Derivatives
 from .library import same
 from .scopes import Definition
 from .sizes import SIDE
@@ -282,10 +283,14 @@ class Cases:
                 said = tuple(Fraction(q.exact[1][1] - q.exact[1][2], q.exact[1][3]) for q in (d.re, d.eps))
                 yield "slopes", None if said == wanted[name] else f"{name} of {x}, {dx} and {y}, {dy}: {said}, and not {wanted[name]}"
 
-    # ---- that nothing was left out: what the boundary, demand 3, the table, Slip 3 and the promises use was evaluated, but for statements about all values
+    # ---- Slip 14: polynomials, quotients of them, and a component's slopes
+    def derivatives(self):
+        return Derivatives(self.c, Random(0x14)).run()
+
+    # ---- that nothing was left out: what the boundary, demand 3, the table, Slips 3 and 14 and the promises use was evaluated, but for statements about all values
     def believed(self):
         c = self.c
-        files = [c.file(*f) for f in (("domthelv", "Operations"), ("domthelv", "Total"), ("domthelv", "Sets"), ("demand_three", "Demand"), ("proved_table", "Table"), ("power_corners", "Corners"), ("elementary", "Promised"), ("elementary", "Port"))]
+        files = [c.file(*f) for f in (("domthelv", "Operations"), ("domthelv", "Total"), ("domthelv", "Sets"), ("demand_three", "Demand"), ("proved_table", "Table"), ("power_corners", "Corners"), ("chain_derivatives", "Chain"), ("elementary", "Promised"), ("elementary", "Port"))]
         for d in sorted((d for d in c.used_by(files) if isinstance(d, Definition)), key=lambda d: d.python):
             name = f"{d.file.name}.{d.name}"
             if not (d.is_type and c.states_of_all(d)):
@@ -374,7 +379,7 @@ class Exact:
         return {"value": value, "fraction": exact.exact[1] if exact.exact[0] == "some" else None}
 
 
-SECTIONS = ["decimals", "tables", "elementary", "promises", "intervals", "table", "corners", "orders", "quadrature", "slopes", "mie_ends", "quantum_ends", "mie", "quantum", "mie_9_to_12", "quantum_9_to_12", "refusals", "stages", "exact", "sums", "believed"]
+SECTIONS = ["decimals", "tables", "elementary", "promises", "intervals", "table", "corners", "orders", "quadrature", "slopes", "mie_ends", "quantum_ends", "mie", "quantum", "mie_9_to_12", "quantum_9_to_12", "refusals", "stages", "exact", "sums", "derivatives", "believed"]
 
 
 def load(folder, texts, whole=False):

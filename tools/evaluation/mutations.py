@@ -24,6 +24,9 @@ CHANGED = [
     ("a count of evaluations", "saftvrqmie_searches/specs/Searches", "count = 19 - n", "count = 18 - n", "quantum_ends"),
     ("an exact quotient", "enclosure/specs/Exact", "some (divF p q)", "some (mulF p q)", "exact"),
     ("the sign of a zero", "power_corners/specs/Corners", "zeroAt lambda = fin (lt three lambda)", "zeroAt lambda = fin (lt lambda three)", "corners"),
+    ("a coefficient of the derivative", "chain_derivatives/specs/Polynomial", "derivative (c ∷ p) = counted 1 p", "derivative (c ∷ p) = counted 2 p", "derivatives"),
+    ("the square in a quotient's derivative", "chain_derivatives/specs/Quotient", "denominator = product fractions d d;", "denominator = d;", "derivatives"),
+    ("the ratio that is held fixed", "chain_derivatives/specs/Chain", "let z = mulQ (constantOf (some ratio)) variable in", "let z = mulQ variable variable in", "derivatives"),
     ("an entry's place", "sizes/specs/Sizes", "cell i j = side * i + j", "cell i j = side * j + i", "mie"),
 ]
 # what the language has and specs/ has not: none of it may be passed over

@@ -239,21 +239,23 @@ class Names:
             if kind[0] == "definition" and kind[1].block is block and not kind[1].clauses:
                 raise NotUnderstood(f"{file.path}: {kind[1].name} has no clause")
 
-    # open Arith A using (x, y as z): fields of a parameter
+    # open Arith A using (x, y as z): fields of a parameter, which is of that record
     def open(self, file, block, s):
         w = s.words
-        if w[:2] != ["open", "Arith"] or w[3:5] != ["using", "("] or w[-1] != ")":
+        if w[3:5] != ["using", "("] or w[-1] != ")":
             s.refuse("an `open` line that is not known")
         kind = self.find(file, block, {}, w[2], s)
         if kind[0] != "local":
             s.refuse("what is opened is no parameter")
-        arith = self.find(file, block, {}, "Arith", s)
+        record = self.find(file, block, {}, w[1], s)
+        if record[0] != "type" or not isinstance(record[2], RecordType):
+            s.refuse("what is opened is no record")
         for part in " ".join(w[5:-1]).split(" , "):
             item = part.split()
             if len(item) == 3 and item[1] == "as":
                 item = [item[0], item[2]]
-            if len(item) not in (1, 2) or item[0] not in arith[2].fields:
-                s.refuse(f"no field of Arith: {part}")
+            if len(item) not in (1, 2) or item[0] not in record[2].fields:
+                s.refuse(f"no field of {w[1]}: {part}")
             block.opened[item[-1]] = (kind[1], item[0])
 
     # the explicit parameters, as (kind, name, Python name); an implicit one is a type

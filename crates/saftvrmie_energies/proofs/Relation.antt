@@ -75,11 +75,11 @@ module _ (A B : Arith) (K : Rel A B) where
   unfolding total
   total-rel n f g h = turns-rel R n _ _ (λ i _ _ p. r-add p (h i)) (r-lit _)
 
-  weighted-rel : (n : ℕ) (f m : ℕ → A .Num) (g k : ℕ → B .Num) → Each f g → Each m k → R (weighted A n f m) (weighted B n g k)
+  pub weighted-rel : (n : ℕ) (f m : ℕ → A .Num) (g k : ℕ → B .Num) → Each f g → Each m k → R (weighted A n f m) (weighted B n g k)
   unfolding weighted
   weighted-rel n f m g k h q = turns-rel R n _ _ (λ i _ _ p. r-add p (r-mul (h i) (q i))) (r-lit _)
 
-  xsOf-rel : (n : ℕ) (x m : ℕ → A .Num) (u k : ℕ → B .Num) (a : A .Num) (b : B .Num) → Each x u → Each m k → R a b → Each (nth A (xsOf A n x m a)) (nth B (xsOf B n u k b))
+  pub xsOf-rel : (n : ℕ) (x m : ℕ → A .Num) (u k : ℕ → B .Num) (a : A .Num) (b : B .Num) → Each x u → Each m k → R a b → Each (nth A (xsOf A n x m a)) (nth B (xsOf B n u k b))
   unfolding xsOf inPlaces
   xsOf-rel n x m u k a b h q p i =
       nth-rel R (r-lit nan) _ _ (turns-rel (All R) n _ _ (λ j l l' t. set-rel R l l' j _ _ t (r-div (r-mul (h j) (q j)) p)) (replicate-rel R side _ _ (r-lit zero64))) i
@@ -168,7 +168,7 @@ module _ (A B : Arith) (K : Rel A B) where
     pair-rel : (p : PairParameters) → Pairs R (pairIn (A .lit) p) (pairIn (B .lit) p)
     pair-rel p = record { sigma = r-lit _; epsilon-k = r-lit _; lr = r-lit _; la = r-lit _; c = r-lit _; alpha = r-lit _ }
 
-    state-rel : (s : SaftVRMiePars) (t : Float) (x rho d : List Float) → States R (stateIn (A .lit) s t x rho d) (stateIn (B .lit) s t x rho d)
+    pub state-rel : (s : SaftVRMiePars) (t : Float) (x rho d : List Float) → States R (stateIn (A .lit) s t x rho d) (stateIn (B .lit) s t x rho d)
     state-rel s t x rho d =
         record {
           temperature = r-lit _;

@@ -1,0 +1,12 @@
+pub mod Rational
+pub mod Polynomial
+pub mod Stands
+pub mod Jet
+pub mod Results
+pub mod Guarded
+pub mod Derives
+pub mod Chain
+pub mod ByHistory
+pub mod Run
+pub mod Example
+pub mod Whole

@@ -1,0 +1,3 @@
+pub mod Polynomial
+pub mod Quotient
+pub mod Chain
