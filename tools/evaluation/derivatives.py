@@ -2,6 +2,7 @@
 import math
 from fractions import Fraction
 
+from .library import same
 from .promises import frac
 from .sizes import SIDE
 from .terms import spell
@@ -100,7 +101,25 @@ class Derivatives:
         both = self.get("Chain", "slopedOrders")(silent, self.exact(z), self.exact(x), p, 3.4375), self.get("Chain", "quotientOrders")(silent, frac(z / x), p, 3.4375)
         yield None if both == (("refused", 6), ("refused", 6)) else f"a refused power: {both}"
 
+    # numbers with histories: with answers that do not look at them they are the plain ones
+    def histories(self):
+        c, port, exacts = self.c, self.c.get("elementary", "Port", "port")(), self.c.get("enclosure", "Exact", "exacts")()
+        histories, asks, unlooking = (c.get("histories", "History", name) for name in ("histories", "asks", "unlooking"))
+        traced, functions = histories(exacts), asks(exacts, unlooking(port))
+        p, d = c.record(sigma=3.5, epsilon_k=120.0, lr=12.0, la=6.0, c=4.0, alpha=1.0), 3.4375
+        plain = self.exact(Fraction(1, 4)), self.exact(Fraction(1, 64))
+        noted = (c.record(history=("lit", n.value), number=n) for n in plain)
+        by, alone = self.get("Chain", "slopedBy")(traced, functions, *noted, p, d)[1], self.get("Chain", "slopedOrders")(port, *plain, p, d)[1]
+        for order in ("a1", "a2"):
+            got, wanted = self.get("Chain", "plainDual")(getattr(by, order)), getattr(alone, order)
+            yield None if same(got, wanted) else f"{order} with histories is another"
+        exp, x = functions.exp(traced.lit(0.5)), c.get("number", "Functions", "calls")(exacts, port).exp(exacts.lit(0.5))
+        yield None if same(exp[1].number, x[1]) else "a call with a history is answered otherwise"
+        silent = c.record(one=lambda f: lambda h: lambda x: ("refused", 6), powf=lambda h: lambda k: lambda x: lambda y: ("refused", 6))
+        said = self.get("Chain", "quotientsBy")(traced, asks(exacts, silent), lambda x: x.number, frac(Fraction(16)), p, d)
+        yield None if said == ("refused", 6) else f"a refused power with histories: {said}"
+
     def run(self):
-        for part in (self.polynomials, self.quotients, self.fluids, self.component):
+        for part in (self.polynomials, self.quotients, self.fluids, self.component, self.histories):
             for differs in part():
                 yield part.__name__, differs or None
