@@ -1,5 +1,10 @@
 //! Lays the Rust files of docs/src out as one crate: unchanged for the package `plain`, with renamed calls for `renamed`,
 //! and for `ended` also with floats that carry two ends in the place of f64.
+#[allow(dead_code)]
+#[path = "../ends/src/fraction.rs"]
+mod fraction;
+
+use fraction::Fraction;
 use std::{env, fs, path::Path};
 
 /// Methods that f64 has itself, so that no trait can take their place; renamed, they reach the stand-in's trait.
@@ -67,6 +72,30 @@ fn float_length(text: &str) -> usize {
     if fraction { n } else { 0 }
 }
 
+/// The tables of the quadrature rules, whose decimals are no points where they are no floats.
+const RULES: [&str; 3] = ["const X_K21:", "const W_K21:", "const GLQ10:"];
+
+/// A point of a rule's table with the greatest float not above its decimal and the least not below it.
+fn with_neighbours(point: &str) -> String {
+    let (v, q): (f64, _) = (point.parse().unwrap(), Fraction::decimal(point));
+    let low = if Fraction::of(v).at_most(&q) { v } else { v.next_down() };
+    let high = if q.at_most(&Fraction::of(v)) { v } else { v.next_up() };
+    format!("f64::between({v:?}, {low:?}, {high:?})")
+}
+
+/// The points of each rule's table.
+fn rules(mut text: String) -> String {
+    for name in RULES {
+        let Some(start) = text.find(name) else { continue };
+        let end = start + text[start..].find("\n];").unwrap();
+        let parts: Vec<&str> = text[start..end].split("f64::k(").collect();
+        let table: Vec<String> = parts[1..].iter().map(|p| p.split_once(')').unwrap()).map(|(p, rest)| with_neighbours(p) + rest).collect();
+        assert!(table.len() > 19, "{name} has {} points", table.len());
+        text = format!("{}{}{}{}", &text[..start], parts[0], table.concat(), &text[end..]);
+    }
+    text
+}
+
 /// What two ends ask of the text beside points: the prefactor worked from its expression, and the radii given, not searched.
 const ENDED: [(&str, &str); 6] = [
     ("std::f64::consts", "ends::consts"),
@@ -81,7 +110,7 @@ const ENDED: [(&str, &str); 6] = [
 ];
 
 fn with_ends(text: &str, module: bool) -> String {
-    let mut text = points(text);
+    let mut text = rules(points(text));
     for (old, new) in ENDED {
         text = text.replace(old, new);
     }

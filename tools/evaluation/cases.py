@@ -190,7 +190,26 @@ class Cases:
                         said, words = model(self.c).stage(chain[0], call)
                         yield compared(f"{path}, chain {k}, stage", (said, tuple(words)), (call.number, tuple(call.answers[:len(words)])))
 
-    # ---- the exact run: where there are ends, both runs lie within them, by the text of `Encloses`
+    # ---- Slip 7's constants: their ends beside the decimals of pi and of the rules, the series' bracket, and which choices are fair
+    def constants(self):
+        c, ends = self.c, {name: self.c.get("enclosure", "Constants", name) for name in ("below", "above")}
+        low, high = (c.get("pi_as_pi", "Machin", name)(8) for name in ("piLow", "piHigh"))
+        yield "bracket of pi", None if fraction(low) < PI < fraction(high) < fraction(low) + Fraction(1, 10**22) else f"{float(fraction(low))} to {float(fraction(high))}"
+        for p, bad in ((low, []), (high, []), (frac(PI), []), (frac(fraction(low) - Fraction(1, 10**30)), ["low"]), (frac(fraction(high) + Fraction(1, 10**30)), ["high"])):
+            said = c.fails("pi_as_pi", "Statement", "InBracket", (8, p), {})
+            yield "bracket of pi", None if said == bad else f"of {p} is false: {said}, and not {bad}"
+        truly, nearest = choices(c)[2], c.get("number", "Arith", "nearest")
+        for constant, exact in all_constants(c):
+            x = nearest(constant)
+            wanted = (x if Fraction(x) <= exact else math.nextafter(x, -math.inf), x if Fraction(x) >= exact else math.nextafter(x, math.inf))
+            yield compared(f"the ends of {constant}", (ends["below"](constant), ends["above"](constant)), wanted)
+            yield "constants", None if fraction(truly(constant)) == exact else f"{constant}: {truly(constant)}"
+            yield compared(f"{constant} is a point", wanted[0] == wanted[1], exact == 0)
+            for choice in choices(c):
+                bad = c.fails("enclosure", "Ends", "Between", (wanted[0], choice(constant), wanted[1]), {})
+                yield "fair choices", f"{constant}: {bad}" if bad else None
+
+    # ---- the exact run: where there are ends, both runs lie within them, by the text of `Encloses`, whichever fair choice it takes for the constants
     def exact(self):
         for path, model in (("tools/evaluation/data/quantum_ends.bin", chains.Quantum), ("tools/evaluation/data/mie_ends.bin", chains.Mie)):
             for k, chain in enumerate(chains.chains(self.path(path))):
@@ -199,8 +218,9 @@ class Cases:
                     if call.what in (11, 12):
                         m.changed(call)
                     elif call.what in (7, 8, 9, 13) and m.count <= (2 if self.whole else 1) and call.number == 0:
-                        bad = Exact(self.c, m, call).fails()
-                        yield "exact run", f"{path}, chain {k}: {chains.NAMES[call.what]} do not enclose: {bad}" if bad else None
+                        for choice in choices(self.c) if self.whole else choices(self.c)[k % 3:k % 3 + 1]:
+                            bad = Exact(self.c, m, call, choice).fails()
+                            yield "exact run", f"{path}, chain {k}: {chains.NAMES[call.what]} do not enclose: {bad}" if bad else None
                     elif call.what in (1, 2, 4, 5):
                         m.worked(call)
 
@@ -262,7 +282,7 @@ class Cases:
     # ---- slopes: the rules on fractions, at floats that are short, beside the derivative of a power, a product and a quotient
     def slopes(self):
         c = self.c
-        a = c.get("enclosure", "Exact", "exacts")()
+        a = c.get("enclosure", "Exact", "exacts")(choices(c)[0])
         exactly, g = c.get("enclosure", "Exact", "exactly"), Random(0x56)
         rule = {name: c.get("dual", "Dual", name) for name in ("addD", "subD", "negD", "mulD", "divD", "powD", "downD", "afterD", "plainD")}
 
@@ -290,7 +310,7 @@ class Cases:
     # ---- that nothing was left out: what the boundary, demand 3, the table, Slips 3 and 14 and the promises use was evaluated, but for statements about all values
     def believed(self):
         c = self.c
-        files = [c.file(*f) for f in (("domthelv", "Operations"), ("domthelv", "Total"), ("domthelv", "Sets"), ("demand_three", "Demand"), ("proved_table", "Table"), ("power_corners", "Corners"), ("chain_derivatives", "Chain"), ("elementary", "Promised"), ("elementary", "Port"))]
+        files = [c.file(*f) for f in (("domthelv", "Operations"), ("domthelv", "Total"), ("domthelv", "Sets"), ("demand_three", "Demand"), ("proved_table", "Table"), ("power_corners", "Corners"), ("pi_as_pi", "Statement"), ("chain_derivatives", "Chain"), ("elementary", "Promised"), ("elementary", "Port"))]
         for d in sorted((d for d in c.used_by(files) if isinstance(d, Definition)), key=lambda d: d.python):
             name = f"{d.file.name}.{d.name}"
             if not (d.is_type and c.states_of_all(d)):
@@ -305,6 +325,33 @@ class Cases:
             for k in range(degree + 1):
                 error = abs(sum(b * a**k for a, b in zip(x, w)) - Fraction(2 * (k % 2 == 0), k + 1))
                 yield "quadrature", f"{crate}: the sum of x^{k} is {float(error)} away" if error > Fraction(1, 10**15) else None
+
+
+# pi to 40 digits, cut off
+PI = Fraction("3.141592653589793238462643383279502884197")
+
+
+def frac(q):
+    return ("frac", max(q.numerator, 0), max(-q.numerator, 0), q.denominator)
+
+
+def fraction(q):
+    return Fraction(q[1] - q[2], q[3])
+
+
+def all_constants(c):
+    """Slip 7's constants, each with its exact value; pi's as far as 40 digits have it."""
+    yield from ((("pi",), PI), (("frac-pi-6",), PI / 6), (("tau",), 2 * PI))
+    for crate, names in (("saftvrqmie_searches", ("abscissas", "weights")), ("saftvrmie_diameter", ("positions", "weights"))):
+        for e in (e for name in names for e in c.get(crate, "Diameter", name)()):
+            yield ("node", e.minus, e.digits, e.places), Fraction((-1 if e.minus else 1) * e.digits, 10**e.places)
+
+
+def choices(c):
+    """Fair choices: every lower end, every upper end, the constants themselves."""
+    value, below, above = c.get("number", "Frac", "valF"), c.get("enclosure", "Constants", "below"), c.get("enclosure", "Constants", "above")
+    truly = c.get("pi_as_pi", "Statement", "truly")
+    return [lambda x: value(below(x)), lambda x: value(above(x)), lambda x: truly(frac(PI), x)]
 
 
 def fallen(orders):
@@ -339,12 +386,12 @@ def worked(name, a, b):
 
 
 class Exact:
-    """The runs of one two-ended call: the float operation, the enclosures, the fractions, and the ends."""
+    """The runs of one two-ended call: the float operation, the enclosures, the fractions with a choice of the constants, and the ends."""
 
-    def __init__(self, c, m, call):
+    def __init__(self, c, m, call, choice):
         self.c, self.call = c, call
         port, calls = c.get("elementary", "Port", "port")(), c.get("number", "Functions", "calls")
-        runs = [c.get("enclosure", "Enclosure", "enclosures")(), c.get("enclosure", "Exact", "exacts")()]
+        runs = [c.get("enclosure", "Enclosure", "enclosures")(), c.get("enclosure", "Exact", "exacts")(choice)]
         s = m.record()
         if call.what in (8, 13):
             crate = "saftvrmie" if call.what == 13 else "saftvrqmie"
@@ -379,7 +426,7 @@ class Exact:
         return {"value": value, "fraction": exact.exact[1] if exact.exact[0] == "some" else None}
 
 
-SECTIONS = ["decimals", "tables", "elementary", "promises", "intervals", "table", "corners", "orders", "quadrature", "slopes", "mie_ends", "quantum_ends", "mie", "quantum", "mie_9_to_12", "quantum_9_to_12", "refusals", "stages", "exact", "sums", "derivatives", "believed"]
+SECTIONS = ["decimals", "tables", "elementary", "promises", "intervals", "table", "corners", "orders", "quadrature", "constants", "slopes", "mie_ends", "quantum_ends", "mie", "quantum", "mie_9_to_12", "quantum_9_to_12", "refusals", "stages", "exact", "sums", "derivatives", "believed"]
 
 
 def load(folder, texts, whole=False):

@@ -41,8 +41,8 @@ module _ (E : HistoryAnswers) (A B : Arith) (K : Rel A B) where
 pub demand-3-by-history : Demand3ByHistory
 demand-3-by-history =
     record {
-      quantum-energies = λ E s t x rho table wanted. three-ended _ _ (energies-rel E enclosures floats values s t x rho table wanted) (energies-rel E enclosures exacts contains s t x rho table wanted);
-      quantum-diameter = λ E s i j t sigma-eff r0. one-ended _ _ (quantum-diameter-rel E enclosures floats values s i j t sigma-eff r0) (quantum-diameter-rel E enclosures exacts contains s i j t sigma-eff r0);
-      mie-dispersion = λ E s t x rho d chain. one-ended _ _ (dispersion-rel E enclosures floats values s t x rho d chain) (dispersion-rel E enclosures exacts contains s t x rho d chain);
-      mie-diameter = λ E s i j t r0. one-ended _ _ (mie-diameter-rel E enclosures floats values s i j t r0) (mie-diameter-rel E enclosures exacts contains s i j t r0);
+      quantum-energies = λ E q fair s t x rho table wanted. three-ended _ _ (energies-rel E enclosures floats values s t x rho table wanted) (energies-rel E enclosures (exacts q) (contains q fair) s t x rho table wanted);
+      quantum-diameter = λ E q fair s i j t sigma-eff r0. one-ended _ _ (quantum-diameter-rel E enclosures floats values s i j t sigma-eff r0) (quantum-diameter-rel E enclosures (exacts q) (contains q fair) s i j t sigma-eff r0);
+      mie-dispersion = λ E q fair s t x rho d chain. one-ended _ _ (dispersion-rel E enclosures floats values s t x rho d chain) (dispersion-rel E enclosures (exacts q) (contains q fair) s t x rho d chain);
+      mie-diameter = λ E q fair s i j t r0. one-ended _ _ (mie-diameter-rel E enclosures floats values s i j t r0) (mie-diameter-rel E enclosures (exacts q) (contains q fair) s i j t r0);
     }

@@ -4,16 +4,17 @@ use mathlib.Core.Option.{Option, some, none}
 use lib.Ieee as Ieee
 use Rattle.number.specs.Frac.{Frac, valF}
 use Rattle.number.specs.Arith.{zero64}
+use Rattle.enclosure.specs.Constants.{Choice}
 use Rattle.enclosure.specs.Exact.{Exact, exacts, exactly, both, quotientX, divX, afterX}
 
-pub by-zero : (x : Exact) → exacts .div x (exacts .lit zero64) .exact ≡ none
+pub by-zero : (q : Choice) (x : Exact) → exacts q .div x (exacts q .lit zero64) .exact ≡ none
 unfolding divX exactly Ieee.ofBits
-by-zero x = go (x .exact)
+by-zero q x = go (x .exact)
   where
     go : (p : Option Frac) → both quotientX p (some (valF zero64)) ≡ none
     go none = refl
     go (some p) = refl
 
-pub after-ended : (u x : Exact) → u .exact ≡ none → exacts .after u x .exact ≡ none
+pub after-ended : (q : Choice) (u x : Exact) → u .exact ≡ none → exacts q .after u x .exact ≡ none
 unfolding afterX
-after-ended u x ended = rw ended
+after-ended q u x ended = rw ended

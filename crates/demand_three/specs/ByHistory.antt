@@ -8,8 +8,9 @@ use Rattle.number.specs.Ans.{Ans, held, _>>=_}
 use Rattle.number.specs.Arith.{Arith, floats}
 use Rattle.histories.specs.History.{HistoryAnswers, histories, asks, withoutHistory}
 use Rattle.enclosure.specs.Enclosure.{enclosures}
+use Rattle.enclosure.specs.Constants.{Choice}
 use Rattle.enclosure.specs.Exact.{exacts}
-use Rattle.enclosure.specs.Ends.{endsIn, endsOf, Encloses}
+use Rattle.enclosure.specs.Ends.{endsIn, endsOf, Fair, Encloses}
 use Rattle.saftvrqmie_parameters.specs.declared.SaftVRQMiePars.{SaftVRQMiePars}
 use Rattle.saftvrqmie_energies.specs.Energies.{EnergiesIn, contributionsOf, energiesFrom}
 use Rattle.saftvrqmie_energies_ends.specs.Operation.{together, allSound, eachEnds, eachEndsOf}
@@ -37,21 +38,21 @@ module _ (E : HistoryAnswers) (A : Arith) where
   abbrev pub mieDiameterRun : SaftVRMiePars → ℕ → ℕ → Float → Float → Ans (A .Num)
   mieDiameterRun s i j t r0 = withoutHistory (Mie.diameterRun (histories A) (asks A E) s i j t r0)
 
--- Each operation as it stands in its contract, on such runs.
+-- Each operation as it stands in its contract, on such runs; the exact run takes any fair choice of the constants.
 pub record Demand3ByHistory : Type 0 where
-  pub quantum-energies : (E : HistoryAnswers) (s : SaftVRQMiePars) (t : Float) (x rho table : List Float) (wanted : Bool)
+  pub quantum-energies : (E : HistoryAnswers) (q : Choice) → Fair q → (s : SaftVRQMiePars) (t : Float) (x rho table : List Float) (wanted : Bool)
       → let float = energiesFrom s t x rho table (energiesRun E floats s t x rho table wanted) in
       let run = energiesRun E enclosures s t x rho table wanted in
-      TwoEnded allSound eachEnds EachEncloses float run (energiesRun E exacts s t x rho table wanted) (eachEndsOf float run)
-  pub quantum-diameter : (E : HistoryAnswers) (s : SaftVRQMiePars) (i j : ℕ) (t sigma-eff r0 : Float)
+      TwoEnded allSound eachEnds EachEncloses float run (energiesRun E (exacts q) s t x rho table wanted) (eachEndsOf float run)
+  pub quantum-diameter : (E : HistoryAnswers) (q : Choice) → Fair q → (s : SaftVRQMiePars) (i j : ℕ) (t sigma-eff r0 : Float)
       → let float = Quantum.diameterIjFrom s i j t (quantumDiameterRun E floats s i j t sigma-eff r0) in
       let run = quantumDiameterRun E enclosures s i j t sigma-eff r0 in
-      TwoEnded isSound endsIn Encloses float run (quantumDiameterRun E exacts s i j t sigma-eff r0) (endsOf float run)
-  pub mie-dispersion : (E : HistoryAnswers) (s : SaftVRMiePars) (t : Float) (x rho d : List Float) (chain : Bool)
+      TwoEnded isSound endsIn Encloses float run (quantumDiameterRun E (exacts q) s i j t sigma-eff r0) (endsOf float run)
+  pub mie-dispersion : (E : HistoryAnswers) (q : Choice) → Fair q → (s : SaftVRMiePars) (t : Float) (x rho d : List Float) (chain : Bool)
       → let float = MieEnergies.energyFrom s t x rho d (dispersionRun E floats s t x rho d chain) in
       let run = dispersionRun E enclosures s t x rho d chain in
-      TwoEnded isSound endsIn Encloses float run (dispersionRun E exacts s t x rho d chain) (endsOf float run)
-  pub mie-diameter : (E : HistoryAnswers) (s : SaftVRMiePars) (i j : ℕ) (t r0 : Float)
+      TwoEnded isSound endsIn Encloses float run (dispersionRun E (exacts q) s t x rho d chain) (endsOf float run)
+  pub mie-diameter : (E : HistoryAnswers) (q : Choice) → Fair q → (s : SaftVRMiePars) (i j : ℕ) (t r0 : Float)
       → let float = Mie.diameterIjFrom s i j t (mieDiameterRun E floats s i j t r0) in
       let run = mieDiameterRun E enclosures s i j t r0 in
-      TwoEnded isSound endsIn Encloses float run (mieDiameterRun E exacts s i j t r0) (endsOf float run)
+      TwoEnded isSound endsIn Encloses float run (mieDiameterRun E (exacts q) s i j t r0) (endsOf float run)

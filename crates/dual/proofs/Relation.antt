@@ -9,7 +9,7 @@ pub record Duals {S T : Type 0} (R : S → T → Type 0) (x : DualOf S) (u : Dua
   pub eps : R (x .eps) (u .eps)
 
 module _ (A B : Arith) (K : Rel A B) where
-  open Rel K using (R, r-add, r-sub, r-mul, r-div, r-neg, r-pow, r-down, r-lit, r-val, r-after)
+  open Rel K using (R, r-add, r-sub, r-mul, r-div, r-neg, r-pow, r-down, r-lit, r-constant, r-val, r-after)
 
   pub plain-rel : {x : A .Num} {u : B .Num} → R x u → Duals R (plainD A x) (plainD B u)
   unfolding plainD
@@ -63,6 +63,7 @@ module _ (A B : Arith) (K : Rel A B) where
         r-pow = λ n p. pow-rel _ _ p n;
         r-down = λ n p. down-rel _ _ p n;
         r-lit = λ f. plain-rel (r-lit f);
+        r-constant = λ c. plain-rel (r-constant c);
         r-val = λ p. r-val (p .re);
         r-after = λ p q. after-rel _ _ _ _ p q;
       }

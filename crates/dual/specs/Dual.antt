@@ -10,7 +10,7 @@ pub record DualOf (N : Type 0) : Type 0 where
   pub eps : N
 
 module _ (A : Arith) where
-  open Arith A using (Num, add as _⊕_, sub as _⊖_, mul as _⊗_, div as _⊘_, neg as ⊖_, pow, powDown, lit, val, after)
+  open Arith A using (Num, add as _⊕_, sub as _⊖_, mul as _⊗_, div as _⊘_, neg as ⊖_, pow, powDown, lit, constant, val, after)
 
   infixl 60 _⊕_
   infixl 60 _⊖_
@@ -65,6 +65,7 @@ module _ (A : Arith) where
         pow = powD;
         powDown = downD;
         lit = λ v. plainD (lit v);
+        constant = λ c. plainD (constant c);
         val = λ x. val (x .re);
         after = afterD;
       }

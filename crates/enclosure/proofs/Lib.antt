@@ -1,2 +1,4 @@
+pub mod Constants
+pub mod Entries
 pub mod Relations
 pub mod TwoEnds

@@ -12,7 +12,7 @@ use lib.Ieee.Fits.{and-l, and-r}
 use lib.Ieee.Bits.{cond-no}
 use lib.Ieee.Scale.{finite}
 use Rattle.number.specs.Frac.{Frac, frac, ltF, zeroF, negF, addF, subF, mulF, divF, valF}
-use Rattle.number.specs.Arith.{floats, one64}
+use Rattle.number.specs.Arith.{Constant, floats, one64, nearest}
 use Rattle.number.specs.Power.{powUp}
 use Rattle.number.proofs.Round.{Rounds}
 use Rattle.number.proofs.Ops.{add-rounds, sub-rounds, mul-rounds, div-rounds, neg-val, neg-finite}
@@ -22,8 +22,11 @@ use Rattle.interval.specs.declared.Interval.{Interval}
 use Rattle.interval.specs.Interval.{mulI, negI, afterI, powI, downI}
 use Rattle.interval.proofs.Encloses.{In, point-in, rounded-in, add-in, sub-in, neg-in, mul-in, div-in, div-sign, sign-nonzero, add-sound, sub-sound, mul-sound, div-sound}
 use Rattle.enclosure.specs.declared.Enclosure.{Enclosure}
-use Rattle.enclosure.specs.Enclosure.{enclosures, point, addE, subE, mulE, divE, negE, afterE, powE, downE}
-use Rattle.enclosure.specs.Exact.{Exact, exacts, exactly, both, alone, isZero, quotientX, addX, subX, mulX, divX, negX, afterX, powX, downX}
+use Rattle.enclosure.specs.Enclosure.{enclosures, point, constantE, addE, subE, mulE, divE, negE, afterE, powE, downE}
+use Rattle.enclosure.specs.Constants.{Choice, below, above}
+use Rattle.enclosure.specs.Ends.{Fair}
+use Rattle.enclosure.proofs.Constants.{nearest-between, nearest-finite}
+use Rattle.enclosure.specs.Exact.{Exact, exacts, exactly, chosen, both, alone, isZero, quotientX, addX, subX, mulX, divX, negX, afterX, powX, downX}
 
 -- ---- the value is the float run's
 abbrev pub Value : Enclosure → Float → Type 0
@@ -32,6 +35,10 @@ Value b x = b .value ≡ x
 pub value-point : (x : Float) → Value (point x) x
 unfolding point
 value-point x = refl
+
+pub value-constant : (c : Constant) → Value (constantE c) (nearest c)
+unfolding constantE
+value-constant c = refl
 
 pub value-add : (x y : Enclosure) (u v : Float) → Value x u → Value y v → Value (addE x y) (Ieee.add binary64 u v)
 unfolding addE
@@ -77,6 +84,7 @@ values =
       r-pow = λ n p. value-pow n _ _ p;
       r-down = λ n p. value-down n _ _ p;
       r-lit = value-point;
+      r-constant = value-constant;
       r-val = λ p. p;
       r-after = λ p q. value-after _ _ _ q;
     }
@@ -118,6 +126,29 @@ contains-point f = record {
       let a = and-l (finite f) (fits binary64 f) t in
       let i = point-in f (and-r (finite f) (fits binary64 f) t) a in
       record { exact = valF f; is = yes-of (finite f) (valF f) a; exact-in = i; run-finite = a; run-in = i };
+}
+
+-- the value of a constant, the fraction chosen for it, and its ends
+pub contains-constant : (q : Choice) → Fair q → (c : Constant) → Contains (constantE c) (chosen q c)
+unfolding constantE chosen Outward.point
+contains-constant q fair c = record {
+  same = refl;
+  holds = λ t.
+      let a = and-l (finite (below c) && fits binary64 (below c)) (finite (above c) && fits binary64 (above c)) t in
+      let b = and-r (finite (below c) && fits binary64 (below c)) (finite (above c) && fits binary64 (above c)) t in
+      let lf = and-l (finite (below c)) (fits binary64 (below c)) a in
+      let uf = and-l (finite (above c)) (fits binary64 (above c)) b in
+      let lt = and-r (finite (below c)) (fits binary64 (below c)) a in
+      let ut = and-r (finite (above c)) (fits binary64 (above c)) b in
+      let k = fair .between c lf uf in
+      let n = nearest-between c lf uf in
+      record {
+        exact = q c;
+        is = refl;
+        exact-in = record { lower-finite = lf; upper-finite = uf; lower-fits = lt; upper-fits = ut; den = k .den; from = k .from; to = k .to };
+        run-finite = nearest-finite c lf;
+        run-in = record { lower-finite = lf; upper-finite = uf; lower-fits = lt; upper-fits = ut; den = n .den; from = n .from; to = n .to };
+      };
 }
 
 module _ (x y : Enclosure) (u v : Exact) (h : Contains x u) (k : Contains y v) where
@@ -251,8 +282,8 @@ pub contains-down : (n : ℕ) (x : Enclosure) (u : Exact) → Contains x u → C
 unfolding downX
 contains-down n x u p = subst (λ (z : Enclosure). Contains z (divX (exactly one64) (powX u n))) (sym (down-is n x)) (contains-div _ _ _ _ (contains-point one64) (contains-pow n x u p))
 
-abbrev pub contains : Rel enclosures exacts
-contains =
+abbrev pub contains : (q : Choice) → Fair q → Rel enclosures (exacts q)
+contains q fair =
     record {
       R = Contains;
       r-add = λ p q. contains-add _ _ _ _ p q;
@@ -263,6 +294,7 @@ contains =
       r-pow = λ n p. contains-pow n _ _ p;
       r-down = λ n p. contains-down n _ _ p;
       r-lit = contains-point;
+      r-constant = contains-constant q fair;
       r-val = λ p. p .same;
       r-after = λ p q. contains-after _ _ _ _ p q;
     }

@@ -1,14 +1,20 @@
 -- The two-ended run: the float run's value beside the ends. Branches and elementary calls look at the value, the outward rules at the ends.
 use Prim.Native.Nat.{ℕ}
+use mathlib.Core.Bool.{_&&_}
 use lib.Ieee as Ieee
 use lib.Ieee.{Float, binary64}
-use Rattle.number.specs.Arith.{Arith, floats}
+use Rattle.number.specs.Arith.{Arith, Constant, floats, nearest}
 use Rattle.interval.specs.Interval as Interval
 use Rattle.interval.specs.Interval.{addI, subI, mulI, divI, negI, powI, downI, afterI}
 use Rattle.enclosure.specs.declared.Enclosure.{Enclosure}
+use Rattle.enclosure.specs.Constants.{below, above}
 
 unfoldable pub point : Float → Enclosure
 point x = record { value = x; ends = Interval.point x }
+
+-- a constant: the Rust's float between the two that enclose it; sound if both are finite
+unfoldable pub constantE : Constant → Enclosure
+constantE c = record { value = nearest c; ends = record { lower = below c; upper = above c; sound = Interval.point (below c) .sound && Interval.point (above c) .sound } }
 
 unfoldable pub addE : Enclosure → Enclosure → Enclosure
 addE x y = record { value = Ieee.add binary64 (x .value) (y .value); ends = addI (x .ends) (y .ends) }
@@ -47,6 +53,7 @@ enclosures =
       pow = powE;
       powDown = downE;
       lit = point;
+      constant = constantE;
       val = λ x. x .value;
       after = afterE;
     }

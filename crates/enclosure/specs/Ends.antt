@@ -7,8 +7,10 @@ use lib.Ieee.{Float}
 use lib.Ieee.Scale.{finite}
 use Rattle.number.specs.Frac.{Frac, Pos, leF, valF}
 use Rattle.number.specs.Ans.{Ans, held, refused, _>>=_}
+use Rattle.number.specs.Arith.{Constant}
 use Rattle.enclosure.specs.declared.Enclosure.{Enclosure}
 use Rattle.enclosure.specs.declared.Ends.{Ends}
+use Rattle.enclosure.specs.Constants.{Choice, below, above}
 use Rattle.enclosure.specs.Exact.{Exact}
 
 -- 7 if the float result is not finite
@@ -39,6 +41,10 @@ pub record Between (lower : Float) (q : Frac) (upper : Float) : Type 0 where
   pub den : Pos q
   pub from : leF (valF lower) q
   pub to : leF q (valF upper)
+
+-- A choice is fair if it takes for each constant a fraction between the two floats that enclose it. (A decimal beyond the largest f64 has no such floats.)
+pub record Fair (q : Choice) : Type 0 where
+  pub between : (c : Constant) → T (finite (below c)) → T (finite (above c)) → Between (below c) (q c) (above c)
 
 -- the float run holds a finite value, the exact run divides by no zero and holds a fraction, and both lie between the ends or on them
 pub record Encloses (e : Ends) (float : Ans Float) (exact : Ans Exact) : Type 0 where

@@ -8,15 +8,20 @@ use lib.Ieee.{Float, binary64}
 use lib.Ieee.Scale.{finite}
 use Rattle.number.specs.Frac.{Frac, frac, addF, subF, negF, mulF, divF, valF}
 use Rattle.number.specs.Power.{powUp}
-use Rattle.number.specs.Arith.{Arith, one64}
+use Rattle.number.specs.Arith.{Arith, Constant, nearest, one64}
+use Rattle.enclosure.specs.Constants.{Choice}
 
 pub record Exact : Type 0 where
   pub value : Float
   pub exact : Option Frac
 
--- An input, constant or elementary answer is the fraction it stands for; an infinity or a NaN stands for none.
+-- An input, a number of the source or an elementary answer is the fraction it stands for; an infinity or a NaN stands for none.
 unfoldable pub exactly : Float → Exact
 exactly x = record { value = x; exact = cond (finite x) (some (valF x)) none }
+
+-- A constant is the fraction chosen for it.
+unfoldable pub chosen : Choice → Constant → Exact
+chosen q c = record { value = nearest c; exact = some (q c) }
 
 -- where both operands have a result
 abbrev pub both : (Frac → Frac → Option Frac) → Option Frac → Option Frac → Option Frac
@@ -59,8 +64,9 @@ powX x n = powUp mulX (exactly one64) x n
 unfoldable pub downX : Exact → ℕ → Exact
 downX x n = divX (exactly one64) (powX x n)
 
-abbrev pub exacts : Arith
-exacts =
+-- the arithmetic of the exact run, the constants being those of q
+abbrev pub exacts : Choice → Arith
+exacts q =
     record {
       Num = Exact;
       add = addX;
@@ -71,6 +77,7 @@ exacts =
       pow = powX;
       powDown = downX;
       lit = exactly;
+      constant = chosen q;
       val = λ x. x .value;
       after = afterX;
     }

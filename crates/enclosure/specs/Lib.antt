@@ -1,3 +1,4 @@
+pub mod Constants
 pub mod Enclosure
 pub mod Exact
 pub mod Answer

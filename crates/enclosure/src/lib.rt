@@ -1,8 +1,9 @@
 // Enclosures: the float run's value beside its two ends, for branches and for the arguments of elementary calls.
 ghost use mathlib.Core.Path.{_≡_};
+ghost use Rattle.number.specs.Arith as Arith;
 ghost use Rattle.number.specs.Functions.{answered, answered₂};
 ghost use Rattle.number.specs.Answer as FloatAns;
-ghost use Rattle.enclosure.specs.Enclosure.{point, addE, subE, mulE, divE, negE, powE, downE, afterE, enclosures};
+ghost use Rattle.enclosure.specs.Enclosure.{point, constantE, addE, subE, mulE, divE, negE, powE, downE, afterE, enclosures};
 ghost use Rattle.enclosure.specs.Answer.{answer, ends};
 ghost use Rattle.enclosure.specs.Ends.{endsAlone};
 use interval::Interval;
@@ -37,6 +38,46 @@ pub fn point(x: f64) -> Enclosure
     Enclosure {
         value: x,
         ends: interval::point(x),
+    }
+}
+
+// The Rust's PI, FRAC_PI_6 and TAU, each with the two neighbouring floats that enclose pi, pi / 6 and twice pi.
+pub fn pi() -> Enclosure
+    ensures { λ r. ⌜ r ≡ constantE Arith.pi ⌝ }
+{
+    Enclosure {
+        value: 3.141592653589793,
+        ends: Interval {
+            lower: 3.141592653589793,
+            upper: 3.1415926535897936,
+            sound: true,
+        },
+    }
+}
+
+pub fn frac_pi_6() -> Enclosure
+    ensures { λ r. ⌜ r ≡ constantE Arith.frac-pi-6 ⌝ }
+{
+    Enclosure {
+        value: 0.5235987755982989,
+        ends: Interval {
+            lower: 0.5235987755982988,
+            upper: 0.5235987755982989,
+            sound: true,
+        },
+    }
+}
+
+pub fn tau() -> Enclosure
+    ensures { λ r. ⌜ r ≡ constantE Arith.tau ⌝ }
+{
+    Enclosure {
+        value: 6.283185307179586,
+        ends: Interval {
+            lower: 6.283185307179586,
+            upper: 6.283185307179587,
+            sound: true,
+        },
     }
 }
 

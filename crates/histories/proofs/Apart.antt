@@ -11,6 +11,7 @@ use Rattle.histories.specs.History.{Elementary, History, HistoryAnswers,
 -- the root of an input is the input; every other call gets 6
 abbrev of-input : History → Ans Float → Ans Float
 of-input (Made.lit f) a = a
+of-input (Made.constant c) a = refused 6
 of-input (Made.add h k) a = refused 6
 of-input (Made.sub h k) a = refused 6
 of-input (Made.mul h k) a = refused 6

@@ -2,7 +2,7 @@
 use lib.Ieee.{Float}
 use mathlib.Core.Path.{_≡_, refl, ap, ap₂}
 use Rattle.number.specs.Ans.{Ans, held, refused, _>>=_}
-use Rattle.number.specs.Arith.{Arith}
+use Rattle.number.specs.Arith.{Arith, pi, frac-pi-6, tau, node}
 use Rattle.number.specs.Functions.{Answers, calls, call, call₂}
 use Rattle.number.proofs.Rel.{Rel, FunRel, Both, both-held, both-refused, then-both, call-rel, call₂-rel}
 use Rattle.histories.specs.History.{Elementary, History, HistoryAnswers, Traced, withoutHistory, unlooking, histories, noted, ask, ask₂, asks}
@@ -17,7 +17,7 @@ pub numbers : {S T : Type 0} {R : S → T → Type 0} {a : Ans (Traced S)} {b : 
 numbers K = then-both K (λ _ _ r. both-held (r .number))
 
 module _ (A B : Arith) (K : Rel A B) where
-  open Rel K using (R, r-add, r-sub, r-mul, r-div, r-neg, r-pow, r-down, r-lit, r-val, r-after)
+  open Rel K using (R, r-add, r-sub, r-mul, r-div, r-neg, r-pow, r-down, r-lit, r-constant, r-val, r-after)
 
   abbrev pub histories-rel : Rel (histories A) (histories B)
   histories-rel =
@@ -31,6 +31,7 @@ module _ (A B : Arith) (K : Rel A B) where
         r-pow = λ n p. record { same = ap (λ (h : History). Made.pow h n) (p .same); number = r-pow n (p .number) };
         r-down = λ n p. record { same = ap (λ (h : History). Made.powDown h n) (p .same); number = r-down n (p .number) };
         r-lit = λ f. record { same = refl; number = r-lit f };
+        r-constant = λ c. record { same = refl; number = r-constant c };
         r-val = λ p. r-val (p .number);
         r-after = λ p q. record { same = ap₂ Made.after (p .same) (q .same); number = r-after (p .number) (q .number) };
       }
@@ -55,10 +56,10 @@ module _ (A B : Arith) (K : Rel A B) where
           r-expm1 = λ p. ask-rel Made.expm1 p;
           r-tanh = λ p. ask-rel Made.tanh p;
           r-powf = λ p q. ask₂-rel p q;
-          r-pi = histories-rel .r-lit _;
-          r-frac-pi-6 = histories-rel .r-lit _;
-          r-tau = histories-rel .r-lit _;
-          r-node = λ s digits places. histories-rel .r-lit _;
+          r-pi = histories-rel .r-constant pi;
+          r-frac-pi-6 = histories-rel .r-constant frac-pi-6;
+          r-tau = histories-rel .r-constant tau;
+          r-node = λ s digits places. histories-rel .r-constant (node s digits places);
         }
 
 -- ---- answers that look at the arguments alone: the run is the plain one
@@ -83,6 +84,7 @@ module _ (A : Arith) where
         r-pow = λ n p. ap (λ (x : A .Num). A .pow x n) p;
         r-down = λ n p. ap (λ (x : A .Num). A .powDown x n) p;
         r-lit = λ f. refl;
+        r-constant = λ c. refl;
         r-val = λ p. ap (A .val) p;
         r-after = λ p q. ap₂ (A .after) p q;
       }

@@ -2,7 +2,7 @@
 use Prim.Native.Nat.{ℕ}
 use lib.Ieee.{Float}
 use Rattle.number.specs.Ans.{Ans, held, refused, _>>=_}
-use Rattle.number.specs.Arith.{Arith}
+use Rattle.number.specs.Arith.{Arith, Constant}
 use Rattle.number.specs.Functions.{Functions, Answers, answered, answered₂, calls}
 
 -- the elementary functions of one argument
@@ -16,8 +16,9 @@ pub data Elementary : Type 0 where
 
 -- the expression that made a number
 pub data History : Type 0 where
-  -- an input or a constant
+  -- an input or a number of the source
   lit : Float → History
+  constant : Constant → History
   add : History → History → History
   sub : History → History → History
   mul : History → History → History
@@ -75,6 +76,7 @@ module _ (A : Arith) where
         pow = λ x n. record { history = pow (x .history) n; number = A .pow (x .number) n };
         powDown = λ x n. record { history = powDown (x .history) n; number = A .powDown (x .number) n };
         lit = λ f. record { history = lit f; number = A .lit f };
+        constant = λ c. record { history = constant c; number = A .constant c };
         val = λ x. A .val (x .number);
         after = λ u x. record { history = after (u .history) (x .history); number = A .after (u .number) (x .number) };
       }
@@ -90,7 +92,7 @@ module _ (A : Arith) where
     abbrev pub ask₂ : Traced (A .Num) → Traced (A .Num) → Ans (Traced (A .Num))
     ask₂ x y = noted (answer₂ (x .history) (y .history)) (answered₂ A (E .powf (x .history) (y .history) (A .val (x .number)) (A .val (y .number))) (x .number) (y .number))
 
-    -- the functions of a run, from such answers; constants are points, as in every run
+    -- the functions of a run, from such answers; its constants are the arithmetic's
     abbrev pub asks : Functions (Traced (A .Num))
     asks =
         let constants = calls histories silent in

@@ -14,12 +14,10 @@ ghost use Rattle.mie_parameters.specs.Places.{inPlaces};
 use number::FloatAnswer;
 use sizes::SIDE;
 
-// std::f64::consts. What they are in each run is `calls` of number/specs/Functions.
+// std::f64::consts, in the float run. What they are in each run is `constant` of its arithmetic.
 pub const PI: f64 = 3.141592653589793;
 
 pub const FRAC_PI_6: f64 = 0.5235987755982989;
-
-pub const TAU: f64 = 6.283185307179586;
 
 // Lafitte et al. 2013, for both models; SAFT-VR Mie calls LAM_COEFF C.
 pub const PHI: [[f64; 7]; 6] = [

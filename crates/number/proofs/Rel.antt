@@ -4,7 +4,7 @@ use lib.Ieee.{Float}
 use mathlib.Core.Path.{_≡_}
 use mathlib.Core.Bool.{Bool, true, false, cond}
 use mathlib.Core.List.{List, [], _∷_}
-use Rattle.number.specs.Arith.{Arith}
+use Rattle.number.specs.Arith.{Arith, Constant, pi, frac-pi-6, tau, node}
 use Rattle.number.specs.Ans.{Ans, held, refused, _>>=_}
 use Rattle.number.specs.Functions.{Functions, Answers, answered, answered₂, calls, call, call₂}
 use Rattle.number.specs.Walk.{turns, walk}
@@ -20,6 +20,7 @@ pub record Rel (A B : Arith) : Type 1 where
   pub r-pow : (n : ℕ) {x : A .Num} {u : B .Num} → R x u → R (A .pow x n) (B .pow u n)
   pub r-down : (n : ℕ) {x : A .Num} {u : B .Num} → R x u → R (A .powDown x n) (B .powDown u n)
   pub r-lit : (f : Float) → R (A .lit f) (B .lit f)
+  pub r-constant : (c : Constant) → R (A .constant c) (B .constant c)
   pub r-val : {x : A .Num} {u : B .Num} → R x u → A .val x ≡ B .val u
   pub r-after : {x y : A .Num} {u v : B .Num} → R x u → R y v → R (A .after x y) (B .after u v)
 
@@ -85,7 +86,7 @@ walk-rel R zero f g h p = both-held p
 walk-rel R (suc n) f g h p = then-both (walk-rel R n f g h p) (h n)
 
 module _ (A B : Arith) (K : Rel A B) where
-  open Rel K using (R, r-add, r-sub, r-mul, r-div, r-neg, r-pow, r-down, r-lit, r-val, r-after)
+  open Rel K using (R, r-add, r-sub, r-mul, r-div, r-neg, r-pow, r-down, r-lit, r-constant, r-val, r-after)
 
   -- ---- elementary calls
   answered-rel : (a : Ans Float) {x : A .Num} {u : B .Num} → R x u → Both R (answered A a x) (answered B a u)
@@ -114,8 +115,8 @@ module _ (A B : Arith) (K : Rel A B) where
         r-expm1 = λ p. call-rel (E .expm1) p;
         r-tanh = λ p. call-rel (E .tanh) p;
         r-powf = λ p q. call₂-rel (E .powf) p q;
-        r-pi = r-lit _;
-        r-frac-pi-6 = r-lit _;
-        r-tau = r-lit _;
-        r-node = λ s digits places. r-lit _;
+        r-pi = r-constant pi;
+        r-frac-pi-6 = r-constant frac-pi-6;
+        r-tau = r-constant tau;
+        r-node = λ s digits places. r-constant (node s digits places);
       }

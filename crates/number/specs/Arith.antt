@@ -6,6 +6,13 @@ use Prim.Native.Nat.{ℕ, suc, _^_}
 use mathlib.Core.Bool.{Bool, false}
 use Rattle.number.specs.Power.{powUp}
 
+-- the constants of the Rust that need not be floats: pi, pi / 6, twice pi, and a decimal of a quadrature rule (whether it is negative, its digits, and how many places they take)
+pub data Constant : Type 0 where
+  pi : Constant
+  frac-pi-6 : Constant
+  tau : Constant
+  node : Bool → ℕ → ℕ → Constant
+
 pub record Arith : Type 1 where
   pub Num : Type 0
   pub add : Num → Num → Num
@@ -16,8 +23,10 @@ pub record Arith : Type 1 where
   -- the whole power n, and minus n
   pub pow : Num → ℕ → Num
   pub powDown : Num → ℕ → Num
-  -- an input, a constant or an elementary answer
+  -- an input, a number of the source or an elementary answer
   pub lit : Float → Num
+  -- one of the constants above
+  pub constant : Constant → Num
   -- the float run's value: what branches and elementary calls look at
   pub val : Num → Float
   -- `after u x` is x; u was worked on the way, though x does not hang on it
@@ -52,6 +61,13 @@ epsilon64 = bits 0x3cb0_0000_0000_0000
 abbrev pub whole : (A : Arith) → ℕ → A .Num
 whole A n = A .lit (decimal false n 0)
 
+-- the f64 that the Rust has for a constant: std::f64::consts::{PI, FRAC_PI_6, TAU}, and the one nearest to a decimal
+abbrev pub nearest : Constant → Float
+nearest pi = bits 0x4009_21fb_5444_2d18
+nearest frac-pi-6 = bits 0x3fe0_c152_382d_7366
+nearest tau = bits 0x4019_21fb_5444_2d18
+nearest (node s digits places) = decimal s digits places
+
 -- the float run: each operation rounded; an input or answer is itself; unused work does not count
 abbrev pub floats : Arith
 floats =
@@ -65,6 +81,7 @@ floats =
       pow = powUp (Ieee.mul binary64) one64;
       powDown = λ x n. Ieee.div binary64 one64 (powUp (Ieee.mul binary64) one64 x n);
       lit = λ x. x;
+      constant = nearest;
       val = λ x. x;
       after = λ u x. x;
     }

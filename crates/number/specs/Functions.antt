@@ -5,7 +5,7 @@ use mathlib.Core.List.{List}
 use lib.ListN.{getD}
 use lib.Ieee.{Float}
 use Rattle.number.specs.Ans.{Ans, held, _>>=_}
-use Rattle.number.specs.Arith.{Arith, bits, decimal}
+use Rattle.number.specs.Arith.{Arith, pi, frac-pi-6, tau, node}
 
 -- what the elementary functions answer: the port's own, or any others. An argument gives a value or a refusal
 pub record Answers : Type 0 where
@@ -47,7 +47,7 @@ unfoldable pub entry : {N : Type 0} → Functions N → List Decimal → ℕ →
 entry F table k = let e = getD table k (dec false 0 0) in F .node (e .minus) (e .digits) (e .places)
 
 module _ (A : Arith) where
-  open Arith A using (Num, lit, val, after)
+  open Arith A using (Num, lit, constant, val, after)
 
   -- An answer is a point, after its arguments: these were worked on the way.
   unfoldable pub answered : Ans Float → Num → Ans Num
@@ -63,7 +63,7 @@ module _ (A : Arith) where
   abbrev pub call₂ : (Float → Float → Ans Float) → Num → Num → Ans Num
   call₂ f x y = answered₂ (f (val x) (val y)) x y
 
-  -- the functions of a run, from the answers; constants are points
+  -- the functions of a run, from the answers; its constants are the arithmetic's
   abbrev pub calls : Answers → Functions Num
   calls E =
       record {
@@ -74,8 +74,8 @@ module _ (A : Arith) where
         expm1 = call (E .expm1);
         tanh = call (E .tanh);
         powf = call₂ (E .powf);
-        pi = lit (bits 0x4009_21fb_5444_2d18);
-        frac-pi-6 = lit (bits 0x3fe0_c152_382d_7366);
-        tau = lit (bits 0x4019_21fb_5444_2d18);
-        node = λ s digits places. lit (decimal s digits places);
+        pi = constant pi;
+        frac-pi-6 = constant frac-pi-6;
+        tau = constant tau;
+        node = λ s digits places. constant (node s digits places);
       }

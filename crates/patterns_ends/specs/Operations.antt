@@ -9,6 +9,7 @@ use Rattle.number.specs.Lists.{at}
 use Rattle.enclosure.specs.declared.Enclosure.{Enclosure}
 use Rattle.enclosure.specs.declared.Ends.{Ends}
 use Rattle.enclosure.specs.Enclosure.{enclosures, point}
+use Rattle.enclosure.specs.Constants.{Choice}
 use Rattle.enclosure.specs.Exact.{Exact, exacts, exactly}
 use Rattle.enclosure.specs.Ends.{orNotFinite, endsOf}
 use Rattle.patterns.specs.Formulas.{sample}
@@ -21,8 +22,9 @@ module _ (E : Answers) where
   abbrev pub sampleEnclosure : List Float → Float → Ans Enclosure
   sampleEnclosure xs y = sample enclosures (calls enclosures E) (length xs) (λ i. point (at xs i)) (point y)
 
-  abbrev pub sampleExact : List Float → Float → Ans Exact
-  sampleExact xs y = sample exacts (calls exacts E) (length xs) (λ i. exactly (at xs i)) (exactly y)
+  -- with the fractions that q has for the constants
+  abbrev pub sampleExact : Choice → List Float → Float → Ans Exact
+  sampleExact q xs y = sample (exacts q) (calls (exacts q) E) (length xs) (λ i. exactly (at xs i)) (exactly y)
 
   unfoldable pub sampleEnds : List Float → Float → Ans Ends
   sampleEnds xs y = endsOf (sampleFloat xs y >>= orNotFinite) (sampleEnclosure xs y)

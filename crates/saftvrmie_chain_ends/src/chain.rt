@@ -19,7 +19,6 @@ use crate::sutherland;
 use enclosure::Enclosure;
 use enclosure::EnclosureAnswer;
 use enclosure_dual::EnclosureDual;
-use mie_parameters::PI;
 use saftvrmie_dispersion_ends::BarEnclosures;
 use saftvrmie_dispersion_ends::SumsEnclosures;
 use saftvrmie_dispersion_ends::SumsEnclosuresAnswer;
@@ -94,7 +93,7 @@ fn link_pref(d3: Enclosure, eps_k: Enclosure) -> Enclosure
     ensures { λ r. ⌜ r ≡ linkPref enclosures (calls enclosures port .pi) d3 «eps_k» ⌝ }
 {
     let two = enclosure::point(2.0);
-    let pi = enclosure::point(PI);
+    let pi = enclosure::pi();
     enclosure::mul(enclosure::mul(enclosure::mul(d3, eps_k), two), pi)
 }
 

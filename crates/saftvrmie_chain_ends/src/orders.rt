@@ -22,7 +22,6 @@ use binary_log::Log;
 use enclosure::Enclosure;
 use enclosure::EnclosureAnswer;
 use enclosure_dual::EnclosureDual;
-use mie_parameters::PI;
 use saftvrmie_parameters::PairParameters;
 
 // From b1 times i and b2 times j.
@@ -119,7 +118,7 @@ fn pref_dual(rho: EnclosureDual, d3: Enclosure, eps_k: Enclosure, c: Enclosure) 
     let a = enclosure_dual::mul_plain(rho, d3);
     let z = enclosure_dual::mul_plain(a, eps_k);
     let twice = enclosure_dual::mul_plain(z, enclosure::point(2.0));
-    let round = enclosure_dual::mul_plain(twice, enclosure::point(PI));
+    let round = enclosure_dual::mul_plain(twice, enclosure::pi());
     enclosure_dual::mul_plain(round, c)
 }
 

@@ -1,14 +1,17 @@
 // The diameter of a pair from its reduced lower limit (saftvrmie/parameters.rs, `hs_diameter_ij`) in the two-ended run, and as a two-ended operation.
 ghost use mathlib.Core.Path.{_≡_};
 ghost use Prim.Native.Nat.{_+_, _*_, _<_};
-ghost use Rattle.number.specs.Functions.{calls, entry};
+ghost use Rattle.number.specs.Functions.{calls};
 ghost use Rattle.number.specs.Lists.{at};
 ghost use Rattle.sizes.specs.Sizes.{sheet};
 ghost use Rattle.elementary.specs.Port.{port};
 ghost use Rattle.enclosure.specs.Answer.{answer, ends};
 ghost use Rattle.enclosure.specs.Enclosure.{enclosures, point};
-ghost use Rattle.saftvrmie_diameter.specs.Diameter.{positions, weights, cEpsT, betaUMie, nodeTurn, diameterFrom};
+ghost use Rattle.saftvrmie_diameter.specs.Diameter.{cEpsT, betaUMie, nodeTurn, diameterFrom};
 ghost use Rattle.saftvrmie_diameter_ends.specs.Operations.{diameterEnds};
+
+mod rule;
+
 use enclosure::Enclosure;
 use enclosure::EnclosureAnswer;
 use enclosure::EndsAnswer;
@@ -16,21 +19,6 @@ use saftvrmie_parameters::SaftVRMiePars;
 use sizes::SHEET;
 use sizes::SHEETS;
 use sizes::SIDE;
-
-// Entries of the rule, as points; k is the turn of a loop over its 10 nodes, and beyond them there is no entry.
-fn position(k: usize) -> Enclosure
-    requires { ⌜ k < 10 ⌝ }
-    ensures { λ r. ⌜ r ≡ entry (calls enclosures port) positions k ⌝ }
-{
-    enclosure::point(saftvrmie_diameter::position(k))
-}
-
-fn weight(k: usize) -> Enclosure
-    requires { ⌜ k < 10 ⌝ }
-    ensures { λ r. ⌜ r ≡ entry (calls enclosures port) weights k ⌝ }
-{
-    enclosure::point(saftvrmie_diameter::weight(k))
-}
 
 // inverse_temperature * c_ij * epsilon_k_ij
 pub fn c_eps_t(temperature: Enclosure, c: Enclosure, epsilon_k: Enclosure) -> Enclosure
@@ -72,8 +60,8 @@ fn node(
     let one = enclosure::point(1.0);
     let half = enclosure::point(0.5);
     let width = enclosure::mul(enclosure::add(enclosure::neg(r0), one), half);
-    let x = position(k);
-    let w = weight(k);
+    let x = rule::position(k);
+    let w = rule::weight(k);
     let r = enclosure::add(enclosure::add(enclosure::mul(width, x), width), r0);
     let EnclosureAnswer::Value(u) = beta_u_mie(la, lr, c_eps_t, r) else {
         return EnclosureAnswer::Outside;

@@ -16,7 +16,6 @@ use enclosure::Enclosure;
 use enclosure::EnclosureAnswer;
 use mie_parameters::LAM_COEFF;
 use mie_parameters::PHI;
-use mie_parameters::PI;
 use saftvrmie_parameters::PairParameters;
 
 // What all pairs of a state share: b1, b2 and b3 are the factors of `b_ij` that hang on zeta_x alone.
@@ -495,7 +494,7 @@ fn pref(rho: Enclosure, d3: Enclosure, eps_k: Enclosure, c: Enclosure) -> Enclos
 {
     let a = enclosure::mul(enclosure::mul(rho, d3), eps_k);
     let b = enclosure::mul(a, enclosure::point(2.0));
-    enclosure::mul(enclosure::mul(b, enclosure::point(PI)), c)
+    enclosure::mul(enclosure::mul(b, enclosure::pi()), c)
 }
 
 fn a1(pref: Enclosure, s: FiveEnclosures) -> Enclosure

@@ -11,8 +11,9 @@ use Rattle.number.proofs.Rel.{Rel, Both, calls-rel}
 use Rattle.enclosure.specs.declared.Enclosure.{Enclosure}
 use Rattle.enclosure.specs.declared.Ends.{Ends}
 use Rattle.enclosure.specs.Enclosure.{enclosures}
+use Rattle.enclosure.specs.Constants.{Choice}
 use Rattle.enclosure.specs.Exact.{exacts}
-use Rattle.enclosure.specs.Ends.{Encloses, endsAlone}
+use Rattle.enclosure.specs.Ends.{Fair, Encloses, endsAlone}
 use Rattle.enclosure.proofs.Relations.{Value, values, contains}
 use Rattle.enclosure.proofs.TwoEnds.{operation-1, operation-2, operation-alone, operation-encloses}
 use Rattle.saftvrmie_parameters.specs.declared.SaftVRMiePars.{SaftVRMiePars}
@@ -42,7 +43,7 @@ module _ (E : Answers) (s : SaftVRMiePars) (t : Float) (x rho d : List Float) (c
     unfolding dispersionEnds energyBy
     ends-are q a r g h = h ∙ (ap endsAlone g ∙ operation-alone run-values _ _ p q)
 
-  -- for any elementary answers: the float operation's result and the exact run's
-  pub dispersion-encloses : (e : Ends) → dispersionEnds E s t x rho d chain ≡ held e → Encloses e (energyBy E s t x rho d chain) (energyRun exacts (calls exacts E) s t x rho d chain)
+  -- for any elementary answers and any fair choice of the constants: the float operation's result and the exact run's
+  pub dispersion-encloses : (q : Choice) → Fair q → (e : Ends) → dispersionEnds E s t x rho d chain ≡ held e → Encloses e (energyBy E s t x rho d chain) (energyRun (exacts q) (calls (exacts q) E) s t x rho d chain)
   unfolding dispersionEnds energyBy
-  dispersion-encloses = operation-encloses run-values _ _ (run-rel enclosures exacts contains)
+  dispersion-encloses q fair = operation-encloses run-values _ _ (run-rel enclosures (exacts q) (contains q fair))

@@ -17,7 +17,6 @@ ghost use Rattle.saftvrmie_properties_ends.specs.Answer.{kAnswer, proper
 ghost use Rattle.saftvrmie_properties_ends.specs.Points.{points, pairs};
 use enclosure::Enclosure;
 use enclosure::EnclosureAnswer;
-use mie_parameters::FRAC_PI_6;
 use sizes::SHEETS;
 use sizes::SIDE;
 
@@ -339,7 +338,7 @@ fn after_lower(n: usize, d: &[f64], x: Enclosure) -> Enclosure
 fn volume(rho: Enclosure) -> Enclosure
     ensures { λ r. ⌜ r ≡ mulE rho (calls enclosures port .frac-pi-6) ⌝ }
 {
-    let c = enclosure::point(FRAC_PI_6);
+    let c = enclosure::frac_pi_6();
     enclosure::mul(rho, c)
 }
 

@@ -1,7 +1,7 @@
 // The diameter of a pair from its two searched radii (saftvrqmie/eos/hard_sphere.rs, `hs_diameter_ij`) in the two-ended run, and as a two-ended operation.
 ghost use mathlib.Core.Path.{_≡_};
 ghost use Prim.Native.Nat.{_<_};
-ghost use Rattle.number.specs.Functions.{calls, entry};
+ghost use Rattle.number.specs.Functions.{calls};
 ghost use Rattle.elementary.specs.Port.{port};
 ghost use Rattle.enclosure.specs.Answer.{answer, ends};
 ghost use Rattle.enclosure.specs.Enclosure.{enclosures};
@@ -10,8 +10,11 @@ ghost use Rattle.saftvrqmie_potential.specs.Potential.{potential};
 ghost use Rattle.enclosure.specs.declared.Enclosure.{Enclosure};
 ghost use Rattle.saftvrqmie_potential_ends.specs.Shared.{Sharing};
 ghost use Rattle.saftvrqmie_alone_ends.specs.Alone.{aloneOf};
-ghost use Rattle.saftvrqmie_searches.specs.Diameter.{abscissas, weights, nodeTurn, diameterBy, diameter};
+ghost use Rattle.saftvrqmie_searches.specs.Diameter.{nodeTurn, diameterBy, diameter};
 ghost use Rattle.saftvrqmie_diameter_ends.specs.Operations.{diameterEnds, widthOf};
+
+mod rule;
+
 use enclosure::Enclosure;
 use enclosure::EnclosureAnswer;
 use enclosure::EndsAnswer;
@@ -21,21 +24,6 @@ use saftvrqmie_potential_ends::PairEnclosures;
 use saftvrqmie_potential_ends::PairShared;
 use saftvrqmie_potential_ends::PairSharedAnswer;
 use sizes::SIDE;
-
-// Entries of the rule, as points; k is the turn of a loop over its 21 nodes, and beyond them there is no entry.
-fn abscissa(k: usize) -> Enclosure
-    requires { ⌜ k < 21 ⌝ }
-    ensures { λ r. ⌜ r ≡ entry (calls enclosures port) abscissas k ⌝ }
-{
-    enclosure::point(saftvrqmie_searches::abscissa(k))
-}
-
-fn weight(k: usize) -> Enclosure
-    requires { ⌜ k < 21 ⌝ }
-    ensures { λ r. ⌜ r ≡ entry (calls enclosures port) weights k ⌝ }
-{
-    enclosure::point(saftvrqmie_searches::weight(k))
-}
 
 // One node's part, added. Both derivatives count, whether worked or not.
 fn node(
@@ -54,7 +42,7 @@ fn node(
         ⌜ (Sharing w → x ≡ aloneOf w → (sigmaEff : Enclosure) → width ≡ widthOf sigmaEff r0 → answer r ≡ nodeTurn enclosures F u temperature sigmaEff r0 k «d_hs») ⌝ }
 {
     let r = enclosure::add(
-        enclosure::add(enclosure::mul(width, abscissa(k)), width),
+        enclosure::add(enclosure::mul(width, rule::abscissa(k)), width),
         r0,
     );
     let EnclosureAnswer::Value(u) = saftvrqmie_alone_ends::u_after(w, x, r) else {
@@ -68,7 +56,7 @@ fn node(
     };
     let one = enclosure::point(1.0);
     let f_u = enclosure::add(enclosure::neg(e), one);
-    let part = enclosure::mul(enclosure::mul(width, f_u), weight(k));
+    let part = enclosure::mul(enclosure::mul(width, f_u), rule::weight(k));
     EnclosureAnswer::Value(enclosure::add(d_hs, part))
 }
 

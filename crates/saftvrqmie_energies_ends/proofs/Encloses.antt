@@ -1,4 +1,4 @@
--- Demand 3 on the quantum energies: whatever is handed in and whatever the elementary functions answer, the ends that are reported enclose the float run and the exact run of each contribution. Assumes nothing.
+-- Demand 3 on the quantum energies: whatever is handed in, whatever the elementary functions answer and whatever fair choice of the constants the exact run takes, the ends that are reported enclose the float run and the exact run of each contribution. Assumes nothing.
 use mathlib.Core.Path.{_≡_, subst}
 use mathlib.Core.Bool.{Bool, true, false, _&&_}
 use mathlib.Core.List.{List}
@@ -13,7 +13,9 @@ use Rattle.number.proofs.Walk.{then-held, held-inj}
 use Rattle.enclosure.specs.declared.Enclosure.{Enclosure}
 use Rattle.enclosure.specs.declared.Ends.{Ends}
 use Rattle.enclosure.specs.Enclosure.{enclosures}
+use Rattle.enclosure.specs.Constants.{Choice}
 use Rattle.enclosure.specs.Exact.{Exact, exacts}
+use Rattle.enclosure.specs.Ends.{Fair}
 use Rattle.enclosure.proofs.Relations.{Value, Contains, contains}
 use Rattle.enclosure.proofs.TwoEnds.{held-encloses}
 use Rattle.saftvrqmie_parameters.specs.declared.SaftVRQMiePars.{SaftVRQMiePars}
@@ -55,10 +57,10 @@ module _ {enclosure : Ans (EnergiesIn Enclosure)} {float : Ans (EnergiesIn Float
       subst (λ (z : EnergiesIn Ends). EachEncloses z float exact) (held-inj _ _ (d .2)) (sound-each (b .0) (b .1) (told-true (allSound (b .0)) (d .0) (d .1)))
 
 module _ (E : Answers) (s : SaftVRQMiePars) (t : Float) (x rho table : List Float) (wanted : Bool) where
-  pub energies-enclose : (e : EnergiesIn Ends) → energiesEnds E s t x rho table wanted ≡ held e
-      → EachEncloses e (contributionsOf floats (calls floats E) s t x rho table wanted) (contributionsOf exacts (calls exacts E) s t x rho table wanted)
+  pub energies-enclose : (q : Choice) → Fair q → (e : EnergiesIn Ends) → energiesEnds E s t x rho table wanted ≡ held e
+      → EachEncloses e (contributionsOf floats (calls floats E) s t x rho table wanted) (contributionsOf (exacts q) (calls (exacts q) E) s t x rho table wanted)
   unfolding energiesEnds
-  energies-enclose =
+  energies-enclose q fair =
       each-enclose (worked-values E s t x rho table wanted)
-      (contributionsOf-rel enclosures exacts contains (calls enclosures E) (calls exacts E) (calls-rel enclosures exacts contains E) s t x rho table wanted)
+      (contributionsOf-rel enclosures (exacts q) (contains q fair) (calls enclosures E) (calls (exacts q) E) (calls-rel enclosures (exacts q) (contains q fair) E) s t x rho table wanted)
       (energiesBy E s t x rho table wanted)

@@ -21,7 +21,6 @@ ghost use Rattle.saftvrqmie_energies_ends.specs.Parts.{mixtureIn};
 use crate::state;
 use enclosure::Enclosure;
 use enclosure::EnclosureAnswer;
-use mie_parameters::FRAC_PI_6;
 use saftvrqmie_dispersion_ends::DispersionEnclosures;
 use saftvrqmie_parameters::OrderRecord;
 use sizes::SHEET;
@@ -99,7 +98,7 @@ fn packing(n: usize, xs: [Enclosure; SIDE], table: &[f64], k: usize, rho_s: Encl
     requires { ⌜ (n ≤ side) × (length (now table) ≡ 4 * sheet) × (k < 2) ⌝ }
     ensures { λ r. ⌜ r ≡ packing enclosures (calls enclosures port) n (nth enclosures xs) (sheetOf enclosures (now (table .entry)) k) «rho_s» ⌝ }
 {
-    let c = enclosure::point(FRAC_PI_6);
+    let c = enclosure::frac_pi_6();
     let mut r = enclosure::point(0.0);
     for i in 0usize..n {
         r = packing_row(n, xs, table, k, i, r);
@@ -162,7 +161,7 @@ fn lead(
 ) -> Enclosure
     ensures { λ r. ⌜ r ≡ lead enclosures (calls enclosures port) i j xi xj «rho_s» d ⌝ }
 {
-    let c = enclosure::point(FRAC_PI_6);
+    let c = enclosure::frac_pi_6();
     let x = enclosure::mul(enclosure::mul(xi, xj), fac(i, j));
     enclosure::mul(
         enclosure::mul(enclosure::mul(x, c), rho_s),

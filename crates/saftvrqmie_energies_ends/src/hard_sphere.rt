@@ -13,7 +13,6 @@ ghost use Rattle.saftvrqmie_energies_ends.specs.Parts.{zetaIn, zeta23In,
 use crate::state;
 use enclosure::Enclosure;
 use enclosure::EnclosureAnswer;
-use mie_parameters::PI;
 use sizes::SIDE;
 
 pub struct ZetaEnclosures {
@@ -38,7 +37,7 @@ fn pi_sixth(pi: Enclosure, six: Enclosure) -> Enclosure
 fn zeta_added(rho: Enclosure, d: Enclosure, m: Enclosure, z: ZetaEnclosures) -> ZetaEnclosures
     ensures { λ r. ⌜ zetaIn r ≡ zetaAdded enclosures (calls enclosures port) rho d m (zetaIn z) ⌝ }
 {
-    let pi = enclosure::point(PI);
+    let pi = enclosure::pi();
     let six = enclosure::point(6.0);
     let w = enclosure::mul(pi_sixth(pi, six), m);
     let t0 = enclosure::mul(rho, enclosure::pow_up(d, 0));
@@ -116,7 +115,7 @@ fn hard_sphere_of(z: ZetaEnclosures, z23: Enclosure, l: Enclosure) -> Enclosure
     let f = frac_1mz3(z.z3);
     let three = enclosure::point(3.0);
     let six = enclosure::point(6.0);
-    let pi = enclosure::point(PI);
+    let pi = enclosure::pi();
     let a = enclosure::mul(enclosure::mul(enclosure::mul(z.z1, z.z2), f), three);
     let b = enclosure::mul(enclosure::pow_up(z.z2, 2), enclosure::pow_up(f, 2));
     let c = enclosure::sub(enclosure::mul(z.z2, enclosure::pow_up(z23, 2)), z.z0);

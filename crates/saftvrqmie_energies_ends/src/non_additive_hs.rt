@@ -14,7 +14,6 @@ use crate::hard_sphere;
 use crate::hard_sphere::ZetaEnclosures;
 use crate::state;
 use enclosure::Enclosure;
-use mie_parameters::PI;
 use sizes::SIDE;
 
 fn g_hs(di: Enclosure, dj: Enclosure, z2: Enclosure, f: Enclosure) -> Enclosure
@@ -43,7 +42,7 @@ fn non_additive_ij(
 {
     let half = enclosure::point(0.5);
     let two = enclosure::point(2.0);
-    let pi = enclosure::point(PI);
+    let pi = enclosure::pi();
     let a = enclosure::mul(enclosure::add(di, dj), half);
     let g = g_hs(di, dj, z2, f);
     let x = enclosure::mul(enclosure::mul(enclosure::neg(rho_s), xi), xj);

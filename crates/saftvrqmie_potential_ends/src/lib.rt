@@ -13,7 +13,6 @@ ghost use Rattle.saftvrqmie_potential_ends.specs.Values.{potentialIn, po
 ghost use Rattle.saftvrqmie_potential_ends.specs.Shared.{Sharing, Shares, lineOf};
 use enclosure::Enclosure;
 use enclosure::EnclosureAnswer;
-use mie_parameters::TAU;
 use saftvrqmie_parameters::FeynmanHibbsOrder;
 use saftvrqmie_parameters::OrderRecord;
 use sizes::SHEET;
@@ -98,7 +97,7 @@ fn prefactor() -> Enclosure
 {
     let planck = enclosure::point(6.62607015e-34);
     let kb = enclosure::point(1.380649e-23);
-    let tau = enclosure::point(TAU);
+    let tau = enclosure::tau();
     let scale = enclosure::point(1e20);
     let twelve = enclosure::point(12.0);
     enclosure::div(

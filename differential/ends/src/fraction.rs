@@ -98,6 +98,13 @@ impl Fraction {
         let (digits, power) = if exponent == 0 { (bits, -1074) } else { (bits | 1 << 52, exponent - 1075) };
         Fraction::new(x < 0.0, trimmed(vec![digits]), vec![1], power)
     }
+    /// The fraction that a decimal writes, a minus before it or not.
+    pub fn decimal(text: &str) -> Fraction {
+        let (over, places) = text.trim_start_matches('-').split_once('.').unwrap();
+        let digits = |text: &str| text.bytes().fold(vec![], |n, d| sum(&product(&n, &[10]), &trimmed(vec![(d - b'0') as u64])));
+        let one_and_zeros = format!("1{}", "0".repeat(places.len()));
+        Fraction::new(text.starts_with('-'), digits(&format!("{over}{places}")), digits(&one_and_zeros), 0)
+    }
     pub fn negated(&self) -> Fraction {
         Fraction { negative: !self.negative && !self.over.is_empty(), ..self.clone() }
     }
@@ -168,6 +175,11 @@ mod tests {
         // (2^64 + 1)^2 - (2^64 - 1)^2 = 2^66, by carries over several digits
         let (a, b) = (f(2f64.powi(64)).plus(&f(1.0)), f(2f64.powi(64)).minus(&f(1.0)));
         assert!(same(&a.times(&a).minus(&b.times(&b)), &f(2f64.powi(66))));
+        assert!(
+            same(&Fraction::decimal("-0.3750"), &f(-0.375))
+                && same(&Fraction::decimal("10.0"), &f(10.0))
+                && same(&Fraction::decimal("0.000"), &f(0.0))
+        );
         assert!(same(&f(5e-324).times(&f(f64::MAX)).by(&f(5e-324)).unwrap(), &f(f64::MAX)));
     }
 }

@@ -11,6 +11,7 @@ thread_local! {
     static EIGHT: Cell<bool> = const { Cell::new(false) };
     static R0: Cell<f64> = const { Cell::new(0.0) };
     static EXACT: Cell<bool> = const { Cell::new(false) };
+    static CHOICE: Cell<Choice> = const { Cell::new(Choice::Float) };
     /// The exact run's values; nothing where a divisor of 0 went before.
     static VALUES: RefCell<Vec<Option<Fraction>>> = const { RefCell::new(vec![]) };
 }
@@ -33,10 +34,24 @@ pub fn work_exactly(wanted: bool) {
     VALUES.with_borrow_mut(Vec::clear);
 }
 
-/// Where the exact run's value stands; a point is its float.
+/// What the exact run takes for a constant that lies between two floats: its float, an end, or for each constant another place
+/// between its ends, by a seed.
+#[derive(Clone, Copy, Debug)]
+pub enum Choice {
+    Float,
+    Low,
+    High,
+    Apart(u64),
+}
+pub fn choose(choice: Choice) {
+    CHOICE.set(choice)
+}
+
+/// Where the exact run's value stands; a point is its float, a constant what was chosen for it.
 #[derive(Clone, Copy, Debug)]
 enum Exact {
     Point,
+    Constant,
     At(usize),
 }
 
@@ -87,14 +102,31 @@ fn outward(v: f64, corners: [f64; 4], a: F, b: F, exact: Exact) -> F {
 impl F {
     pub const EPSILON: F = F::k(f64::EPSILON);
     pub const NAN: F = F::k(f64::NAN);
-    /// A point: an input, a constant or an elementary answer.
+    /// A point: an input, a number of the text or an elementary answer.
     pub const fn k(x: f64) -> F {
         F { v: x, low: x, high: x, exact: Exact::Point }
+    }
+    /// A constant: its float, and the two floats that enclose it.
+    pub const fn between(v: f64, low: f64, high: f64) -> F {
+        F { v, low, high, exact: Exact::Constant }
+    }
+    fn chosen(self) -> Fraction {
+        match CHOICE.get() {
+            Choice::Float => Fraction::of(self.v),
+            Choice::Low => Fraction::of(self.low),
+            Choice::High => Fraction::of(self.high),
+            Choice::Apart(seed) => {
+                let place = (self.v.to_bits() ^ seed).wrapping_mul(0x9e37_79b9_7f4a_7c15) >> 54;
+                let width = Fraction::of(self.high).minus(&Fraction::of(self.low));
+                Fraction::of(self.low).plus(&width.times(&Fraction::of(place as f64 / 1024.0)))
+            }
+        }
     }
     /// The exact run's value: nothing after a divisor of 0, or where an input is not finite.
     pub fn fraction(self) -> Option<Fraction> {
         match self.exact {
             Exact::Point => self.v.is_finite().then(|| Fraction::of(self.v)),
+            Exact::Constant => Some(self.chosen()),
             Exact::At(k) => VALUES.with_borrow(|values| values[k].clone()),
         }
     }
@@ -215,7 +247,34 @@ impl Inv for F {
 
 pub mod consts {
     use super::F;
-    pub const PI: F = F::k(std::f64::consts::PI);
-    pub const TAU: F = F::k(std::f64::consts::TAU);
-    pub const FRAC_PI_6: F = F::k(std::f64::consts::FRAC_PI_6);
+    use std::f64::consts;
+    pub const PI: F = F::between(consts::PI, consts::PI, consts::PI.next_up());
+    pub const TAU: F = F::between(consts::TAU, consts::TAU, consts::TAU.next_up());
+    pub const FRAC_PI_6: F = F::between(consts::FRAC_PI_6, consts::FRAC_PI_6.next_down(), consts::FRAC_PI_6);
+}
+
+#[cfg(test)]
+mod tests {
+    use super::*;
+
+    #[test]
+    fn the_ends_of_the_constants() {
+        // 37 decimals of pi, cut off and one more in the last place
+        let digits = ["3.1415926535897932384626433832795028841", "3.1415926535897932384626433832795028842"];
+        let pi = digits.map(Fraction::decimal);
+        for (factor, c) in [(1.0, consts::PI), (2.0, consts::TAU)] {
+            let [low, high] = pi.each_ref().map(|p| p.times(&Fraction::of(factor)));
+            assert!(Fraction::of(c.low).at_most(&low) && high.at_most(&Fraction::of(c.high)));
+        }
+        let [low, high] = pi.each_ref().map(|p| p.by(&Fraction::of(6.0)).unwrap());
+        assert!(Fraction::of(consts::FRAC_PI_6.low).at_most(&low) && high.at_most(&Fraction::of(consts::FRAC_PI_6.high)));
+        for c in [consts::PI, consts::TAU, consts::FRAC_PI_6] {
+            assert!(c.low.next_up() == c.high && (c.v == c.low || c.v == c.high));
+            for choice in [Choice::Float, Choice::Low, Choice::High, Choice::Apart(0), Choice::Apart(7)] {
+                choose(choice);
+                let q = c.fraction().unwrap();
+                assert!(Fraction::of(c.low).at_most(&q) && q.at_most(&Fraction::of(c.high)));
+            }
+        }
+    }
 }

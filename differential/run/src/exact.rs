@@ -1,5 +1,6 @@
 //! The exact run: the Rust text on fractions, each elementary call with the float run's answer, beside the two ends that the
-//! port gives. Small states, since a fraction grows with every operation.
+//! port gives; for the constants that lie between two floats it takes their lower ends, their upper ends, and places between.
+//! Small states, since a fraction grows with every operation.
 use crate::calls::Caller;
 use crate::compare::judge;
 use crate::oracle::{self, State};
@@ -7,7 +8,7 @@ use crate::random::Random;
 use crate::sizes::SIDE;
 use crate::states::{self, Kind};
 use crate::tally::Tally;
-use ends::{F, Fraction};
+use ends::{Choice, F, Fraction};
 
 /// The largest fraction's digits in bits.
 #[derive(Default)]
@@ -90,9 +91,12 @@ pub fn run(count: u64, seed: u64, tally: &mut Tally) {
     let mut c = Caller::new(seed);
     let mut seen = Seen::default();
     for case in 0..count {
-        let mut g = Random(seed.wrapping_mul(0xe4ac7).wrapping_add(case << 20));
-        quantum(&mut g, case, &mut c, tally, &mut seen);
-        vr_mie(&mut g, case, &mut c, tally, &mut seen);
+        for choice in [Choice::Low, Choice::High, Choice::Apart(case)] {
+            ends::choose(choice);
+            let mut g = Random(seed.wrapping_mul(0xe4ac7).wrapping_add(case << 20));
+            quantum(&mut g, case, &mut c, tally, &mut seen);
+            vr_mie(&mut g, case, &mut c, tally, &mut seen);
+        }
     }
     ends::work_exactly(false);
     println!("the exact run's largest fraction has {} bits", seen.bits);

@@ -18,8 +18,8 @@ point-requires c κs = search needs
 mul-requires-3 : tie.Need-mul-requires-3
 mul-requires-3 c κs = search needs
 
-point-requires-2 : tie.Need-point-requires-2
-point-requires-2 c κs = search needs
+pi-requires : tie.Need-pi-requires
+pi-requires c κs = search needs
 
 mul-requires-4 : tie.Need-mul-requires-4
 mul-requires-4 c κs = search needs
@@ -33,7 +33,7 @@ returns c =
     rw (
       c .mul5 .ensures,
       c .before .mul4 .ensures,
-      c .before .before .point2 .ensures,
+      c .before .before .pi .ensures,
       c .before .before .before .mul3 .ensures,
       c .before .before .before .before .point .ensures,
       c .before .before .before .before .before .mul2 .ensures,
@@ -48,7 +48,7 @@ pref-spec =
     mul-requires-2
     point-requires
     mul-requires-3
-    point-requires-2
+    pi-requires
     mul-requires-4
     mul-requires-5
     returns)

@@ -5,8 +5,8 @@ use borrow.Author.Needs.{needs}
 use Rattle.saftvrmie_properties_ends.proofs.volume.Statement.{statement}
 use Rattle.saftvrmie_properties_ends.proofs.volume.Tie as tie
 
-point-requires : tie.Need-point-requires
-point-requires c κs = search needs
+frac-pi-6-requires : tie.Need-frac-pi-6-requires
+frac-pi-6-requires c κs = search needs
 
 mul-requires : tie.Need-mul-requires
 mul-requires c κs = search needs
@@ -16,8 +16,8 @@ unfolding decimal ofBits
 returns c =
     rw (
       c .mul .ensures,
-      c .before .point .ensures,
+      c .before .frac-pi-6 .ensures,
     )
 
 pub volume-spec : {M : Type 1} → statement M
-volume-spec = tie.close (tie.spec point-requires mul-requires returns)
+volume-spec = tie.close (tie.spec frac-pi-6-requires mul-requires returns)

@@ -12,14 +12,14 @@ point-requires c κs = search needs
 point-requires-2 : tie.Need-point-requires-2
 point-requires-2 c κs = search needs
 
+tau-requires : tie.Need-tau-requires
+tau-requires c κs = search needs
+
 point-requires-3 : tie.Need-point-requires-3
 point-requires-3 c κs = search needs
 
 point-requires-4 : tie.Need-point-requires-4
 point-requires-4 c κs = search needs
-
-point-requires-5 : tie.Need-point-requires-5
-point-requires-5 c κs = search needs
 
 mul-requires : tie.Need-mul-requires
 mul-requires c κs = search needs
@@ -41,7 +41,7 @@ div-requires-3 c κs = search needs
 
 returns : tie.Need-returns
 unfolding prefactor decimal ofBits neg
-returns c = rw (c .div3 .ensures, c .before .mul3 .ensures, c .before .before .div2 .ensures, c .before .before .before .div .ensures, c .before .before .before .before .mul2 .ensures, c .before .before .before .before .before .mul .ensures, c .before .before .before .before .before .before .point5 .ensures, c .before .before .before .before .before .before .before .point4 .ensures, c .before .before .before .before .before .before .before .before .point3 .ensures, c .before .before .before .before .before .before .before .before .before .point2 .ensures, c .before .before .before .before .before .before .before .before .before .before .point .ensures)
+returns c = rw (c .div3 .ensures, c .before .mul3 .ensures, c .before .before .div2 .ensures, c .before .before .before .div .ensures, c .before .before .before .before .mul2 .ensures, c .before .before .before .before .before .mul .ensures, c .before .before .before .before .before .before .point4 .ensures, c .before .before .before .before .before .before .before .point3 .ensures, c .before .before .before .before .before .before .before .before .tau .ensures, c .before .before .before .before .before .before .before .before .before .point2 .ensures, c .before .before .before .before .before .before .before .before .before .before .point .ensures)
 
 pub prefactor-spec : {M : Type 1} → statement M
 prefactor-spec =
@@ -49,9 +49,9 @@ prefactor-spec =
     (tie.spec
     point-requires
     point-requires-2
+    tau-requires
     point-requires-3
     point-requires-4
-    point-requires-5
     mul-requires
     mul-requires-2
     div-requires

@@ -9,8 +9,8 @@ use Rattle.saftvrmie_chain_ends.proofs.chain.link_pref.Tie as tie
 point-requires : tie.Need-point-requires
 point-requires c κs = search needs
 
-point-requires-2 : tie.Need-point-requires-2
-point-requires-2 c κs = search needs
+pi-requires : tie.Need-pi-requires
+pi-requires c κs = search needs
 
 mul-requires : tie.Need-mul-requires
 mul-requires c κs = search needs
@@ -28,11 +28,11 @@ returns c =
       c .mul3 .ensures,
       c .before .mul2 .ensures,
       c .before .before .mul .ensures,
-      c .before .before .before .point2 .ensures,
+      c .before .before .before .pi .ensures,
       c .before .before .before .before .point .ensures,
     )
 
 pub link-pref-spec : {M : Type 1} → statement M
 link-pref-spec =
     tie.close
-    (tie.spec point-requires point-requires-2 mul-requires mul-requires-2 mul-requires-3 returns)
+    (tie.spec point-requires pi-requires mul-requires mul-requires-2 mul-requires-3 returns)

@@ -18,8 +18,8 @@ point-requires c κs = search needs
 mul-plain-requires-3 : tie.Need-mul-plain-requires-3
 mul-plain-requires-3 c κs = search needs
 
-point-requires-2 : tie.Need-point-requires-2
-point-requires-2 c κs = search needs
+pi-requires : tie.Need-pi-requires
+pi-requires c κs = search needs
 
 mul-plain-requires-4 : tie.Need-mul-plain-requires-4
 mul-plain-requires-4 c κs = search needs
@@ -33,7 +33,7 @@ returns c =
     rw (
       c .mul-plain5 .ensures,
       c .before .mul-plain4 .ensures,
-      c .before .before .point2 .ensures,
+      c .before .before .pi .ensures,
       c .before .before .before .mul-plain3 .ensures,
       c .before .before .before .before .point .ensures,
       c .before .before .before .before .before .mul-plain2 .ensures,
@@ -48,7 +48,7 @@ pref-dual-spec =
     mul-plain-requires-2
     point-requires
     mul-plain-requires-3
-    point-requires-2
+    pi-requires
     mul-plain-requires-4
     mul-plain-requires-5
     returns)

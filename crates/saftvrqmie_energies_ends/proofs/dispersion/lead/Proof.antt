@@ -6,8 +6,8 @@ use borrow.Author.Needs.{needs}
 use Rattle.saftvrqmie_energies_ends.proofs.dispersion.lead.Statement.{statement}
 use Rattle.saftvrqmie_energies_ends.proofs.dispersion.lead.Tie as tie
 
-point-requires : tie.Need-point-requires
-point-requires c κs = search needs
+frac-pi-6-requires : tie.Need-frac-pi-6-requires
+frac-pi-6-requires c κs = search needs
 
 mul-requires : tie.Need-mul-requires
 mul-requires c κs = search needs
@@ -32,13 +32,13 @@ mul-requires-5 c κs = search needs
 
 returns : tie.Need-returns
 unfolding lead decimal ofBits
-returns c = rw ((c .mul5) .ensures, (c .before .pow-up) .ensures, (c .before .before .mul4) .ensures, (c .before .before .before .mul3) .ensures, (c .before .before .before .before .mul2) .ensures, (c .before .before .before .before .before .fac) .ensures, (c .before .before .before .before .before .before .mul) .ensures, (c .before .before .before .before .before .before .before .point) .ensures)
+returns c = rw ((c .mul5) .ensures, (c .before .pow-up) .ensures, (c .before .before .mul4) .ensures, (c .before .before .before .mul3) .ensures, (c .before .before .before .before .mul2) .ensures, (c .before .before .before .before .before .fac) .ensures, (c .before .before .before .before .before .before .mul) .ensures, (c .before .before .before .before .before .before .before .frac-pi-6) .ensures)
 
 pub lead-spec : {M : Type 1} → statement M
 lead-spec =
     tie.close
     (tie.spec
-    point-requires
+    frac-pi-6-requires
     mul-requires
     fac-requires
     mul-requires-2

@@ -22,15 +22,15 @@ Inv-loop n xs table k rho-s c r₀ i₀ r i = (i ≤ n) × (r ≡ turns i (packi
 abbrev μ-loop : tie.MeasureT-loop
 μ-loop n xs table k rho-s c r₀ i₀ r i = n - i
 
+frac-pi-6-requires : tie.Need-frac-pi-6-requires Inv-loop μ-loop
+frac-pi-6-requires c κs = search needs
+
 point-requires : tie.Need-point-requires Inv-loop μ-loop
 point-requires c κs = search needs
 
-point-requires-2 : tie.Need-point-requires-2 Inv-loop μ-loop
-point-requires-2 c κs = search needs
-
 loop-holds : tie.Need-loop-holds Inv-loop μ-loop
 unfolding decimal ofBits
-loop-holds c = (search needs, (c .point2) .ensures ∙ turns-none _ _)
+loop-holds c = (search needs, (c .point) .ensures ∙ turns-none _ _)
 
 packing-row-requires : tie.Need-packing-row-requires Inv-loop μ-loop
 packing-row-requires c κs = search needs
@@ -52,7 +52,7 @@ mul-requires-2 c κs = search needs
 
 returns : tie.Need-returns Inv-loop μ-loop
 unfolding packing decimal ofBits
-returns c = rw ((c .mul2) .ensures, (c .before .mul) .ensures, (c .before .before .before .before .before .point) .ensures, turns-end _ _ _ _ _ ((c .before .before .before .loop) .inv .0) ((c .before .before .loop-test) .left) ((c .before .before .before .loop) .inv .1))
+returns c = rw ((c .mul2) .ensures, (c .before .mul) .ensures, (c .before .before .before .before .before .frac-pi-6) .ensures, turns-end _ _ _ _ _ ((c .before .before .before .loop) .inv .0) ((c .before .before .loop-test) .left) ((c .before .before .before .loop) .inv .1))
 
 pub packing-spec : {M : Type 1} → statement M
 packing-spec =
@@ -60,8 +60,8 @@ packing-spec =
     (tie.spec
     Inv-loop
     μ-loop
+    frac-pi-6-requires
     point-requires
-    point-requires-2
     loop-holds
     packing-row-requires
     add-i

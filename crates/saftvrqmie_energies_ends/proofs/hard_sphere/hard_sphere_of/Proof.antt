@@ -15,8 +15,8 @@ point-requires c κs = search needs
 point-requires-2 : tie.Need-point-requires-2
 point-requires-2 c κs = search needs
 
-point-requires-3 : tie.Need-point-requires-3
-point-requires-3 c κs = search needs
+pi-requires : tie.Need-pi-requires
+pi-requires c κs = search needs
 
 mul-requires : tie.Need-mul-requires
 mul-requires c κs = search needs
@@ -59,7 +59,7 @@ div-requires c κs = search needs
 
 returns : tie.Need-returns
 unfolding hardSphereOf decimal ofBits
-returns c = rw ((c .div) .ensures, (c .before .mul6) .ensures, (c .before .before .plus-product2) .ensures, (c .before .before .before .plus-product) .ensures, (c .before .before .before .before .sub) .ensures, (c .before .before .before .before .before .mul5) .ensures, (c .before .before .before .before .before .before .pow-up3) .ensures, (c .before .before .before .before .before .before .before .mul4) .ensures, (c .before .before .before .before .before .before .before .before .pow-up2) .ensures, (c .before .before .before .before .before .before .before .before .before .pow-up) .ensures, (c .before .before .before .before .before .before .before .before .before .before .mul3) .ensures, (c .before .before .before .before .before .before .before .before .before .before .before .mul2) .ensures, (c .before .before .before .before .before .before .before .before .before .before .before .before .mul) .ensures, (c .before .before .before .before .before .before .before .before .before .before .before .before .before .point3) .ensures, (c .before .before .before .before .before .before .before .before .before .before .before .before .before .before .point2) .ensures, (c .before .before .before .before .before .before .before .before .before .before .before .before .before .before .before .point) .ensures, (c .before .before .before .before .before .before .before .before .before .before .before .before .before .before .before .before .frac-1mz3) .ensures)
+returns c = rw ((c .div) .ensures, (c .before .mul6) .ensures, (c .before .before .plus-product2) .ensures, (c .before .before .before .plus-product) .ensures, (c .before .before .before .before .sub) .ensures, (c .before .before .before .before .before .mul5) .ensures, (c .before .before .before .before .before .before .pow-up3) .ensures, (c .before .before .before .before .before .before .before .mul4) .ensures, (c .before .before .before .before .before .before .before .before .pow-up2) .ensures, (c .before .before .before .before .before .before .before .before .before .pow-up) .ensures, (c .before .before .before .before .before .before .before .before .before .before .mul3) .ensures, (c .before .before .before .before .before .before .before .before .before .before .before .mul2) .ensures, (c .before .before .before .before .before .before .before .before .before .before .before .before .mul) .ensures, (c .before .before .before .before .before .before .before .before .before .before .before .before .before .pi) .ensures, (c .before .before .before .before .before .before .before .before .before .before .before .before .before .before .point2) .ensures, (c .before .before .before .before .before .before .before .before .before .before .before .before .before .before .before .point) .ensures, (c .before .before .before .before .before .before .before .before .before .before .before .before .before .before .before .before .frac-1mz3) .ensures)
 
 pub hard-sphere-of-spec : {M : Type 1} → statement M
 hard-sphere-of-spec =
@@ -68,7 +68,7 @@ hard-sphere-of-spec =
     frac-1mz3-requires
     point-requires
     point-requires-2
-    point-requires-3
+    pi-requires
     mul-requires
     mul-requires-2
     mul-requires-3

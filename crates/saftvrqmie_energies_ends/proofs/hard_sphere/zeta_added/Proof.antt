@@ -6,11 +6,11 @@ use borrow.Author.Needs.{needs}
 use Rattle.saftvrqmie_energies_ends.proofs.hard_sphere.zeta_added.Statement.{statement}
 use Rattle.saftvrqmie_energies_ends.proofs.hard_sphere.zeta_added.Tie as tie
 
+pi-requires : tie.Need-pi-requires
+pi-requires c κs = search needs
+
 point-requires : tie.Need-point-requires
 point-requires c κs = search needs
-
-point-requires-2 : tie.Need-point-requires-2
-point-requires-2 c κs = search needs
 
 pi-sixth-requires : tie.Need-pi-sixth-requires
 pi-sixth-requires c κs = search needs
@@ -56,14 +56,14 @@ plus-product-requires-4 c κs = search needs
 
 returns : tie.Need-returns
 unfolding zetaAdded decimal ofBits
-returns c = rw ((c .plus-product4) .ensures, (c .before .plus-product3) .ensures, (c .before .before .plus-product2) .ensures, (c .before .before .before .plus-product) .ensures, (c .before .before .before .before .mul5) .ensures, (c .before .before .before .before .before .pow-up4) .ensures, (c .before .before .before .before .before .before .mul4) .ensures, (c .before .before .before .before .before .before .before .pow-up3) .ensures, (c .before .before .before .before .before .before .before .before .mul3) .ensures, (c .before .before .before .before .before .before .before .before .before .pow-up2) .ensures, (c .before .before .before .before .before .before .before .before .before .before .mul2) .ensures, (c .before .before .before .before .before .before .before .before .before .before .before .pow-up) .ensures, (c .before .before .before .before .before .before .before .before .before .before .before .before .mul) .ensures, (c .before .before .before .before .before .before .before .before .before .before .before .before .before .pi-sixth) .ensures, (c .before .before .before .before .before .before .before .before .before .before .before .before .before .before .point2) .ensures, (c .before .before .before .before .before .before .before .before .before .before .before .before .before .before .before .point) .ensures)
+returns c = rw ((c .plus-product4) .ensures, (c .before .plus-product3) .ensures, (c .before .before .plus-product2) .ensures, (c .before .before .before .plus-product) .ensures, (c .before .before .before .before .mul5) .ensures, (c .before .before .before .before .before .pow-up4) .ensures, (c .before .before .before .before .before .before .mul4) .ensures, (c .before .before .before .before .before .before .before .pow-up3) .ensures, (c .before .before .before .before .before .before .before .before .mul3) .ensures, (c .before .before .before .before .before .before .before .before .before .pow-up2) .ensures, (c .before .before .before .before .before .before .before .before .before .before .mul2) .ensures, (c .before .before .before .before .before .before .before .before .before .before .before .pow-up) .ensures, (c .before .before .before .before .before .before .before .before .before .before .before .before .mul) .ensures, (c .before .before .before .before .before .before .before .before .before .before .before .before .before .pi-sixth) .ensures, (c .before .before .before .before .before .before .before .before .before .before .before .before .before .before .point) .ensures, (c .before .before .before .before .before .before .before .before .before .before .before .before .before .before .before .pi) .ensures)
 
 pub zeta-added-spec : {M : Type 1} → statement M
 zeta-added-spec =
     tie.close
     (tie.spec
+    pi-requires
     point-requires
-    point-requires-2
     pi-sixth-requires
     mul-requires
     pow-up-requires

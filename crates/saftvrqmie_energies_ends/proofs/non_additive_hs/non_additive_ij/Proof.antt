@@ -12,8 +12,8 @@ point-requires c κs = search needs
 point-requires-2 : tie.Need-point-requires-2
 point-requires-2 c κs = search needs
 
-point-requires-3 : tie.Need-point-requires-3
-point-requires-3 c κs = search needs
+pi-requires : tie.Need-pi-requires
+pi-requires c κs = search needs
 
 add-requires : tie.Need-add-requires
 add-requires c κs = search needs
@@ -56,7 +56,7 @@ mul-requires-8 c κs = search needs
 
 returns : tie.Need-returns
 unfolding nonAdditiveIj decimal ofBits
-returns c = rw ((c .mul8) .ensures, (c .before .mul7) .ensures, (c .before .before .mul6) .ensures, (c .before .before .before .sub) .ensures, (c .before .before .before .before .mul5) .ensures, (c .before .before .before .before .before .mul4) .ensures, (c .before .before .before .before .before .before .pow-up) .ensures, (c .before .before .before .before .before .before .before .mul3) .ensures, (c .before .before .before .before .before .before .before .before .mul2) .ensures, (c .before .before .before .before .before .before .before .before .before .neg) .ensures, (c .before .before .before .before .before .before .before .before .before .before .g-hs) .ensures, (c .before .before .before .before .before .before .before .before .before .before .before .mul) .ensures, (c .before .before .before .before .before .before .before .before .before .before .before .before .add) .ensures, (c .before .before .before .before .before .before .before .before .before .before .before .before .before .point3) .ensures, (c .before .before .before .before .before .before .before .before .before .before .before .before .before .before .point2) .ensures, (c .before .before .before .before .before .before .before .before .before .before .before .before .before .before .before .point) .ensures)
+returns c = rw ((c .mul8) .ensures, (c .before .mul7) .ensures, (c .before .before .mul6) .ensures, (c .before .before .before .sub) .ensures, (c .before .before .before .before .mul5) .ensures, (c .before .before .before .before .before .mul4) .ensures, (c .before .before .before .before .before .before .pow-up) .ensures, (c .before .before .before .before .before .before .before .mul3) .ensures, (c .before .before .before .before .before .before .before .before .mul2) .ensures, (c .before .before .before .before .before .before .before .before .before .neg) .ensures, (c .before .before .before .before .before .before .before .before .before .before .g-hs) .ensures, (c .before .before .before .before .before .before .before .before .before .before .before .mul) .ensures, (c .before .before .before .before .before .before .before .before .before .before .before .before .add) .ensures, (c .before .before .before .before .before .before .before .before .before .before .before .before .before .pi) .ensures, (c .before .before .before .before .before .before .before .before .before .before .before .before .before .before .point2) .ensures, (c .before .before .before .before .before .before .before .before .before .before .before .before .before .before .before .point) .ensures)
 
 pub non-additive-ij-spec : {M : Type 1} → statement M
 non-additive-ij-spec =
@@ -64,7 +64,7 @@ non-additive-ij-spec =
     (tie.spec
     point-requires
     point-requires-2
-    point-requires-3
+    pi-requires
     add-requires
     mul-requires
     g-hs-requires

@@ -1,0 +1,2 @@
+pub mod Machin
+pub mod Statement
