@@ -24,6 +24,8 @@ CHANGED = [
     ("a count of evaluations", "saftvrqmie_searches/specs/Searches", "count = 19 - n", "count = 18 - n", "quantum_ends"),
     ("an exact quotient", "enclosure/specs/Exact", "some (divF p q)", "some (mulF p q)", "exact"),
     ("the sign of a zero", "power_corners/specs/Corners", "zeroAt lambda = fin (lt three lambda)", "zeroAt lambda = fin (lt lambda three)", "corners"),
+    ("a layer's temperature before its volume", "saftvrqmie_tank/specs/Tank", "(mul (mul e (lit v)) (lit t))", "(mul (mul e (lit t)) (lit v))", "tanks"),
+    ("a layer count outside", "tank_lists/specs/Lists", "demand 14 (layersWithin", "demand 1 (layersWithin", "tanks"),
     ("an entry's place", "sizes/specs/Sizes", "cell i j = side * i + j", "cell i j = side * j + i", "mie"),
 ]
 # what the language has and specs/ has not: none of it may be passed over
