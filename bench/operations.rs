@@ -85,7 +85,7 @@ fn goal(name: &str) -> Option<f64> {
         "quantum table" | "quantum energies" => Some(0.6),
         "VR Mie dispersion" | "VR Mie and chain" => Some(0.75),
         "VR Mie diameters" => Some(1.0),
-        "quantum energies' total" => Some(1.05),
+        "quantum energies' total" | "tank of 4 layers" | "tank of 4 layers, ends" => Some(1.05),
         _ if name.ends_with("diameter, two ends") => Some(4.0),
         _ if name.ends_with("two ends") => Some(10.0),
         _ => None,
@@ -298,6 +298,56 @@ fn quantum_ends(rows: &mut Rows, n: usize, order: u8) {
 }
 
 /// The same of SAFT-VR Mie, where the library has them.
+/// A tank of four layers beside a table and a call of the energies, or of their ends, for each.
+fn tanks(rows: &mut Rows, n: usize, order: u8) {
+    let (Some(table), Some(energies), Some(ends), Some(tank), Some(tank_ends)) =
+        (port::VRQ_TABLE, port::VRQ_ENERGIES, port::VRQ_ENERGIES_ENDS, port::VRQ_TANK, port::VRQ_TANK_ENDS)
+    else {
+        return;
+    };
+    const LAYERS: usize = 4;
+    let fluids = fluids(n, order, true);
+    let k = fluids.len();
+    let flat: Vec<_> = fluids.iter().map(|f| vrq::flat(&vrq::parameters(&f.quantum_lists()).ok().unwrap())).collect();
+    let (m, volumes) = ([1.0; SIDE], [1e9; LAYERS]);
+    let temperatures = |i: usize| std::array::from_fn::<f64, LAYERS, _>(|l| fluids[i].temperature + l as f64);
+    let single = |f: port::Energies, places: usize, i: usize| {
+        let (mut sums, (sheets, orders), fluid) = ([0.0; 6], &flat[i], &fluids[i]);
+        for t in temperatures(i) {
+            let (mut out, mut values, mut counts) = ([0.0; 6], [0.0; TABLE], [0u8; COUNTS]);
+            let numbers = unsafe {
+                [
+                    table(
+                        n, m.as_ptr(), SIDE, sheets.as_ptr(), SHEETS, orders.as_ptr(), SHEET, t, values.as_mut_ptr(), TABLE,
+                        counts.as_mut_ptr(), COUNTS,
+                    ),
+                    f(
+                        n, m.as_ptr(), SIDE, sheets.as_ptr(), SHEETS, orders.as_ptr(), SHEET, t, fluid.x.as_ptr(), n,
+                        fluid.rho.as_ptr(), n, values.as_ptr(), TABLE, true, out.as_mut_ptr(), places,
+                    ),
+                ]
+            };
+            assert!(numbers == [0, 0]);
+            sums.iter_mut().zip(out).for_each(|(sum, e)| *sum += e * volumes[0] * t);
+        }
+        sums
+    };
+    let layered = |f: port::Tank, places: usize, i: usize| {
+        let (mut out, (sheets, orders), fluid, t) = ([0.0; 6], &flat[i], &fluids[i], temperatures(i));
+        let (x, rho) = (fluid.x.repeat(LAYERS), fluid.rho.repeat(LAYERS));
+        let number = unsafe {
+            f(
+                n, m.as_ptr(), SIDE, sheets.as_ptr(), SHEETS, orders.as_ptr(), SHEET, LAYERS, t.as_ptr(), LAYERS, x.as_ptr(), x.len(),
+                rho.as_ptr(), rho.len(), volumes.as_ptr(), LAYERS, true, out.as_mut_ptr(), places,
+            )
+        };
+        assert!(number == 0);
+        out
+    };
+    rows.row("tank of 4 layers", n, Some(order), k, |i| single(energies, 3, i), |i| layered(tank, 3, i));
+    rows.row("tank of 4 layers, ends", n, Some(order), k, |i| single(ends, 6, i), |i| layered(tank_ends, 6, i));
+}
+
 fn vr_mie_ends(rows: &mut Rows, n: usize) {
     let fluids = fluids(n, 0, false);
     let k = fluids.len();
@@ -394,4 +444,11 @@ pub fn run() {
         vr_mie_ends(&mut rows, n);
     }
     print("two ends, and the total: the port's floats, and these", ["float us", "port us"], &rows);
+    let mut rows = Rows::default();
+    for n in SIZES {
+        for order in 0..3 {
+            tanks(&mut rows, n, order);
+        }
+    }
+    print("tanks: four tables and single calls, and a tank", ["single us", "tank us"], &rows);
 }

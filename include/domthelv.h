@@ -24,6 +24,7 @@
  *   k_ij, l_ij, gamma_ij    -0.9 to 0.9, the same bits at (i, j) and (j, i), +0 at (i, i)
  *   temperature             1 to 2000
  *   fractions, densities    0 to 1 (-0 counts as 0); fractions need not sum to 1
+ *   layers of a tank        1 to DOMTHELV_MOST_LAYERS (else 14), each with a volume 0 < volume <= 1e30 cubic angstrom
  * Sets, tables, diameters and radii are read as they are: where they were filled by hand, only the count and the order
  * bytes of pairs in use (i, j below the count) are tested. Elementary functions have their domain beside them (else 6).
  *
@@ -69,6 +70,9 @@
 #define DOMTHELV_TABLE (4 * DOMTHELV_SHEET)     /* temperature table */
 #define DOMTHELV_COUNTS (3 * DOMTHELV_SHEET)    /* counts beside it, bytes: searches for sigma, zero, depth */
 
+/* The most layers of a tank. */
+#define DOMTHELV_MOST_LAYERS 32
+
 /* Lengths of `out`, and what stands at each place. */
 #define DOMTHELV_ENERGIES 3      /* 0 hard sphere, 1 dispersion, 2 non-additive (+0 where not wanted) */
 #define DOMTHELV_TOTAL 4         /* 0 hard sphere and dispersion, 1 its remainder; 2 that and non-additive, 3 its remainder */
@@ -104,7 +108,8 @@ enum domthelv_refusal {
     DOMTHELV_MIXED_ORDERS = 5,   /* the orders 1 and 2 meet in a pair */
     DOMTHELV_DOMAIN = 6,         /* an elementary function's argument is outside its domain */
     DOMTHELV_NOT_FINITE = 7,     /* a result is not finite */
-    DOMTHELV_NO_ENDS = 8         /* two ends: a divisor's ends enclose or touch zero, or an end is not finite */
+    DOMTHELV_NO_ENDS = 8,        /* two ends: a divisor's ends enclose or touch zero, or an end is not finite */
+    DOMTHELV_LAYERS = 14         /* a tank's layer count is outside */
 };
 
 #ifdef __cplusplus
@@ -177,6 +182,25 @@ uint8_t domthelv_vrq_energies_ends(size_t count, const double *m, size_t m_len, 
     const uint8_t *orders, size_t orders_len, double temperature, const double *fractions, size_t fractions_len,
     const double *densities, size_t densities_len, const double *table, size_t table_len, bool non_additive,
     double *out, size_t out_len);
+
+/* Energies of a tank at rest, in layers listed from the bottom up over one set: each layer's energies by its own table,
+ * multiplied by its volume and then by its temperature, added from the bottom up from +0. temperatures and volumes have a place
+ * for each layer, fractions and densities one for each component, layer by layer (count * layers). out (3): hard sphere,
+ * dispersion, non-additive (+0 where not wanted); in kelvin. 14: the layer count, before all else; 1: the count, a list of the
+ * set, temperatures, fractions, densities, volumes or out; 4: an order; then layer by layer, the first refused layer's number:
+ * 2: its temperature, a fraction, a density or its volume; 6 and 7 of its table; 6 and 7 of its energies; after all layers
+ * 7: an energy of the tank is not finite. */
+uint8_t domthelv_vrq_tank(size_t count, const double *m, size_t m_len, const double *sheets, size_t sheets_len,
+    const uint8_t *orders, size_t orders_len, size_t layers, const double *temperatures, size_t temperatures_len,
+    const double *fractions, size_t fractions_len, const double *densities, size_t densities_len,
+    const double *volumes, size_t volumes_len, bool non_additive, double *out, size_t out_len);
+
+/* Two ends of the same. out (6): low and high end of each of the three (+0, +0 where not wanted). Refusals as of the tank, then
+ * 8: in a layer or in the tank's sums, a divisor's ends enclose or touch zero, or an end is not finite. */
+uint8_t domthelv_vrq_tank_ends(size_t count, const double *m, size_t m_len, const double *sheets, size_t sheets_len,
+    const uint8_t *orders, size_t orders_len, size_t layers, const double *temperatures, size_t temperatures_len,
+    const double *fractions, size_t fractions_len, const double *densities, size_t densities_len,
+    const double *volumes, size_t volumes_len, bool non_additive, double *out, size_t out_len);
 
 /* A pair's diameter from its searched radii. 1: the count, a list of the set or an index; 4: an order; 2: temperature;
  * 6; 7: the diameter is not finite. */

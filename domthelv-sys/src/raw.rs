@@ -92,6 +92,32 @@ unsafe extern "C" {
         non_additive: bool,
         out: *mut f64, out_len: usize,
     ) -> u8;
+    pub fn domthelv_vrq_tank(
+        count: usize,
+        m: *const f64, m_len: usize,
+        sheets: *const f64, sheets_len: usize,
+        orders: *const u8, orders_len: usize,
+        layers: usize,
+        temperatures: *const f64, temperatures_len: usize,
+        fractions: *const f64, fractions_len: usize,
+        densities: *const f64, densities_len: usize,
+        volumes: *const f64, volumes_len: usize,
+        non_additive: bool,
+        out: *mut f64, out_len: usize,
+    ) -> u8;
+    pub fn domthelv_vrq_tank_ends(
+        count: usize,
+        m: *const f64, m_len: usize,
+        sheets: *const f64, sheets_len: usize,
+        orders: *const u8, orders_len: usize,
+        layers: usize,
+        temperatures: *const f64, temperatures_len: usize,
+        fractions: *const f64, fractions_len: usize,
+        densities: *const f64, densities_len: usize,
+        volumes: *const f64, volumes_len: usize,
+        non_additive: bool,
+        out: *mut f64, out_len: usize,
+    ) -> u8;
     pub fn domthelv_vrq_diameter(
         count: usize,
         m: *const f64, m_len: usize,

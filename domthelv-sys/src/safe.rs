@@ -25,13 +25,15 @@ pub enum Refusal {
     NotFinite = 7,
     /// Two ends cannot be given: a divisor's ends enclose or touch zero, or an end is not finite.
     NoEnds = 8,
+    /// A tank's layer count is outside 1 to 32.
+    Layers = 14,
 }
 
 impl Refusal {
     /// The refusal of a number that the boundary gives; 0 is none, and others are never given.
     pub fn of(number: u8) -> Option<Refusal> {
         use Refusal::*;
-        [Length, Limit, SegmentNumber, Order, MixedOrders, Domain, NotFinite, NoEnds].into_iter().find(|r| *r as u8 == number)
+        [Length, Limit, SegmentNumber, Order, MixedOrders, Domain, NotFinite, NoEnds, Layers].into_iter().find(|r| *r as u8 == number)
     }
     pub fn number(self) -> u8 {
         self as u8
@@ -49,6 +51,7 @@ impl core::fmt::Display for Refusal {
             Refusal::Domain => "an elementary function's argument is outside its domain",
             Refusal::NotFinite => "a result is not finite",
             Refusal::NoEnds => "two ends cannot be given",
+            Refusal::Layers => "a tank's layer count is outside",
         };
         write!(f, "refused ({}): {text}", self.number())
     }
@@ -199,6 +202,16 @@ pub struct Total {
     pub last: RoundedSum,
 }
 
+/// A tank at rest: a temperature and a volume (cubic angstrom) for each layer, from the bottom up; fractions and densities for each
+/// component, layer by layer.
+#[derive(Clone, Copy, Debug)]
+pub struct Layers<'a> {
+    pub temperatures: &'a [f64],
+    pub fractions: &'a [f64],
+    pub densities: &'a [f64],
+    pub volumes: &'a [f64],
+}
+
 /// Two ends that enclose the float result and the exact one.
 #[derive(Clone, Copy, Debug, PartialEq)]
 pub struct Ends {
@@ -340,6 +353,38 @@ impl QuantumSet {
                 self.count, self.m.as_ptr(), SIDE, self.sheets.as_ptr(), SHEETS, self.orders.as_ptr(), SHEET, s.temperature,
                 s.fractions.as_ptr(), s.fractions.len(), s.densities.as_ptr(), s.densities.len(), table.as_ptr(), table.len(),
                 non_additive, out.as_mut_ptr(), 6,
+            )
+        };
+        let at = |k: usize| Ends { low: out[2 * k], high: out[2 * k + 1] };
+        given(number, EnergiesEnds { hard_sphere: at(0), dispersion: at(1), non_additive: at(2) })
+    }
+
+    /// The energies of a tank in layers, each by its own table, multiplied by its volume and its temperature, and added.
+    #[inline]
+    pub fn tank(&self, t: &Layers, non_additive: bool) -> Result<Energies, Refusal> {
+        let mut out = [0.0; 3];
+        #[rustfmt::skip]
+        let number = unsafe {
+            raw::domthelv_vrq_tank(
+                self.count, self.m.as_ptr(), SIDE, self.sheets.as_ptr(), SHEETS, self.orders.as_ptr(), SHEET, t.temperatures.len(),
+                t.temperatures.as_ptr(), t.temperatures.len(), t.fractions.as_ptr(), t.fractions.len(), t.densities.as_ptr(),
+                t.densities.len(), t.volumes.as_ptr(), t.volumes.len(), non_additive, out.as_mut_ptr(), 3,
+            )
+        };
+        let [hard_sphere, dispersion, non_additive] = out;
+        given(number, Energies { hard_sphere, dispersion, non_additive })
+    }
+
+    /// Two ends of the energies of a tank.
+    #[inline]
+    pub fn tank_ends(&self, t: &Layers, non_additive: bool) -> Result<EnergiesEnds, Refusal> {
+        let mut out = [0.0; 6];
+        #[rustfmt::skip]
+        let number = unsafe {
+            raw::domthelv_vrq_tank_ends(
+                self.count, self.m.as_ptr(), SIDE, self.sheets.as_ptr(), SHEETS, self.orders.as_ptr(), SHEET, t.temperatures.len(),
+                t.temperatures.as_ptr(), t.temperatures.len(), t.fractions.as_ptr(), t.fractions.len(), t.densities.as_ptr(),
+                t.densities.len(), t.volumes.as_ptr(), t.volumes.len(), non_additive, out.as_mut_ptr(), 6,
             )
         };
         let at = |k: usize| Ends { low: out[2 * k], high: out[2 * k + 1] };
@@ -589,6 +634,33 @@ mod tests {
         assert_eq!(set.energies_ends(&short, &table, true), Err(Refusal::Length));
         set.count = SIDE + 1;
         assert_eq!(set.table(30.0).unwrap_err(), Refusal::Length);
+    }
+
+    #[test]
+    fn a_tank_adds_its_layers_from_the_bottom_up() {
+        let set = quantum_parameters(&hydrogen_and_neon(2)).unwrap();
+        let (bottom, top) = ([0.5, 0.5, 0.01, 0.01], [0.25, 0.75, 0.001, 0.003]);
+        let single = |t: f64, x: &[f64], rho: &[f64]| {
+            let state = State { temperature: t, fractions: x, densities: rho };
+            set.energies(&state, &set.table(t).unwrap().values, true).unwrap()
+        };
+        let (a, b) = (single(25.0, &bottom[..2], &bottom[2..]), single(31.0, &top[..2], &top[2..]));
+        let fractions = [bottom[0], bottom[1], top[0], top[1]];
+        let densities = [bottom[2], bottom[3], top[2], top[3]];
+        let tank = Layers { temperatures: &[25.0, 31.0], fractions: &fractions, densities: &densities, volumes: &[3e9, 5e9] };
+        let e = set.tank(&tank, true).unwrap();
+        let sum = |x: f64, y: f64| 0.0 + x * 3e9 * 25.0 + y * 5e9 * 31.0;
+        assert_eq!(e.hard_sphere, sum(a.hard_sphere, b.hard_sphere));
+        assert_eq!(e.dispersion, sum(a.dispersion, b.dispersion));
+        assert_eq!(e.non_additive, sum(a.non_additive, b.non_additive));
+        let ends = set.tank_ends(&tank, true).unwrap();
+        for (x, ends) in [(e.hard_sphere, ends.hard_sphere), (e.dispersion, ends.dispersion), (e.non_additive, ends.non_additive)] {
+            assert!(ends.low <= x && x <= ends.high);
+        }
+        let none = Layers { temperatures: &[], fractions: &[1.0], densities: &[], volumes: &[] };
+        assert_eq!(set.tank(&none, true), Err(Refusal::Layers));
+        assert_eq!(set.tank(&Layers { volumes: &[3e9], ..tank }, true), Err(Refusal::Length));
+        assert_eq!(set.tank_ends(&Layers { volumes: &[3e9, 0.0], ..tank }, true), Err(Refusal::Limit));
     }
 
     #[test]

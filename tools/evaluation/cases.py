@@ -148,6 +148,75 @@ class Cases:
     def summed(self, s, left):
         return self.c.record(sum=s, remainder=left)
 
+    # ---- tanks in layers: Python's sum of the definitions' energies, layer by layer, and the outward rules over their ends
+    def tanks(self):
+        q = chains.Quantum(self.c)
+        one = {"m": 1.0, "sigma": 3.0243, "epsilon-k": 26.706, "lr": 9.0, "la": 6.0, "mass": 3.3476e-27, "k-ij": 0.0, "l-ij": 0.0}
+        q.parameters(self.c.record(count=1, fh=(1,), **{n: (x,) for n, x in one.items()}))
+        layers = [(30.0, 0.01, 3e9), (33.0, 0.002, 1e30), (300.0, 1e-5, 5e-324)]
+        for k in (1, 2, 3):
+            for wanted in (False, True):
+                tank = self.tank(layers[:k])
+                expected, ends = self.piled(q, layers[:k], wanted)
+                yield compared(f"a tank of {k} layers, {wanted}", q.tank("vrqTank", tank, wanted, 3), ("held", expected))
+                yield compared(f"the ends of {k} layers, {wanted}", q.tank("vrqTankEnds", tank, wanted, 6), ("held", ends))
+        for said, tank in self.odd_tanks(layers[0]):
+            for name, out in (("vrqTank", 3), ("vrqTankEnds", 6)):
+                yield compared(f"{name} of {tank}", q.tank(name, tank, True, out), ("refused", said))
+            yield compared("a list of 5 places", q.tank("vrqTank", tank, True, 5), ("refused", 14 if said == 14 else 1))
+        fails = self.enclosed_tank(q, layers[:1])
+        yield "tanks", f"the exact run of a tank: {fails}" if fails else None
+        q.sheets = (0.0,) + q.sheets[1:]
+        for said, volumes in ((6, (1.0, 0.0)), (2, (0.0, 1.0))):
+            yield compared("two layers without a table", q.tank("vrqTank", self.tank([(*layers[0][:2], v) for v in volumes]), True, 3), ("refused", said))
+
+    def tank(self, layers):
+        t, rho, v = zip(*layers) if layers else ((), (), ())
+        return self.c.record(layers=len(t), temperatures=t, fractions=(1.0,) * len(t), densities=rho, volumes=v)
+
+    # tanks and the number that refuses them: 14 before 1, then 2
+    def odd_tanks(self, layer):
+        t, rho, v = layer
+        yield 14, self.tank([])
+        yield 14, self.c.record(layers=33, temperatures=(), fractions=(), densities=(), volumes=())
+        yield 1, self.c.record(layers=2, temperatures=(t, t), fractions=(1.0,) * 2, densities=(rho,), volumes=(v, v))
+        for volume in (0.0, -0.0, -1.0, math.nextafter(1e30, math.inf), math.inf, math.nan):
+            yield 2, self.tank([(t, rho, volume)])
+        yield 2, self.tank([(0.5, rho, v)])
+        yield 2, self.tank([(t, 1.5, v)])
+
+    def piled(self, q, layers, wanted):
+        port = self.c.get("elementary", "Port", "port")()
+        parts = ("hard_sphere", "dispersion", "non_additive")
+        point = lambda x: self.interval(x, x)
+        sums, ends = [0.0] * 3, [point(0.0)] * 3
+        for t, rho, v in layers:
+            table = q.at("vrqTable", t, self.c.record(values=(0.5,) * chains.TABLE, numbers=(7,) * chains.COUNTS))[1].values
+            energies = q.at("vrqEnergies", t, (1.0,), (rho,), table, wanted, (0.5,) * 3)[1]
+            each = self.c.get("saftvrqmie_energies_ends", "Operation", "energiesEnds")(port, q.record(), t, (1.0,), (rho,), table, wanted)[1]
+            for k in range(3 if wanted else 2):
+                sums[k] += energies[k] * v * t
+                e = getattr(each, spell(parts[k].replace("_", "-")))
+                scaled = self.outward("mul", self.outward("mul", self.interval(e.lower, e.upper), point(v)), point(t))
+                ends[k] = self.outward("add", ends[k], scaled)
+        return tuple(sums), tuple(x for e in ends for x in (e.lower, e.upper))
+
+    # what is false of the fields of `EachEncloses`, of a tank's float operation, exact run and ends
+    def enclosed_tank(self, q, layers):
+        c, tank, s = self.c, self.tank(layers), q.record()
+        port, calls = c.get("elementary", "Port", "port")(), c.get("number", "Functions", "calls")
+        tables = lambda l: c.get("saftvrqmie_tank", "Tank", "tablesOf")(s, tank, l)
+        run = lambda a: lambda l: lambda table: c.get("saftvrqmie_energies", "Energies", "contributionsOf")(a, calls(a, port), s, layers[l][0], (1.0,), (layers[l][1],), table, True)
+        exacts = c.get("enclosure", "Exact", "exacts")()
+        exact = c.get("saftvrqmie_tank", "Tank", "tankRun")(exacts, tank, tables, True, run(exacts))
+        float_run = c.get("saftvrqmie_tank", "Tank", "tank")(s, tank, True)
+        ends = c.get("saftvrqmie_tank_ends", "TankEnds", "tankEnds")(s, tank, True)
+        if {exact[0], float_run[0], ends[0]} != {"held"}:
+            return ["a run without a result"]
+        fields = {f: (getattr(float_run[1], spell(f)), getattr(exact[1], spell(f)).exact) for f in ("hard-sphere", "dispersion", "non-additive")}
+        given = {f: {"value": v, "fraction": x[1] if x[0] == "some" else None} for f, (v, x) in fields.items()}
+        return c.fails("saftvrqmie_energies_ends", "Encloses", "EachEncloses", (ends[1], float_run, exact), given)
+
     # ---- the operations: chains of docs/VECTORS.md
     def run(self, path, model, every):
         for k, chain in enumerate(chains.chains(self.path(path))):
@@ -310,7 +379,7 @@ class Cases:
     # ---- that nothing was left out: what the boundary, demand 3, the table, Slips 3 and 14 and the promises use was evaluated, but for statements about all values
     def believed(self):
         c = self.c
-        files = [c.file(*f) for f in (("domthelv", "Operations"), ("domthelv", "Total"), ("domthelv", "Sets"), ("demand_three", "Demand"), ("proved_table", "Table"), ("power_corners", "Corners"), ("pi_as_pi", "Statement"), ("chain_derivatives", "Chain"), ("elementary", "Promised"), ("elementary", "Port"))]
+        files = [c.file(*f) for f in (("domthelv", "Operations"), ("domthelv", "Total"), ("domthelv", "Tank"), ("domthelv", "Sets"), ("demand_three", "Demand"), ("proved_table", "Table"), ("power_corners", "Corners"), ("pi_as_pi", "Statement"), ("chain_derivatives", "Chain"), ("elementary", "Promised"), ("elementary", "Port"))]
         for d in sorted((d for d in c.used_by(files) if isinstance(d, Definition)), key=lambda d: d.python):
             name = f"{d.file.name}.{d.name}"
             if not (d.is_type and c.states_of_all(d)):
@@ -426,7 +495,7 @@ class Exact:
         return {"value": value, "fraction": exact.exact[1] if exact.exact[0] == "some" else None}
 
 
-SECTIONS = ["decimals", "tables", "elementary", "promises", "intervals", "table", "corners", "orders", "quadrature", "constants", "slopes", "mie_ends", "quantum_ends", "mie", "quantum", "mie_9_to_12", "quantum_9_to_12", "refusals", "stages", "exact", "sums", "derivatives", "believed"]
+SECTIONS = ["decimals", "tables", "elementary", "promises", "intervals", "table", "corners", "orders", "quadrature", "constants", "slopes", "mie_ends", "quantum_ends", "mie", "quantum", "mie_9_to_12", "quantum_9_to_12", "refusals", "stages", "exact", "sums", "tanks", "derivatives", "believed"]
 
 
 def load(folder, texts, whole=False):

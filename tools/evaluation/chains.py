@@ -165,6 +165,11 @@ class Quantum:
         s = self.c.record(count=self.count, m=self.m, sheets=self.sheets, orders=self.orders)
         return self.c.get("domthelv", "Total", "vrqTotal")(s, *handed, OUT[:4])
 
+    # a tank over the set, by the boundary's definition
+    def tank(self, name, tank, wanted, out):
+        s = self.c.record(count=self.count, m=self.m, sheets=self.sheets, orders=self.orders)
+        return self.c.get("domthelv", "Tank", name)(s, tank, wanted, OUT[:out])
+
     def parameters(self, lists):
         a = self.c.get("saftvrqmie_parameters", "Parameters", "saftVRQMiePars")(lists)
         self.keep(self.c.get("saftvrqmie_parameters", "Parameters", "given")(a).set)

@@ -30,6 +30,8 @@ CHANGED = [
     ("a coefficient of the derivative", "chain_derivatives/specs/Polynomial", "derivative (c ∷ p) = counted 1 p", "derivative (c ∷ p) = counted 2 p", "derivatives"),
     ("the square in a quotient's derivative", "chain_derivatives/specs/Quotient", "denominator = product fractions d d;", "denominator = d;", "derivatives"),
     ("the ratio that is held fixed", "chain_derivatives/specs/Chain", "let z = mulQ (constantOf (some ratio)) variable in", "let z = mulQ variable variable in", "derivatives"),
+    ("a layer's temperature before its volume", "saftvrqmie_tank/specs/Tank", "(mul (mul e (lit v)) (lit t))", "(mul (mul e (lit t)) (lit v))", "tanks"),
+    ("a layer count outside", "tank_lists/specs/Lists", "demand 14 (layersWithin", "demand 1 (layersWithin", "tanks"),
     ("an entry's place", "sizes/specs/Sizes", "cell i j = side * i + j", "cell i j = side * j + i", "mie"),
 ]
 # what the language has and specs/ has not: none of it may be passed over

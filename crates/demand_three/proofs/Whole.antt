@@ -7,18 +7,21 @@ use lib.Ieee.{Float}
 use Rattle.number.specs.Ans.{Ans, held, _>>=_}
 use Rattle.number.specs.Arith.{Arith, floats}
 use Rattle.number.specs.Functions.{Answers, calls}
-use Rattle.number.proofs.Rel.{Both, both-held, both-refused}
+use Rattle.number.proofs.Rel.{Rel, Both, both-held, both-refused, calls-rel}
 use Rattle.histories.specs.History.{Traced, histories, asks, unlooking}
 use Rattle.histories.proofs.Same.{Forgets, forgotten, forgets, unlooking-rel}
 use Rattle.enclosure.specs.Enclosure.{enclosures}
 use Rattle.enclosure.specs.Constants.{Choice}
 use Rattle.enclosure.specs.Exact.{exacts}
 use Rattle.enclosure.specs.Ends.{endsIn, endsOf, Fair, Encloses}
+use Rattle.enclosure.proofs.Relations.{values, contains}
 use Rattle.saftvrqmie_parameters.specs.declared.SaftVRQMiePars.{SaftVRQMiePars}
 use Rattle.saftvrqmie_energies.specs.Energies.{EnergiesIn, contributionsOf, energiesFrom, energiesBy}
 use Rattle.saftvrqmie_energies.proofs.Relation.{EnergiesR, contributionsOf-rel}
 use Rattle.saftvrqmie_energies_ends.specs.Operation.{together, allSound, eachEnds, eachEndsOf, energiesEnds}
 use Rattle.saftvrqmie_energies_ends.specs.Encloses.{EachEncloses}
+use Rattle.saftvrqmie_tank.specs.Tank.{TankLists, layerAt, tankRun, tankFrom, runsBy}
+use Rattle.saftvrqmie_tank_ends.specs.TankEnds.{tankEndsBy}
 use Rattle.saftvrqmie.specs.Pairs as Quantum
 use Rattle.saftvrqmie_diameter_ends.specs.Operations as QuantumDiameter
 use Rattle.saftvrqmie_diameter_ends.proofs.Encloses as QuantumEncloses
@@ -33,6 +36,7 @@ use Rattle.demand_three.specs.TwoEnded.{TwoEnded}
 use Rattle.demand_three.specs.Demand.{isSound, Demand3}
 use Rattle.demand_three.specs.ByHistory.{energiesRun, quantumDiameterRun, dispersionRun, mieDiameterRun}
 use Rattle.demand_three.proofs.ByHistory.{demand-3-by-history}
+use Rattle.demand_three.proofs.Tank.{tank-ended}
 
 each-forgotten : (A : Arith) {a : Ans (EnergiesIn (Traced (A .Num)))} {b : Ans (EnergiesIn (A .Num))} → Both (EnergiesR (Forgets A)) a b → (a >>= λ e. held (together (e .hard-sphere .number) (e .dispersion .number) (e .non-additive .number))) ≡ b
 unfolding _>>=_
@@ -84,5 +88,14 @@ module _ (E : Answers) (q : Choice) (fair : Fair q) where
         equal-runs (λ a b c. TwoEnded isSound endsIn Encloses (Mie.diameterIjFrom s i j t a) b c (endsOf (Mie.diameterIjFrom s i j t a) b))
         (mie-plain floats) (mie-plain enclosures) (mie-plain (exacts q)) (demand-3-by-history .mie-diameter (unlooking E) q fair s i j t r0)
 
+  -- each layer's runs keep both relations, whatever its table
+  module _ (s : SaftVRQMiePars) (y : TankLists) (tables : ℕ → Ans (List Float)) (wanted : Bool) where
+    layers-rel : (A B : Arith) (K : Rel A B) (l : ℕ) (table : List Float) → Both (EnergiesR (K .R)) (runsBy A E s y wanted l table) (runsBy B E s y wanted l table)
+    layers-rel A B K l table = let z = layerAt (s .count) y l in contributionsOf-rel A B K (calls A E) (calls B E) (calls-rel A B K E) s (z .temperature) (z .fractions) (z .densities) table wanted
+
+    quantum-tank : TwoEnded allSound eachEnds EachEncloses (tankFrom s y tables wanted (runsBy floats E s y wanted)) (tankRun enclosures y tables wanted (runsBy enclosures E s y wanted)) (tankRun (exacts q) y tables wanted (runsBy (exacts q) E s y wanted)) (tankEndsBy E s y tables wanted)
+    unfolding tankEndsBy
+    quantum-tank = tank-ended s y tables wanted (layers-rel enclosures floats values) (layers-rel enclosures (exacts q) (contains q fair))
+
 pub demand-3 : Demand3
-demand-3 = record { quantum-energies = quantum-energies; quantum-diameter = quantum-diameter; mie-dispersion = mie-dispersion; mie-diameter = mie-diameter }
+demand-3 = record { quantum-energies = quantum-energies; quantum-diameter = quantum-diameter; mie-dispersion = mie-dispersion; mie-diameter = mie-diameter; quantum-tank = quantum-tank }

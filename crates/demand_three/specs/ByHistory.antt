@@ -15,6 +15,7 @@ use Rattle.saftvrqmie_parameters.specs.declared.SaftVRQMiePars.{SaftVRQMiePars}
 use Rattle.saftvrqmie_energies.specs.Energies.{EnergiesIn, contributionsOf, energiesFrom}
 use Rattle.saftvrqmie_energies_ends.specs.Operation.{together, allSound, eachEnds, eachEndsOf}
 use Rattle.saftvrqmie_energies_ends.specs.Encloses.{EachEncloses}
+use Rattle.saftvrqmie_tank.specs.Tank.{TankLists, layerAt, tankRun, tankFrom}
 use Rattle.saftvrqmie.specs.Pairs as Quantum
 use Rattle.saftvrmie_parameters.specs.declared.SaftVRMiePars.{SaftVRMiePars}
 use Rattle.saftvrmie_energies.specs.Energies as MieEnergies
@@ -38,6 +39,10 @@ module _ (E : HistoryAnswers) (A : Arith) where
   abbrev pub mieDiameterRun : SaftVRMiePars → ℕ → ℕ → Float → Float → Ans (A .Num)
   mieDiameterRun s i j t r0 = withoutHistory (Mie.diameterRun (histories A) (asks A E) s i j t r0)
 
+-- a tank's layers, each with answers of its own
+abbrev pub layerRuns : (ℕ → HistoryAnswers) → (A : Arith) → SaftVRQMiePars → TankLists → Bool → ℕ → List Float → Ans (EnergiesIn (A .Num))
+layerRuns E A s q wanted l table = let y = layerAt (s .count) q l in energiesRun (E l) A s (y .temperature) (y .fractions) (y .densities) table wanted
+
 -- Each operation as it stands in its contract, on such runs; the exact run takes any fair choice of the constants.
 pub record Demand3ByHistory : Type 0 where
   pub quantum-energies : (E : HistoryAnswers) (q : Choice) → Fair q → (s : SaftVRQMiePars) (t : Float) (x rho table : List Float) (wanted : Bool)
@@ -56,3 +61,7 @@ pub record Demand3ByHistory : Type 0 where
       → let float = Mie.diameterIjFrom s i j t (mieDiameterRun E floats s i j t r0) in
       let run = mieDiameterRun E enclosures s i j t r0 in
       TwoEnded isSound endsIn Encloses float run (mieDiameterRun E (exacts q) s i j t r0) (endsOf float run)
+  pub quantum-tank : (E : ℕ → HistoryAnswers) (q : Choice) → Fair q → (s : SaftVRQMiePars) (l : TankLists) (tables : ℕ → Ans (List Float)) (wanted : Bool)
+      → let float = tankFrom s l tables wanted (layerRuns E floats s l wanted) in
+      let run = tankRun enclosures l tables wanted (layerRuns E enclosures s l wanted) in
+      TwoEnded allSound eachEnds EachEncloses float run (tankRun (exacts q) l tables wanted (layerRuns E (exacts q) s l wanted)) (eachEndsOf float run)

@@ -1,10 +1,12 @@
 -- Demand 3, whole. A float run and an exact run on fractions get the same elementary answers, call by call: wherever two ends are reported, the exact run divides by no zero, and both results lie between the ends or on them, whatever is handed in, whatever is answered and whatever fair choice the exact run takes for the constants (Slip 7). Ends are reported wherever no numbered refusal applies, and they are, by bits, those that the outward rules give.
 -- Answers are functions of the arguments here; ByHistory has those that may differ from call to call.
--- The contracts of the two-ended operations say that they answer `energiesEnds`, `dispersionEnds` and the two `diameterEnds` at the port's own answers.
+-- The contracts of the two-ended operations say that they answer `energiesEnds`, `dispersionEnds`, the two `diameterEnds` and `tankEndsBy` at the port's own answers, the tank with the tables of its layers' temperatures.
 use Prim.Native.Nat.{ℕ}
 use lib.Ieee.{Float}
 use mathlib.Core.List.{List}
 use mathlib.Core.Bool.{Bool}
+use Rattle.number.specs.Ans.{Ans}
+use Rattle.number.specs.Arith.{floats}
 use Rattle.number.specs.Functions.{Answers, calls}
 use Rattle.enclosure.specs.declared.Enclosure.{Enclosure}
 use Rattle.enclosure.specs.Enclosure.{enclosures}
@@ -15,6 +17,8 @@ use Rattle.saftvrqmie_parameters.specs.declared.SaftVRQMiePars.{SaftVRQMiePars}
 use Rattle.saftvrqmie_energies.specs.Energies.{contributionsOf, energiesBy}
 use Rattle.saftvrqmie_energies_ends.specs.Operation.{allSound, eachEnds, energiesEnds}
 use Rattle.saftvrqmie_energies_ends.specs.Encloses.{EachEncloses}
+use Rattle.saftvrqmie_tank.specs.Tank.{TankLists, tankRun, tankFrom, runsBy}
+use Rattle.saftvrqmie_tank_ends.specs.TankEnds.{tankEndsBy}
 use Rattle.saftvrqmie.specs.Pairs as Quantum
 use Rattle.saftvrqmie_diameter_ends.specs.Operations as QuantumDiameter
 use Rattle.saftvrmie_parameters.specs.declared.SaftVRMiePars.{SaftVRMiePars}
@@ -41,3 +45,6 @@ pub record Demand3 : Type 0 where
   -- SAFT-VR Mie: a pair's diameter from its reduced lower limit
   pub mie-diameter : (E : Answers) (q : Choice) → Fair q → (s : SaftVRMiePars) (i j : ℕ) (t r0 : Float)
       → TwoEnded isSound endsIn Encloses (Mie.diameterIjBy E s i j t r0) (Mie.diameterRun enclosures (calls enclosures E) s i j t r0) (Mie.diameterRun (exacts q) (calls (exacts q) E) s i j t r0) (MieDiameter.diameterEnds E s i j t r0)
+  -- quantum: a tank in layers (Slip 10), whatever the tables of its layers are
+  pub quantum-tank : (E : Answers) (q : Choice) → Fair q → (s : SaftVRQMiePars) (l : TankLists) (tables : ℕ → Ans (List Float)) (wanted : Bool)
+      → TwoEnded allSound eachEnds EachEncloses (tankFrom s l tables wanted (runsBy floats E s l wanted)) (tankRun enclosures l tables wanted (runsBy enclosures E s l wanted)) (tankRun (exacts q) l tables wanted (runsBy (exacts q) E s l wanted)) (tankEndsBy E s l tables wanted)

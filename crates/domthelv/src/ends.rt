@@ -11,7 +11,7 @@ use mie_parameters::ParameterAnswer;
 use saftvrqmie_energies_ends::EnergiesEnds;
 use saftvrqmie_energies_ends::EnergiesEndsAnswer;
 
-fn write_ends(e: EnergiesEnds, out: &mut [f64])
+pub fn write_ends(e: EnergiesEnds, out: &mut [f64])
     requires { ⌜ length (now out) ≡ 6 ⌝ }
     ensures { λ _. ⌜ now (out .exit) ≡ endsWritten (endsEach e) (now (out .entry)) ⌝ }
 {

@@ -4,6 +4,7 @@ mod functions;
 mod mie;
 mod places;
 mod quantum;
+mod tank;
 
 pub use crate::ends::domthelv_vr_diameter_ends;
 pub use crate::ends::domthelv_vr_dispersion_ends;
@@ -32,3 +33,5 @@ pub use crate::quantum::domthelv_vrq_record_m;
 pub use crate::quantum::domthelv_vrq_stage;
 pub use crate::quantum::domthelv_vrq_table;
 pub use crate::quantum::domthelv_vrq_total;
+pub use crate::tank::domthelv_vrq_tank;
+pub use crate::tank::domthelv_vrq_tank_ends;

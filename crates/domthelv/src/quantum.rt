@@ -241,7 +241,7 @@ pub extern "C" fn domthelv_vrq_radii(
     }
 }
 
-fn write_energies(e: QuantumEnergies, out: &mut [f64])
+pub fn write_energies(e: QuantumEnergies, out: &mut [f64])
     requires { ⌜ length (now out) ≡ 3 ⌝ }
     ensures { λ _. ⌜ now (out .exit) ≡ energiesWritten (energiesIn e) (now (out .entry)) ⌝ }
 {

@@ -13,6 +13,9 @@ use Rattle.saftvrqmie_energies.specs.Energies.{EnergiesIn, contributionsOf, ene
 use Rattle.saftvrqmie_energies_ends.specs.declared.EnergiesEnds.{EnergiesEnds}
 use Rattle.saftvrqmie_energies_ends.specs.declared.EnergiesEndsAnswer.{EnergiesEndsAnswer}
 use Rattle.saftvrqmie_energies_ends.specs.declared.EnergiesEndsAnswer.the-variants.{Held, Refused}
+use Rattle.saftvrqmie_energies_ends.specs.declared.EnergiesEnclosures.{EnergiesEnclosures}
+use Rattle.saftvrqmie_energies_ends.specs.declared.EnclosuresAnswer.{EnclosuresAnswer}
+use Rattle.saftvrqmie_energies_ends.specs.declared.EnclosuresAnswer.the-variants as Enclosed
 
 -- the ends of the three contributions, as the code's struct holds them
 abbrev pub endsEach : EnergiesEnds → EnergiesIn Ends
@@ -22,6 +25,14 @@ endsEach e = record { hard-sphere = e .«hard_sphere»; dispersion = e .dispersi
 abbrev pub energiesEndsAnswer : EnergiesEndsAnswer → Ans (EnergiesIn Ends)
 energiesEndsAnswer (Held e) = held (endsEach e)
 energiesEndsAnswer (Refused n) = refused n
+
+-- the enclosures of the three, and the number or values of each case of `EnclosuresAnswer`
+abbrev pub enclosuresEach : EnergiesEnclosures → EnergiesIn Enclosure
+enclosuresEach e = record { hard-sphere = e .«hard_sphere»; dispersion = e .dispersion; non-additive = e .«non_additive» }
+
+abbrev pub enclosuresAnswer : EnclosuresAnswer → Ans (EnergiesIn Enclosure)
+enclosuresAnswer (Enclosed.Held e) = held (enclosuresEach e)
+enclosuresAnswer (Enclosed.Refused n) = refused n
 
 abbrev pub together : {N : Type 0} → N → N → N → EnergiesIn N
 together h d a = record { hard-sphere = h; dispersion = d; non-additive = a }
@@ -36,14 +47,23 @@ eachEnds e = together (endsIn (e .hard-sphere)) (endsIn (e .dispersion)) (endsIn
 unfoldable pub allSound : EnergiesIn Enclosure → Bool
 allSound e = e .hard-sphere .ends .sound && e .dispersion .ends .sound && e .non-additive .ends .sound
 
--- 1, 2, 6, 7 of the float operation; 8 if a contribution's enclosure is not sound. A part that is not wanted has the ends +0, +0
+-- 8 if a contribution's enclosure is not sound, else the ends
+abbrev pub soundEnds : EnergiesIn Enclosure → Ans (EnergiesIn Ends)
+soundEnds b =
+    demand 8 (allSound b) >>= λ _.
+    held (eachEnds b)
+
+-- 1, 2, 6, 7 of the float operation, then 8. A part that is not wanted has the ends +0, +0
 abbrev pub eachEndsOf : Ans (EnergiesIn Float) → Ans (EnergiesIn Enclosure) → Ans (EnergiesIn Ends)
 eachEndsOf float run =
     float >>= λ _.
     run >>= λ b.
-    demand 8 (allSound b) >>= λ _.
-    held (eachEnds b)
+    soundEnds b
 
 -- whatever the elementary functions answer
 unfoldable pub energiesEnds : Answers → SaftVRQMiePars → Float → List Float → List Float → List Float → Bool → Ans (EnergiesIn Ends)
 energiesEnds E s t x rho table wanted = eachEndsOf (energiesBy E s t x rho table wanted) (contributionsOf enclosures (calls enclosures E) s t x rho table wanted)
+
+-- the same before 8: the float operation's refusals, then the enclosures, sound or not
+unfoldable pub energiesEnclosed : Answers → SaftVRQMiePars → Float → List Float → List Float → List Float → Bool → Ans (EnergiesIn Enclosure)
+energiesEnclosed E s t x rho table wanted = energiesBy E s t x rho table wanted >>= λ _. contributionsOf enclosures (calls enclosures E) s t x rho table wanted

@@ -13,7 +13,7 @@ ghost use Rattle.saftvrqmie_energies.specs.NonAdditive.{nonAdditive};
 ghost use Rattle.enclosure.specs.Ends.{endsIn};
 ghost use Rattle.saftvrqmie_parameters.specs.declared.SaftVRQMiePars.{SaftVRQMiePars};
 ghost use Rattle.saftvrqmie_energies.specs.Energies.{energiesFinite};
-ghost use Rattle.saftvrqmie_energies_ends.specs.Operation.{together, valuesOf, allSound, energiesEnds, energiesEndsAnswer};
+ghost use Rattle.saftvrqmie_energies_ends.specs.Operation.{together, valuesOf, allSound, soundEnds, energiesEnclosed, energiesEnds, enclosuresEach, enclosuresAnswer, energiesEndsAnswer};
 ghost use Rattle.saftvrqmie_energies_ends.specs.Parts.{zetaIn, zetasOf};
 
 mod dispersion;
@@ -40,6 +40,18 @@ pub struct EnergiesEnds {
 
 pub enum EnergiesEndsAnswer {
     Held(EnergiesEnds),
+    Refused(u8),
+}
+
+// Each contribution of the two-ended run, sound or not.
+pub struct EnergiesEnclosures {
+    pub hard_sphere: Enclosure,
+    pub dispersion: Enclosure,
+    pub non_additive: Enclosure,
+}
+
+pub enum EnclosuresAnswer {
+    Held(EnergiesEnclosures),
     Refused(u8),
 }
 
@@ -90,6 +102,72 @@ fn all_sound(h: Enclosure, d: Enclosure, a: Enclosure) -> bool
     x.sound & y.sound & z.sound
 }
 
+// The enclosures of hard sphere, dispersion and, if wanted, non-additive, over a set's parts. 1, 2, 6, 7.
+pub fn enclosures_of(
+    n: usize,
+    m: &[f64; SIDE],
+    sheets: &[f64; SHEETS],
+    orders: [OrderRecord; SHEET],
+    temperature: f64,
+    fractions: &[f64],
+    densities: &[f64],
+    table: &[f64],
+    non_additive: bool,
+) -> EnclosuresAnswer
+    ensures { λ r.
+        let set : SaftVRQMiePars = record { count = n; m = now (m .entry); sheets = now (sheets .entry); orders = orders } in
+        ⌜ enclosuresAnswer r ≡ energiesEnclosed port set temperature (now (fractions .entry)) (now (densities .entry)) (now (table .entry)) «non_additive» ⌝ }
+{
+    if !saftvrqmie_energies::right_lengths(n, fractions, densities, table) {
+        return EnclosuresAnswer::Refused(1);
+    }
+    if !limits::state_within(n, temperature, fractions, densities) {
+        return EnclosuresAnswer::Refused(2);
+    }
+    let z = hard_sphere::zeta(n, densities, table, m);
+    let EnclosureAnswer::Value(h) = hard_sphere::hard_sphere(n, fractions, table, m, z) else {
+        return EnclosuresAnswer::Refused(6);
+    };
+    let EnclosureAnswer::Value(d) = dispersion::dispersion(
+        n,
+        m,
+        sheets,
+        orders,
+        temperature,
+        fractions,
+        densities,
+        table,
+    ) else {
+        return EnclosuresAnswer::Refused(6);
+    };
+    let a = wanted_part(n, densities, m, table, z, non_additive);
+    if !all_finite(h, d, a) {
+        return EnclosuresAnswer::Refused(7);
+    }
+    EnclosuresAnswer::Held(EnergiesEnclosures {
+        hard_sphere: h,
+        dispersion: d,
+        non_additive: a,
+    })
+}
+
+// 8 where a contribution's enclosure is not sound, else the ends of each.
+pub fn sound_ends(e: EnergiesEnclosures) -> EnergiesEndsAnswer
+    ensures { λ r. ⌜ energiesEndsAnswer r ≡ soundEnds (enclosuresEach e) ⌝ }
+{
+    let h = e.hard_sphere;
+    let d = e.dispersion;
+    let a = e.non_additive;
+    if !all_sound(h, d, a) {
+        return EnergiesEndsAnswer::Refused(8);
+    }
+    EnergiesEndsAnswer::Held(EnergiesEnds {
+        hard_sphere: ends_in(h),
+        dispersion: ends_in(d),
+        non_additive: ends_in(a),
+    })
+}
+
 // The two ends of hard sphere, dispersion and, if wanted, non-additive, over a set's parts. 1, 2, 6, 7, 8.
 pub fn energies_ends_of(
     n: usize,
@@ -106,17 +184,7 @@ pub fn energies_ends_of(
         let set : SaftVRQMiePars = record { count = n; m = now (m .entry); sheets = now (sheets .entry); orders = orders } in
         ⌜ energiesEndsAnswer r ≡ energiesEnds port set temperature (now (fractions .entry)) (now (densities .entry)) (now (table .entry)) «non_additive» ⌝ }
 {
-    if !saftvrqmie_energies::right_lengths(n, fractions, densities, table) {
-        return EnergiesEndsAnswer::Refused(1);
-    }
-    if !limits::state_within(n, temperature, fractions, densities) {
-        return EnergiesEndsAnswer::Refused(2);
-    }
-    let z = hard_sphere::zeta(n, densities, table, m);
-    let EnclosureAnswer::Value(h) = hard_sphere::hard_sphere(n, fractions, table, m, z) else {
-        return EnergiesEndsAnswer::Refused(6);
-    };
-    let EnclosureAnswer::Value(d) = dispersion::dispersion(
+    let worked = enclosures_of(
         n,
         m,
         sheets,
@@ -125,21 +193,12 @@ pub fn energies_ends_of(
         fractions,
         densities,
         table,
-    ) else {
-        return EnergiesEndsAnswer::Refused(6);
-    };
-    let a = wanted_part(n, densities, m, table, z, non_additive);
-    if !all_finite(h, d, a) {
-        return EnergiesEndsAnswer::Refused(7);
+        non_additive,
+    );
+    match worked {
+        EnclosuresAnswer::Refused(k) => EnergiesEndsAnswer::Refused(k),
+        EnclosuresAnswer::Held(e) => sound_ends(e),
     }
-    if !all_sound(h, d, a) {
-        return EnergiesEndsAnswer::Refused(8);
-    }
-    EnergiesEndsAnswer::Held(EnergiesEnds {
-        hard_sphere: ends_in(h),
-        dispersion: ends_in(d),
-        non_additive: ends_in(a),
-    })
 }
 
 pub fn helmholtz_energy_densities_ends(

@@ -1,6 +1,6 @@
 //! Each operation of the boundary, called with lists in guarded pages. The lent outputs stand last.
 use crate::lent::Lent;
-use crate::oracle::{Lists, MieSet, QuantumSet, State};
+use crate::oracle::{Lists, MieSet, QuantumSet, State, Tank};
 use crate::port;
 use crate::random::Random;
 
@@ -90,6 +90,27 @@ impl Caller {
 
     pub fn vrq_energies_ends(&mut self, s: &QuantumSet, st: &State, table: &[f64], non_additive: bool, out: usize) -> Option<u8> {
         self.vrq_energies_by(port::VRQ_ENERGIES_ENDS?, s, st, table, non_additive, out)
+    }
+
+    fn vrq_tank_by(&mut self, f: port::Tank, s: &QuantumSet, t: &Tank, non_additive: bool, out: usize) -> Option<u8> {
+        self.lent.clear();
+        let (m, sheets, orders) = (self.lend(&s.m), self.lend(&s.sheets), self.lend(&s.orders));
+        let [temperatures, x, rho, volumes] = [&t.temperatures, &t.fractions, &t.densities, &t.volumes].map(|l| self.lend(l));
+        let energies = self.floats(out);
+        Some(unsafe {
+            f(
+                s.count, m, s.m.len(), sheets, s.sheets.len(), orders, s.orders.len(), t.layers, temperatures, t.temperatures.len(),
+                x, t.fractions.len(), rho, t.densities.len(), volumes, t.volumes.len(), non_additive, energies, out,
+            )
+        })
+    }
+
+    pub fn vrq_tank(&mut self, s: &QuantumSet, t: &Tank, non_additive: bool, out: usize) -> Option<u8> {
+        self.vrq_tank_by(port::VRQ_TANK?, s, t, non_additive, out)
+    }
+
+    pub fn vrq_tank_ends(&mut self, s: &QuantumSet, t: &Tank, non_additive: bool, out: usize) -> Option<u8> {
+        self.vrq_tank_by(port::VRQ_TANK_ENDS?, s, t, non_additive, out)
     }
 
     pub fn vrq_record_m(&mut self, m: f64) -> Option<u8> {

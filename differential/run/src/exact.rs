@@ -3,7 +3,7 @@
 //! Small states, since a fraction grows with every operation.
 use crate::calls::Caller;
 use crate::compare::judge;
-use crate::oracle::{self, State};
+use crate::oracle::{self, State, Tank};
 use crate::random::Random;
 use crate::sizes::SIDE;
 use crate::states::{self, Kind};
@@ -57,6 +57,15 @@ fn quantum(g: &mut Random, case: u64, c: &mut Caller, tally: &mut Tally, seen: &
     let expected = exactly(tally, case, seen, || oracle::vrq_energies_enclosed(&set, &state, &table, true, 6));
     if let Some(number) = c.vrq_energies_ends(&set, &state, &table, true, 6) {
         judge(tally, "exact: vrq_energies_ends", case, c, 1, number, &expected, |r| seen.enclosed(r, &c.lent.out(0)));
+    }
+    if case % 8 == 0 {
+        let two = |x: &[f64]| [x, x].concat();
+        let temperatures = vec![t, (t + 1.0).min(300.0)];
+        let tank = Tank { layers: 2, temperatures, fractions: two(&state.fractions), densities: two(&state.densities), volumes: vec![3e9, 7e8] };
+        let expected = exactly(tally, case, seen, || oracle::vrq_tank_enclosed(&set, &tank, true, 6));
+        if let Some(number) = c.vrq_tank_ends(&set, &tank, true, 6) {
+            judge(tally, "exact: vrq_tank_ends", case, c, 1, number, &expected, |r| seen.enclosed(r, &c.lent.out(0)));
+        }
     }
     let (i, j) = (0, n - 1);
     let Ok((radii, _)) = oracle::vrq_radii(&set, i, j, t, [6, 3]) else { return };

@@ -6,6 +6,7 @@ use crate::random::Random;
 use crate::sizes::{SIDE, TABLE};
 use crate::states;
 use crate::tally::Tally;
+use crate::tank;
 
 /// Each entry replaced with a chance of one in `one_in`.
 fn scatter(g: &mut Random, list: &mut [f64], one_in: usize) {
@@ -116,6 +117,7 @@ fn quantum(g: &mut Random, case: u64, c: &mut Caller, tally: &mut Tally) {
         let expected = oracle::vrq_energies_ends(&set, &s, &table, wanted, out);
         judge(tally, "fuzz vrq_energies_ends", case, c, 1, number, &expected, |e| floats("ends", &c.lent.out(0), e));
     }
+    tank::arbitrary(g, case, c, tally, &set, n, |g, list| scatter(g, list, one_in));
     let (radii, out) =
         ([g.odd(), g.odd()].map(|x| if g.once_in(4) { x } else { g.within(2.0, 4.0) }), if g.once_in(25) { g.below(9) } else { 2 });
     let expected = oracle::vrq_diameter(&set, i, j, t, radii);

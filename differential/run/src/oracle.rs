@@ -136,6 +136,23 @@ pub struct State {
     pub densities: Vec<f64>,
 }
 
+/// Layers from the bottom up, their lists one after another.
+#[derive(Clone, Debug)]
+pub struct Tank {
+    pub layers: usize,
+    pub temperatures: Vec<f64>,
+    pub fractions: Vec<f64>,
+    pub densities: Vec<f64>,
+    pub volumes: Vec<f64>,
+}
+impl Tank {
+    /// Layer l, of n components.
+    pub fn layer(&self, n: usize, l: usize) -> State {
+        let part = |list: &[f64]| list[n * l..n * (l + 1)].to_vec();
+        State { temperature: self.temperatures[l], fractions: part(&self.fractions), densities: part(&self.densities) }
+    }
+}
+
 /// The lists as a text takes them: each of the texts has a type of its own.
 macro_rules! lists_for {
     ($text:ident, $l:expr) => {
@@ -369,6 +386,32 @@ pub fn vrq_total(s: &QuantumSet, st: &State, table: &[f64], non_additive: bool, 
     Ok([first[0], first[1], last[0], last[1]])
 }
 
+fn layer_count_right(t: &Tank) -> Result<(), u8> {
+    if (1..=32).contains(&t.layers) { Ok(()) } else { Err(14) }
+}
+fn tank_lists_right(n: usize, t: &Tank) -> bool {
+    let (each, all) = (t.layers, n.wrapping_mul(t.layers));
+    t.temperatures.len() == each && t.fractions.len() == all && t.densities.len() == all && t.volumes.len() == each
+}
+
+/// A tank: each layer's table and energies in a plain sum, from the bottom up.
+pub fn vrq_tank(s: &QuantumSet, t: &Tank, non_additive: bool, out: usize) -> Result<[f64; 3], u8> {
+    layer_count_right(t)?;
+    quantum_set(s, tank_lists_right(s.count, t) && out == 3)?;
+    let mut sum = [0.0; 3];
+    for l in 0..t.layers {
+        let (st, volume) = (t.layer(s.count, l), t.volumes[l]);
+        limits(state_right(&st) && 0.0 < volume && volume <= 1e30)?;
+        let (table, _) = vrq_table(s, st.temperature, TABLE_AND_COUNTS)?;
+        let energies = vrq_energies(s, &st, &table, non_additive, 3)?;
+        for k in 0..if non_additive { 3 } else { 2 } {
+            sum[k] += energies[k] * volume * st.temperature;
+        }
+    }
+    finite(&sum)?;
+    Ok(sum)
+}
+
 /// Parameters, table and energies; the first refusal on the way is given.
 pub fn vrq_stage(l: &Lists, st: &State, non_additive: bool, out: usize) -> Result<[f64; 3], u8> {
     lengths(out == 3)?;
@@ -507,6 +550,27 @@ pub fn vrq_energies_enclosed(s: &QuantumSet, st: &State, table: &[f64], non_addi
 }
 pub fn vrq_energies_ends(s: &QuantumSet, st: &State, table: &[f64], non_additive: bool, out: usize) -> Result<Vec<f64>, u8> {
     ends_of(vrq_energies_enclosed(s, st, table, non_additive, out))
+}
+
+/// The tank's refusals first; then the same sum of the layers' energies by the text with two ends.
+pub fn vrq_tank_enclosed(s: &QuantumSet, t: &Tank, non_additive: bool, out: usize) -> Result<Vec<F>, u8> {
+    vrq_tank(s, t, non_additive, if out == 6 { 3 } else { 0 })?;
+    let p = ended_vrq::set(s.count, &points(&s.m), &points(&s.sheets), &s.orders);
+    let mut sum = [F::k(0.0); 3];
+    start_ends();
+    for l in 0..t.layers {
+        let st = t.layer(s.count, l);
+        let (table, _) = vrq_table(s, st.temperature, TABLE_AND_COUNTS)?;
+        let (x, rho, temperature) = (points(&st.fractions), points(&st.densities), F::k(st.temperature));
+        let energies = ended_vrq::energies(&p, &points(&table), temperature, &x, &rho, non_additive);
+        for k in 0..if non_additive { 3 } else { 2 } {
+            sum[k] = sum[k] + energies[k] * F::k(t.volumes[l]) * temperature;
+        }
+    }
+    enclosed(&sum)
+}
+pub fn vrq_tank_ends(s: &QuantumSet, t: &Tank, non_additive: bool, out: usize) -> Result<Vec<f64>, u8> {
+    ends_of(vrq_tank_enclosed(s, t, non_additive, out))
 }
 
 /// The diameter from radii: the text with two ends takes an r0, and its float run is the float operation.

@@ -14,6 +14,12 @@ pub type Energies = unsafe extern "C" fn(
     usize, In, Len, In, Len, BytesIn, Len, f64, In, Len, In, Len, In, Len, bool, Out, Len,
 ) -> u8;
 
+/// A tank's energies and their ends are called alike.
+#[rustfmt::skip]
+pub type Tank = unsafe extern "C" fn(
+    usize, In, Len, In, Len, BytesIn, Len, usize, In, Len, In, Len, In, Len, In, Len, bool, Out, Len,
+) -> u8;
+
 macro_rules! boundary {
     ($($name:ident = $symbol:ident($($t:ty),* $(,)?);)*) => {
         #[cfg_attr(not(feature = "unproved"), link(name = "domthelv", kind = "static"))]
@@ -63,6 +69,14 @@ boundary! {
     // the same; out: low and high end of each
     VRQ_ENERGIES_ENDS = domthelv_vrq_energies_ends(
         usize, In, Len, In, Len, BytesIn, Len, f64, In, Len, In, Len, In, Len, bool, Out, Len,
+    );
+    // count, m, sheets, orders, layers, temperatures, fractions, densities, volumes, non_additive; out
+    VRQ_TANK = domthelv_vrq_tank(
+        usize, In, Len, In, Len, BytesIn, Len, usize, In, Len, In, Len, In, Len, In, Len, bool, Out, Len,
+    );
+    // the same; out: low and high end of each
+    VRQ_TANK_ENDS = domthelv_vrq_tank_ends(
+        usize, In, Len, In, Len, BytesIn, Len, usize, In, Len, In, Len, In, Len, In, Len, bool, Out, Len,
     );
     // count, m, sheets, orders, i, j, temperature, sigma_eff, r0; out
     VRQ_DIAMETER = domthelv_vrq_diameter(usize, In, Len, In, Len, BytesIn, Len, usize, usize, f64, f64, f64, Out);

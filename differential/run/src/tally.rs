@@ -33,9 +33,9 @@ impl Tally {
 
     pub fn print(&self, title: &str) {
         println!("{title}");
-        println!("{:<22} {:>9} {}", "operation", "accepted", (1..=8).map(|k| format!("{:>8}", format!("no. {k}"))).collect::<String>());
+        println!("{:<22} {:>9} {}", "operation", "accepted", (1..=8).map(|k| format!("{:>8}", format!("no. {k}"))).collect::<String>() + "   above");
         for (name, n) in &self.numbers {
-            println!("{name:<22} {:>9} {}", n[0], (1..=8).map(|k| format!("{:>8}", n[k])).collect::<String>());
+            println!("{name:<22} {:>9} {}", n[0], (1..=9).map(|k| format!("{:>8}", n[k])).collect::<String>());
         }
         let [s, z, d] = self.searches.map(|[found, spent]| format!("{found} found, {spent} spent"));
         println!("searches met in tables: sigma {s}; zero {z}; depth {d}");

@@ -1,80 +1,37 @@
 -- `saftvrqmie_energies_ends::energies_ends_of` meets its contract. Assumes nothing.
-use Rattle.number.proofs.Walk.{via, told}
-use Rattle.enclosure.specs.Answer.{answer}
-use borrow.Author.Tests.{not-true, not-false}
-use Rattle.saftvrqmie_energies.proofs.Ways.{right}
-use Rattle.saftvrqmie_energies_ends.proofs.Ways.{refuses-1, refuses-2, no-hard-sphere, no-dispersion, refuses-7, refuses-8, holds}
 use mathlib.Core.Path.{_∙_}
-use Rattle.saftvrqmie_energies_ends.proofs.Zetas.{hard-sphere-at}
+use Rattle.number.proofs.Walk.{via}
+use Rattle.saftvrqmie_energies_ends.specs.Operation.{enclosuresAnswer}
+use Rattle.saftvrqmie_energies_ends.proofs.Ways.{ends-refused, ends-held}
 use borrow.Author.Needs.{needs}
 use Rattle.saftvrqmie_energies_ends.proofs.energies_ends_of.Statement.{statement}
 use Rattle.saftvrqmie_energies_ends.proofs.energies_ends_of.Tie as tie
 
-right-lengths-requires : tie.Need-right-lengths-requires
-right-lengths-requires c κs = search needs
+enclosures-of-requires : tie.Need-enclosures-of-requires
+enclosures-of-requires c κs = search needs
+
+enum-known-worked : tie.Need-enum-known-worked
+enum-known-worked c = search needs
+
+enum-known-worked-2 : tie.Need-enum-known-worked-2
+enum-known-worked-2 c = search needs
+
+sound-ends-requires : tie.Need-sound-ends-requires
+sound-ends-requires c κs = search needs
 
 returns : tie.Need-returns
-returns c = refuses-1 _ _ _ _ _ _ _ (told ((c .before .right-lengths) .ensures) (not-true _ ((c .if1) .taken)))
-
-state-within-requires : tie.Need-state-within-requires
-state-within-requires c κs = let h = right _ _ _ _ (told ((c .before .right-lengths) .ensures) (not-false _ ((c .if1) .left))) in (h .fractions, h .densities)
+returns c = ends-refused _ _ _ _ _ _ _ _ (via enclosuresAnswer ((c .before .before .before .enclosures-of) .ensures) ((c .before .worked) .given .1))
 
 returns-2 : tie.Need-returns-2
-returns-2 c = refuses-2 _ _ _ _ _ _ _ (told ((c .before .before .before .right-lengths) .ensures) (not-false _ ((c .before .before .if1) .left))) (told ((c .before .state-within) .ensures) (not-true _ ((c .if2) .taken)))
-
-zeta-requires : tie.Need-zeta-requires
-zeta-requires c κs = let h = right _ _ _ _ (told ((c .before .before .before .right-lengths) .ensures) (not-false _ ((c .before .before .if1) .left))) in (h .high, h .densities, h .places)
-
-hard-sphere-requires : tie.Need-hard-sphere-requires
-hard-sphere-requires c κs = let h = right _ _ _ _ (told ((c .before .before .before .before .right-lengths) .ensures) (not-false _ ((c .before .before .before .if1) .left))) in (h .high, h .fractions, h .places)
-
-enum-known-h : tie.Need-enum-known-h
-enum-known-h c = search needs
-
-enum-told : tie.Need-enum-told
-enum-told c = search needs
-
-returns-3 : tie.Need-returns-3
-returns-3 c = no-hard-sphere _ _ _ _ _ _ _ (told ((c .before .before .before .before .before .before .before .right-lengths) .ensures) (not-false _ ((c .before .before .before .before .before .before .if1) .left))) (told ((c .before .before .before .before .before .state-within) .ensures) (not-false _ ((c .before .before .before .before .if2) .left))) _ (via answer ((c .before .before .hard-sphere) .ensures ∙ hard-sphere-at _ _ _ _ _ _ ((c .before .before .before .zeta) .ensures)) ((c .enum-told) .given .1))
-
-dispersion-requires : tie.Need-dispersion-requires
-dispersion-requires c κs = let h = right _ _ _ _ (told ((c .before .before .before .before .before .before .before .before .right-lengths) .ensures) (not-false _ ((c .before .before .before .before .before .before .before .if1) .left))) in (h .high, h .places, h .fractions, h .densities)
-
-enum-known-d : tie.Need-enum-known-d
-enum-known-d c = search needs
-
-enum-told-2 : tie.Need-enum-told-2
-enum-told-2 c = search needs
-
-returns-4 : tie.Need-returns-4
-returns-4 c = no-dispersion _ _ _ _ _ _ _ (told ((c .before .before .before .before .before .before .before .before .before .before .before .right-lengths) .ensures) (not-false _ ((c .before .before .before .before .before .before .before .before .before .before .if1) .left))) (told ((c .before .before .before .before .before .before .before .before .before .state-within) .ensures) (not-false _ ((c .before .before .before .before .before .before .before .before .if2) .left))) _ (via answer ((c .before .before .before .before .before .before .hard-sphere) .ensures ∙ hard-sphere-at _ _ _ _ _ _ ((c .before .before .before .before .before .before .before .zeta) .ensures)) ((c .before .before .before .before .h) .given .1)) _ (via answer ((c .before .before .dispersion) .ensures) ((c .enum-told2) .given .1))
-
-wanted-part-requires : tie.Need-wanted-part-requires
-wanted-part-requires c κs = let h = right _ _ _ _ (told ((c .before .before .before .before .before .before .before .before .before .before .before .before .right-lengths) .ensures) (not-false _ ((c .before .before .before .before .before .before .before .before .before .before .before .if1) .left))) in (h .high, h .places, h .densities, (c .before .before .before .before .before .before .before .before .zeta) .ensures)
-
-all-finite-requires : tie.Need-all-finite-requires
-all-finite-requires c κs = search needs
-
-returns-5 : tie.Need-returns-5
-returns-5 c = refuses-7 _ _ _ _ _ _ _ (told ((c .before .before .before .before .before .before .before .before .before .before .before .before .before .before .before .right-lengths) .ensures) (not-false _ ((c .before .before .before .before .before .before .before .before .before .before .before .before .before .before .if1) .left))) (told ((c .before .before .before .before .before .before .before .before .before .before .before .before .before .state-within) .ensures) (not-false _ ((c .before .before .before .before .before .before .before .before .before .before .before .before .if2) .left))) _ (via answer ((c .before .before .before .before .before .before .before .before .before .before .hard-sphere) .ensures ∙ hard-sphere-at _ _ _ _ _ _ ((c .before .before .before .before .before .before .before .before .before .before .before .zeta) .ensures)) ((c .before .before .before .before .before .before .before .before .h) .given .1)) _ (via answer ((c .before .before .before .before .before .before .dispersion) .ensures) ((c .before .before .before .before .d) .given .1)) _ ((c .before .before .wanted-part) .ensures) (told ((c .before .all-finite) .ensures) (not-true _ ((c .if3) .taken)))
-
-all-sound-requires : tie.Need-all-sound-requires
-all-sound-requires c κs = search needs
-
-returns-6 : tie.Need-returns-6
-returns-6 c = refuses-8 _ _ _ _ _ _ _ (told ((c .before .before .before .before .before .before .before .before .before .before .before .before .before .before .before .before .before .right-lengths) .ensures) (not-false _ ((c .before .before .before .before .before .before .before .before .before .before .before .before .before .before .before .before .if1) .left))) (told ((c .before .before .before .before .before .before .before .before .before .before .before .before .before .before .before .state-within) .ensures) (not-false _ ((c .before .before .before .before .before .before .before .before .before .before .before .before .before .before .if2) .left))) _ (via answer ((c .before .before .before .before .before .before .before .before .before .before .before .before .hard-sphere) .ensures ∙ hard-sphere-at _ _ _ _ _ _ ((c .before .before .before .before .before .before .before .before .before .before .before .before .before .zeta) .ensures)) ((c .before .before .before .before .before .before .before .before .before .before .h) .given .1)) _ (via answer ((c .before .before .before .before .before .before .before .before .dispersion) .ensures) ((c .before .before .before .before .before .before .d) .given .1)) _ ((c .before .before .before .before .wanted-part) .ensures) (told ((c .before .before .before .all-finite) .ensures) (not-false _ ((c .before .before .if3) .left))) (told ((c .before .all-sound) .ensures) (not-true _ ((c .if4) .taken)))
-
-ends-in-requires : tie.Need-ends-in-requires
-ends-in-requires c κs = search needs
-
-ends-in-requires-2 : tie.Need-ends-in-requires-2
-ends-in-requires-2 c κs = search needs
-
-ends-in-requires-3 : tie.Need-ends-in-requires-3
-ends-in-requires-3 c κs = search needs
-
-returns-7 : tie.Need-returns-7
-returns-7 c = rw ((c .ends-in3) .ensures, (c .before .ends-in2) .ensures, (c .before .before .ends-in) .ensures) (holds _ _ _ _ _ _ _ (told ((c .before .before .before .before .before .before .before .before .before .before .before .before .before .before .before .before .before .before .before .before .right-lengths) .ensures) (not-false _ ((c .before .before .before .before .before .before .before .before .before .before .before .before .before .before .before .before .before .before .before .if1) .left))) (told ((c .before .before .before .before .before .before .before .before .before .before .before .before .before .before .before .before .before .before .state-within) .ensures) (not-false _ ((c .before .before .before .before .before .before .before .before .before .before .before .before .before .before .before .before .before .if2) .left))) _ (via answer ((c .before .before .before .before .before .before .before .before .before .before .before .before .before .before .before .hard-sphere) .ensures ∙ hard-sphere-at _ _ _ _ _ _ ((c .before .before .before .before .before .before .before .before .before .before .before .before .before .before .before .before .zeta) .ensures)) ((c .before .before .before .before .before .before .before .before .before .before .before .before .before .h) .given .1)) _ (via answer ((c .before .before .before .before .before .before .before .before .before .before .before .dispersion) .ensures) ((c .before .before .before .before .before .before .before .before .before .d) .given .1)) _ ((c .before .before .before .before .before .before .before .wanted-part) .ensures) (told ((c .before .before .before .before .before .before .all-finite) .ensures) (not-false _ ((c .before .before .before .before .before .if3) .left))) (told ((c .before .before .before .before .all-sound) .ensures) (not-false _ ((c .before .before .before .if4) .left))))
+returns-2 c = ((c .sound-ends) .ensures) ∙ ends-held _ _ _ _ _ _ _ _ (via enclosuresAnswer ((c .before .before .before .before .enclosures-of) .ensures) ((c .before .before .worked2) .given .1))
 
 pub energies-ends-of-spec : {M : Type 1} → statement M
-energies-ends-of-spec = tie.close (tie.spec right-lengths-requires returns state-within-requires returns-2 zeta-requires hard-sphere-requires enum-known-h enum-told returns-3 dispersion-requires enum-known-d enum-told-2 returns-4 wanted-part-requires all-finite-requires returns-5 all-sound-requires returns-6 ends-in-requires ends-in-requires-2 ends-in-requires-3 returns-7)
+energies-ends-of-spec =
+    tie.close
+    (tie.spec
+    enclosures-of-requires
+    enum-known-worked
+    enum-known-worked-2
+    sound-ends-requires
+    returns
+    returns-2)
