@@ -36,7 +36,8 @@ enum class refusal : std::uint8_t {
     mixed_orders = DOMTHELV_MIXED_ORDERS,
     domain = DOMTHELV_DOMAIN,
     not_finite = DOMTHELV_NOT_FINITE,
-    no_ends = DOMTHELV_NO_ENDS
+    no_ends = DOMTHELV_NO_ENDS,
+    layers = DOMTHELV_LAYERS
 };
 
 inline const char *text(refusal r) noexcept {
@@ -50,6 +51,7 @@ inline const char *text(refusal r) noexcept {
     case refusal::domain: return "an elementary function's argument is outside its domain";
     case refusal::not_finite: return "a result is not finite";
     case refusal::no_ends: return "two ends cannot be given";
+    case refusal::layers: return "a tank's layer count is outside";
     }
     return "a number that is no refusal";
 }
@@ -137,6 +139,12 @@ struct mie_components {
 struct state {
     double temperature;
     floats fractions, densities;
+};
+
+// Layers of a tank from the bottom up: a temperature and a volume (cubic angstrom) for each layer, a fraction and a density for each
+// component, layer by layer. There are as many layers as temperatures.
+struct tank {
+    floats temperatures, fractions, densities, volumes;
 };
 
 struct energies {
@@ -228,6 +236,24 @@ public:
     inline answer<domthelv::energies> energies(const state &s, const table &t, bool non_additive) const noexcept;
     inline answer<domthelv::total> total(const state &s, const table &t, bool non_additive) const noexcept;
     inline answer<domthelv::energies_ends> energies_ends(const state &s, const table &t, bool non_additive) const noexcept;
+
+    // A tank's energies, in kelvin, and their two ends.
+    answer<domthelv::energies> tank(const domthelv::tank &l, bool non_additive) const noexcept {
+        double out[DOMTHELV_ENERGIES] = {};
+        std::uint8_t r = domthelv_vrq_tank(count_, m_, DOMTHELV_M, sheets_, DOMTHELV_SHEETS, orders_, DOMTHELV_ORDERS, l.temperatures.size(),
+            l.temperatures.data(), l.temperatures.size(), l.fractions.data(), l.fractions.size(), l.densities.data(), l.densities.size(),
+            l.volumes.data(), l.volumes.size(), non_additive, out, DOMTHELV_ENERGIES);
+        return answer<domthelv::energies>(r, domthelv::energies{out[0], out[1], out[2]}, domthelv::energies{nothing, nothing, nothing});
+    }
+    answer<domthelv::energies_ends> tank_ends(const domthelv::tank &l, bool non_additive) const noexcept {
+        double out[DOMTHELV_ENERGIES_ENDS] = {};
+        std::uint8_t r = domthelv_vrq_tank_ends(count_, m_, DOMTHELV_M, sheets_, DOMTHELV_SHEETS, orders_, DOMTHELV_ORDERS, l.temperatures.size(),
+            l.temperatures.data(), l.temperatures.size(), l.fractions.data(), l.fractions.size(), l.densities.data(), l.densities.size(),
+            l.volumes.data(), l.volumes.size(), non_additive, out, DOMTHELV_ENERGIES_ENDS);
+        const ends none = {nothing, nothing};
+        return answer<domthelv::energies_ends>(r, domthelv::energies_ends{{out[0], out[1]}, {out[2], out[3]}, {out[4], out[5]}},
+            domthelv::energies_ends{none, none, none});
+    }
 
     // A pair's three searches.
     answer<searches> radii(std::size_t i, std::size_t j, double temperature) const noexcept {
@@ -450,7 +476,7 @@ inline answer<double> mie_stage(const mie_components &c, const state &s, bool ch
     return detail::one(r, out);
 }
 
-// ---- what later slips bring (cards, tanks, the desk, slopes) has its types here
+// ---- what later slips bring (cards, the desk, slopes) has its types here
 
 } // namespace domthelv
 

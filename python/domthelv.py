@@ -30,6 +30,7 @@ TEXTS = {
     6: "an elementary function's argument is outside its domain",
     7: "a result is not finite",
     8: "two ends cannot be given",
+    14: "a tank's layer count is outside",
 }
 
 
@@ -58,7 +59,7 @@ _TAKES = {
     "vrq_energies": "zFFBfFFFbF", "vrq_total": "zFFBfFFFbF", "vrq_energies_ends": "zFFBfFFFbF", "vrq_diameter": "zFFBzzfffo",
     "vrq_diameter_ends": "zFFBzzfffF", "vrq_stage": "zFFFFFFBFFfFFbF", "vr_parameters": "zFFFFFFFFF", "vr_diameters": "zFFfF",
     "vr_dispersion": "zFFfFFFbo", "vr_dispersion_ends": "zFFfFFFbF", "vr_radius": "zFFzzfo", "vr_diameter": "zFFzzffo",
-    "vr_diameter_ends": "zFFzzffF", "vr_stage": "zFFFFFFFfFFbo",
+    "vr_diameter_ends": "zFFzzffF", "vr_stage": "zFFFFFFFfFFbo", "vrq_tank": "zFFBzFFFFbF", "vrq_tank_ends": "zFFBzFFFFbF",
 }
 _D, _Z, _P = ctypes.c_double, ctypes.c_size_t, ctypes.POINTER
 _TYPES = {
@@ -247,6 +248,18 @@ class QuantumSet:
         e = self._of(6, "vrq_energies_ends", table, temperature, fractions, densities, non_additive)
         return Energies(*(Ends(*e[k:k + 2]) for k in (0, 2, 4)))
 
+    def _tank(self, n, name, temperatures, fractions, densities, volumes, non_additive):
+        t = _floats(temperatures)
+        return _some(n, name, *self._set(), len(t), t, _floats(fractions), _floats(densities), _floats(volumes), bool(non_additive))
+
+    def tank(self, temperatures, fractions, densities, volumes, non_additive=False):
+        """Energies of a tank in layers from the bottom up, in kelvin; fractions and densities layer by layer in one list."""
+        return Energies(*self._tank(3, "vrq_tank", temperatures, fractions, densities, volumes, non_additive))
+
+    def tank_ends(self, temperatures, fractions, densities, volumes, non_additive=False):
+        e = self._tank(6, "vrq_tank_ends", temperatures, fractions, densities, volumes, non_additive)
+        return Energies(*(Ends(*e[k:k + 2]) for k in (0, 2, 4)))
+
     def radii(self, i, j, temperature):
         out, counts = (_D * 6)(), (ctypes.c_uint8 * 3)()
         _call("vrq_radii", *self._set(), _whole(i), _whole(j), float(temperature), out, counts)
@@ -324,7 +337,7 @@ def mie_stage(temperature, fractions, densities, chain=False, **components):
     return _one("vr_stage", len(lists[0]), *lists, float(temperature), _floats(fractions), _floats(densities), bool(chain))
 
 
-# ---- what later slips bring (cards, tanks, the desk, slopes) has its place here
+# ---- what later slips bring (cards, the desk, slopes) has its place here
 
 if __name__ == "__main__":
     if len(sys.argv) != 4 or sys.argv[1] != "--build":
