@@ -376,7 +376,7 @@ class Cases:
     def derivatives(self):
         return Derivatives(self.c, Random(0x14)).run()
 
-    # ---- that nothing was left out: what the boundary, demand 3, the table, Slips 3 and 14 and the promises use was evaluated, but for statements about all values
+    # ---- that nothing was left out: what the boundary, demand 3, the table, Slips 3, 7 and 14 and the promises use was evaluated, but for statements about all values
     def believed(self):
         c = self.c
         files = [c.file(*f) for f in (("domthelv", "Operations"), ("domthelv", "Total"), ("domthelv", "Tank"), ("domthelv", "Sets"), ("demand_three", "Demand"), ("proved_table", "Table"), ("power_corners", "Corners"), ("pi_as_pi", "Statement"), ("chain_derivatives", "Chain"), ("elementary", "Promised"), ("elementary", "Port"))]

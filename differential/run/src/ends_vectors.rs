@@ -166,6 +166,6 @@ fn file(names: std::ops::Range<usize>, seed: u64, chain: &dyn Fn(&mut Random, us
 pub fn write(folder: &str) {
     num_dual::use_functions(&oracle::PORT);
     num_dual_ended::use_functions(&oracle::ENDED);
-    save(folder, "quantum_ends.bin", &file(0..3, 3, &|g, n, turn, odd| quantum(g, n, turn as u8 % 3, odd)));
+    save(folder, "quantum_ends.bin", &file(0..3, 1, &|g, n, turn, odd| quantum(g, n, turn as u8 % 3, odd)));
     save(folder, "mie_ends.bin", &file(3..7, 0x54, &|g, n, _, odd| mie(g, n, odd)));
 }
