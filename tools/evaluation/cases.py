@@ -374,7 +374,7 @@ class Cases:
 
     # ---- Slip 14: polynomials, quotients of them, and a component's slopes
     def derivatives(self):
-        return Derivatives(self.c, Random(0x14)).run()
+        return Derivatives(self.c, Random(0x14), choices(self.c)[2]).run()
 
     # ---- that nothing was left out: what the boundary, demand 3, the table, Slips 3, 7 and 14 and the promises use was evaluated, but for statements about all values
     def believed(self):

@@ -13,6 +13,7 @@ use Rattle.number.specs.Arith.{decimal}
 use Rattle.number.specs.Frac.{Frac, frac, Pos, mulF, divF}
 use Rattle.number.specs.Functions.{calls}
 use Rattle.number.proofs.Rel.{Both, both-held, both-refused, calls-rel}
+use Rattle.enclosure.specs.Constants.{Choice}
 use Rattle.enclosure.specs.Exact.{Exact, exacts, exactly, isZero, divX}
 use Rattle.dual.specs.Dual.{DualOf, plainD}
 use Rattle.saftvrmie_parameters.specs.declared.PairParameters.{PairParameters}
@@ -22,7 +23,7 @@ use Rattle.saftvrmie_dispersion.specs.Chain.{rhoDual, zetaDual, fluidDual}
 use Rattle.saftvrmie_dispersion.proofs.Relation.{Pairs, Fluids, kHs-rel, fluidOf-rel, ordersOf-rel}
 use Rattle.chain_derivatives.specs.Polynomial.{evaluated, negative, product, derivative}
 use Rattle.chain_derivatives.specs.Quotient.{fractions, Quotient, constantOf, constant, variable, mulQ, quotients, valueAt, derived}
-use Rattle.chain_derivatives.specs.Chain.{fluidQuotient, SlopeIsDerivative, DensityAt, ChainSlopes}
+use Rattle.chain_derivatives.specs.Chain.{OfFractions, fluidQuotient, SlopeIsDerivative, DensityAt, ChainSlopes}
 use Rattle.chain_derivatives.proofs.Rational.{Rational, of, wholeP, whole, _⊞_, _⊠_, ⊟_, rational, times-comm, plus-zero, minus-self, times-cancel, product-not-zero}
 use Rattle.chain_derivatives.proofs.Polynomial.{rationals, value, slope, sum-value, negative-value, product-value}
 use Rattle.chain_derivatives.proofs.Stands.{Stands, proper, itself, equals, one-number, stands-mul, stands-div, is-not-zero, not-zero, stand-evaluated, stand-sum, stand-negative, stand-product, stand-derivative}
@@ -101,11 +102,11 @@ pos-left d c h = go (eq-zero-or-pos d)
 ratio-proper : (g x : Frac) → Pos (mulF g x) → Pos g
 ratio-proper (frac p n d) (frac q m c) h = pos-left d c h
 
-module _ (ratio x : Frac) (zeta-x rho : Exact) (h : DensityAt ratio x zeta-x rho) where
+module _ (C : Choice) (ratio x : Frac) (zeta-x rho : Exact) (h : DensityAt ratio x zeta-x rho) where
   abbrev r : Rational
   r = of (proper x (h .proper))
 
-  pub rho-derives : Derives r (rhoDual exacts rho) variable
+  pub rho-derives : Derives r (rhoDual (exacts C) rho) variable
   unfolding rhoDual whole decimal
   rho-derives s t =
       record {
@@ -116,7 +117,7 @@ module _ (ratio x : Frac) (zeta-x rho : Exact) (h : DensityAt ratio x zeta-x rho
         derived = derived-variable r;
       }
 
-  pub ratio-derives : Derives r (plainD exacts (divX zeta-x rho)) (constantOf (some ratio))
+  pub ratio-derives : Derives r (plainD (exacts C) (divX zeta-x rho)) (constantOf (some ratio))
   unfolding plainD
   ratio-derives s t =
       let k = from-div zeta-x rho s in
@@ -137,16 +138,16 @@ module _ (ratio x : Frac) (zeta-x rho : Exact) (h : DensityAt ratio x zeta-x rho
         derived = derived-constant r g;
       }
 
-  pub zeta-derives : Derives r (zetaDual exacts zeta-x rho) (mulQ (constantOf (some ratio)) variable)
+  pub zeta-derives : Derives r (zetaDual (exacts C) zeta-x rho) (mulQ (constantOf (some ratio)) variable)
   unfolding zetaDual
-  zeta-derives = rw (h .not-zero) (derives-mul r _ _ _ _ ratio-derives rho-derives)
+  zeta-derives = rw (h .not-zero) (derives-mul C r _ _ _ _ ratio-derives rho-derives)
 
-  pub fluid-derives : Fluids (Derives r) (fluidDual exacts zeta-x rho) (fluidQuotient ratio)
+  pub fluid-derives : OfFractions C → Fluids (Derives r) (fluidDual (exacts C) zeta-x rho) (fluidQuotient C ratio)
   unfolding fluidDual fluidQuotient
-  fluid-derives =
-      subst (λ (w : FluidIn (DualOf Exact)). Fluids (Derives r) w (fluidOf quotients variable (mulQ (constantOf (some ratio)) variable) (kHs quotients (mulQ (constantOf (some ratio)) variable))))
-      (same-fluid exacts noResult (rhoDual exacts rho) (zetaDual exacts zeta-x rho))
-      (fluidOf-rel (guarded exacts noResult) quotients (derivatives r) rho-derives zeta-derives (kHs-rel (guarded exacts noResult) quotients (derivatives r) zeta-derives))
+  fluid-derives fine =
+      subst (λ (w : FluidIn (DualOf Exact)). Fluids (Derives r) w (fluidOf (quotients C) variable (mulQ (constantOf (some ratio)) variable) (kHs (quotients C) (mulQ (constantOf (some ratio)) variable))))
+      (same-fluid (exacts C) noResult (rhoDual (exacts C) rho) (zetaDual (exacts C) zeta-x rho))
+      (fluidOf-rel (guarded (exacts C) noResult) (quotients C) (derivatives C r fine) rho-derives zeta-derives (kHs-rel (guarded (exacts C) noResult) (quotients C) (derivatives C r fine) zeta-derives))
 
 -- ---- the theorem
 pair-known : (p : PairParameters) → Pairs Known (pairIn exactly p) (pairIn exactly p)
@@ -167,12 +168,12 @@ both-of {R = R} o (both-held {y = y} p) e = (y, refl, subst (λ x. R x y) (held-
 both-of o both-refused e = absurd (not-held e)
 
 pub chain-slopes : ChainSlopes
-chain-slopes E ratio p d x zeta-x rho o h e =
+chain-slopes C fine E ratio p d x zeta-x rho o h e =
     let r = of (proper x (h .proper)) in
-    let F = calls exacts E in
+    let F = calls (exacts C) E in
     let all =
-    ordersOf-rel exacts exacts known (guarded exacts noResult) quotients (derivatives r) (plainD exacts) constant (λ y u k. derives-plain r y u k) F F (calls-rel exacts exacts known E)
-    (fluid-derives ratio x zeta-x rho h) (pair-known p) (exactly-known d) in
-    let k = both-of o all (same-orders exacts noResult F (fluidDual exacts zeta-x rho) (pairIn exactly p) (exactly d) ∙ e) in
+    ordersOf-rel (exacts C) (exacts C) (known C fine) (guarded (exacts C) noResult) (quotients C) (derivatives C r fine) (plainD (exacts C)) constant (λ y u k. derives-plain C r y u k) F F (calls-rel (exacts C) (exacts C) (known C fine) E)
+    (fluid-derives C ratio x zeta-x rho h fine) (pair-known p) (exactly-known d) in
+    let k = both-of o all (same-orders (exacts C) noResult F (fluidDual (exacts C) zeta-x rho) (pairIn exactly p) (exactly d) ∙ e) in
     let at = itself x (h .proper) in
     (k .0, k .1, record { first = claim r x at _ _ (k .2 .a1); second = claim r x at _ _ (k .2 .a2) })

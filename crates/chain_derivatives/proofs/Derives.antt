@@ -14,13 +14,15 @@ use Rattle.number.specs.Arith.{zero64, one64}
 use Rattle.number.specs.Power.{digits, powDigits, powUp}
 use Rattle.number.proofs.Frac.{valF-pos}
 use Rattle.number.proofs.Rel.{Rel}
+use Rattle.enclosure.specs.Constants.{Choice}
 use Rattle.enclosure.specs.Exact.{Exact, exacts, exactly, isZero, addX, subX, mulX, divX, negX, powX, downX}
 use Rattle.dual.specs.Dual.{DualOf, plainD, addD, subD, negD, mulD, divD, powD, downD}
 use Rattle.chain_derivatives.specs.Quotient.{Quotient, constantOf, constant, quotients, addQ, subQ, negQ, mulQ, divQ, powQ, downQ}
+use Rattle.chain_derivatives.specs.Chain.{OfFractions}
 use Rattle.chain_derivatives.proofs.Rational.{Rational, Proper, Equal, of, of-equal, wholeP, minusP, whole, whole-plus, _⊞_, _⊠_, ⊟_, rational, product-not-zero}
 use Rattle.chain_derivatives.proofs.Stands.{Stands, proper, itself, stands-add, stands-mul, stands-neg, stands-whole, stands-div, not-zero, is-not-zero}
 use Rattle.chain_derivatives.proofs.Jet.{Derived, derived-as, derived-constant, derived-add, derived-sub, derived-neg, derived-mul, derived-div}
-use Rattle.chain_derivatives.proofs.Results.{Has, Some, Known, exactly-known, none-some, one-result, from-add, from-sub, from-mul, from-div, from-neg, has-add, has-sub, has-mul, has-div, has-neg}
+use Rattle.chain_derivatives.proofs.Results.{Has, Some, Known, exactly-known, chosen-known, none-some, one-result, from-add, from-sub, from-mul, from-div, from-neg, has-add, has-sub, has-mul, has-div, has-neg}
 use Rattle.chain_derivatives.proofs.Guarded.{noResult, nothing, powG, downG, guarded}
 
 -- a result, and the number it stands for
@@ -156,8 +158,10 @@ module _ (r : Rational) where
   abbrev pub Derives : DualOf Exact → Quotient → Type 0
   Derives t q = Some (t .re) → Some (t .eps) → Good t q
 
-  module _ (x y : DualOf Exact) (u v : Quotient) (h : Derives x u) (k : Derives y v) where
-    pub derives-add : Derives (addD exacts x y) (addQ u v)
+-- each operation, whatever fractions are chosen for the constants
+module _ (C : Choice) (r : Rational) where
+  module _ (x y : DualOf Exact) (u v : Quotient) (h : Derives r x u) (k : Derives r y v) where
+    pub derives-add : Derives r (addD (exacts C) x y) (addQ u v)
     unfolding addD
     derives-add s t =
         let s' = from-add _ _ s in
@@ -166,7 +170,7 @@ module _ (r : Rational) where
         let n = k (s' .1) (t' .1) in
         record { a = m .a ⊞ n .a; b = m .b ⊞ n .b; value = result-add (m .value) (n .value); slope = result-add (m .slope) (n .slope); derived = derived-add r (m .derived) (n .derived) }
 
-    pub derives-sub : Derives (subD exacts x y) (subQ u v)
+    pub derives-sub : Derives r (subD (exacts C) x y) (subQ u v)
     unfolding subD
     derives-sub s t =
         let s' = from-sub _ _ s in
@@ -175,7 +179,7 @@ module _ (r : Rational) where
         let n = k (s' .1) (t' .1) in
         record { a = m .a ⊞ ⊟ n .a; b = m .b ⊞ ⊟ n .b; value = result-sub (m .value) (n .value); slope = result-sub (m .slope) (n .slope); derived = derived-sub r (m .derived) (n .derived) }
 
-    pub derives-mul : Derives (mulD exacts x y) (mulQ u v)
+    pub derives-mul : Derives r (mulD (exacts C) x y) (mulQ u v)
     unfolding mulD
     derives-mul s t =
         let t' = from-add _ _ t in
@@ -191,7 +195,7 @@ module _ (r : Rational) where
           derived = derived-mul r (m .derived) (n .derived);
         }
 
-    pub derives-div : Derives (divD exacts x y) (divQ u v)
+    pub derives-div : Derives r (divD (exacts C) x y) (divQ u v)
     unfolding divD
     derives-div s t =
         let s' = from-div _ _ s in
@@ -206,14 +210,14 @@ module _ (r : Rational) where
         let e = result-div (result-sub (result-mul (m .slope) (n .value)) (result-mul (m .value) (n .slope))) (result-mul (n .value) (n .value)) (product-not-zero _ _ w w) in
         record { a = z .0; b = e .0; value = z .1; slope = e .1; derived = derived-div r (m .derived) (n .derived) w (z .2) (e .2) }
 
-  pub derives-neg : (x : DualOf Exact) (u : Quotient) → Derives x u → Derives (negD exacts x) (negQ u)
+  pub derives-neg : (x : DualOf Exact) (u : Quotient) → Derives r x u → Derives r (negD (exacts C) x) (negQ u)
   unfolding negD
   derives-neg x u h s t =
       let m = h (from-neg _ s) (from-neg _ t) in
       record { a = ⊟ m .a; b = ⊟ m .b; value = result-neg (m .value); slope = result-neg (m .slope); derived = derived-neg r (m .derived) }
 
   -- a plain number
-  pub derives-plain : (x u : Exact) → Known x u → Derives (plainD exacts x) (constant u)
+  pub derives-plain : (x u : Exact) → Known x u → Derives r (plainD (exacts C) x) (constant u)
   unfolding plainD constant
   derives-plain x u h (v, e) t =
       let it = itself v (h .proper v e) in
@@ -242,25 +246,25 @@ module _ (r : Rational) where
     unfolding powQ powUp powDigits digits
     derived-4 = derived-as r (derived-mul r one-is (derived-mul r (derived-mul r h h) (derived-mul r h h))) refl (slope-4 a b)
 
-  derives-2 : (x : DualOf Exact) (u : Quotient) → Derives x u → Derives (powD exacts x 2) (powQ u 2)
+  derives-2 : (x : DualOf Exact) (u : Quotient) → Derives r x u → Derives r (powD (exacts C) x 2) (powQ u 2)
   unfolding powD
   derives-2 x u h s t =
       let m = h (base-2 _ s) (from-mul _ _ t .1) in
       record { a = _; b = _; value = result-2 (m .value); slope = result-mul (result-mul result-two (result-1 (m .value))) (m .slope); derived = derived-2 (m .derived) }
 
-  derives-3 : (x : DualOf Exact) (u : Quotient) → Derives x u → Derives (powD exacts x 3) (powQ u 3)
+  derives-3 : (x : DualOf Exact) (u : Quotient) → Derives r x u → Derives r (powD (exacts C) x 3) (powQ u 3)
   unfolding powD
   derives-3 x u h s t =
       let m = h (base-3 _ s) (from-mul _ _ t .1) in
       record { a = _; b = _; value = result-3 (m .value); slope = result-mul (result-mul result-three (result-2 (m .value))) (m .slope); derived = derived-3 (m .derived) }
 
-  derives-4 : (x : DualOf Exact) (u : Quotient) → Derives x u → Derives (powD exacts x 4) (powQ u 4)
+  derives-4 : (x : DualOf Exact) (u : Quotient) → Derives r x u → Derives r (powD (exacts C) x 4) (powQ u 4)
   unfolding powD
   derives-4 x u h s t =
       let m = h (base-4 _ s) (from-mul _ _ t .1) in
       record { a = _; b = _; value = result-4 (m .value); slope = result-mul (result-mul result-four (result-3 (m .value))) (m .slope); derived = derived-4 (m .derived) }
 
-  derives-down : (x : DualOf Exact) (u : Quotient) → Derives x u → Derives (downD exacts x 3) (downQ u 3)
+  derives-down : (x : DualOf Exact) (u : Quotient) → Derives r x u → Derives r (downD (exacts C) x 3) (downQ u 3)
   unfolding downD downX downQ
   derives-down x u h s t =
       let s' = from-div _ _ s .1 in
@@ -280,10 +284,10 @@ module _ (r : Rational) where
         derived = derived-div r one-is (derived-3 (m .derived)) n (z .2) (slope-down (whole 3) (i .0) (m .a) (m .b) (i .2));
       }
 
-  nothing-derives : (u : Quotient) → Derives (nothing exacts noResult) u
+  nothing-derives : (u : Quotient) → Derives r (nothing (exacts C) noResult) u
   nothing-derives u (v, e) t = absurd (none-some e)
 
-  pub derives-pow : (n : ℕ) (x : DualOf Exact) (u : Quotient) → Derives x u → Derives (powG exacts noResult x n) (powQ u n)
+  pub derives-pow : (n : ℕ) (x : DualOf Exact) (u : Quotient) → Derives r x u → Derives r (powG (exacts C) noResult x n) (powQ u n)
   derives-pow zero x u h = nothing-derives _
   derives-pow (suc zero) x u h = nothing-derives _
   derives-pow (suc (suc zero)) x u h = derives-2 x u h
@@ -291,17 +295,17 @@ module _ (r : Rational) where
   derives-pow (suc (suc (suc (suc zero)))) x u h = derives-4 x u h
   derives-pow (suc (suc (suc (suc (suc n))))) x u h = nothing-derives _
 
-  pub derives-downs : (n : ℕ) (x : DualOf Exact) (u : Quotient) → Derives x u → Derives (downG exacts noResult x n) (downQ u n)
+  pub derives-downs : (n : ℕ) (x : DualOf Exact) (u : Quotient) → Derives r x u → Derives r (downG (exacts C) noResult x n) (downQ u n)
   derives-downs zero x u h = nothing-derives _
   derives-downs (suc zero) x u h = nothing-derives _
   derives-downs (suc (suc zero)) x u h = nothing-derives _
   derives-downs (suc (suc (suc zero))) x u h = derives-down x u h
   derives-downs (suc (suc (suc (suc n)))) x u h = nothing-derives _
 
-  abbrev pub derivatives : Rel (guarded exacts noResult) quotients
-  derivatives =
+  abbrev pub derivatives : OfFractions C → Rel (guarded (exacts C) noResult) (quotients C)
+  derivatives fine =
       record {
-        R = Derives;
+        R = Derives r;
         r-add = λ p q. derives-add _ _ _ _ p q;
         r-sub = λ p q. derives-sub _ _ _ _ p q;
         r-mul = λ p q. derives-mul _ _ _ _ p q;
@@ -310,6 +314,7 @@ module _ (r : Rational) where
         r-pow = λ n p. derives-pow n _ _ p;
         r-down = λ n p. derives-downs n _ _ p;
         r-lit = λ f. derives-plain _ _ (exactly-known f);
+        r-constant = λ c. derives-plain _ _ (chosen-known C fine c);
         r-val = λ p. refl;
         r-after = λ p q. q;
       }

@@ -7,12 +7,14 @@ use lib.Ieee as Ieee
 use lib.Ieee.{Float}
 use lib.ListN.{replicate}
 use Rattle.number.specs.Ans.{held, _>>=_}
-use Rattle.number.specs.Arith.{decimal}
+use Rattle.number.specs.Arith.{decimal, nearest}
+use Rattle.number.specs.Frac.{valF}
 use Rattle.number.specs.Functions.{Answers, answered, answered₂}
 use Rattle.number.specs.Power.{digits, powDigits, powUp}
 use Rattle.number.specs.Walk.{turns, walk}
 use Rattle.sizes.specs.Sizes.{side, sheet}
-use Rattle.enclosure.specs.Exact.{exactly, addX, subX, mulX, divX, negX, afterX, powX, downX}
+use Rattle.number.proofs.Frac.{valF-pos}
+use Rattle.enclosure.specs.Exact.{exactly, chosen, addX, subX, mulX, divX, negX, afterX, powX, downX}
 use Rattle.dual.specs.Dual.{plainD, addD, subD, negD, mulD, divD, powD, downD}
 use Rattle.mie_parameters.specs.Places.{inPlaces}
 use Rattle.mie_parameters.specs.Sums.{weighted, ordersSum, fFrom}
@@ -48,11 +50,13 @@ fluid =
 abbrev alone : List Float
 alone = one ∷ []
 
--- at temperature 1, alone, with density and diameter 1
+-- at temperature 1, alone, with density and diameter 1; the constants are the Rust's floats
 pub example : Example
-unfolding energyRun dispersionChain properties total weighted turns xsOf inPlaces dIj d3Ij s3Ij zetaSum zetaRow zetaTurn afterLower kOf chainRows chainRow pairRow walk chainPure addPure addLink linkOf gHs gammaOf lnGMie g1Of g2Of linkPref a3Of f fFrom xiOf barOf ordersSum termOrdersOf five a1sB _>>=_ answered answered₂ x0Of kHs fluidOf cRow zetaEff a1s iOf jOf bOf a1sBOf prefOf a1Of a2Of rhoDual zetaDual fluidDual plainD addD subD negD mulD divD powD downD exactly addX subX mulX divX negX afterX powX downX digits powDigits powUp decimal Ieee.ofInt Ieee.neg Ieee.ofBits Ieee.eq Ieee.add Ieee.mul
+unfolding energyRun dispersionChain properties total weighted turns xsOf inPlaces dIj d3Ij s3Ij zetaSum zetaRow zetaTurn afterLower kOf chainRows chainRow pairRow walk chainPure addPure addLink linkOf gHs gammaOf lnGMie g1Of g2Of linkPref a3Of f fFrom xiOf barOf ordersSum termOrdersOf five a1sB _>>=_ answered answered₂ x0Of kHs fluidOf cRow zetaEff a1s iOf jOf bOf a1sBOf prefOf a1Of a2Of rhoDual zetaDual fluidDual plainD addD subD negD mulD divD powD downD exactly chosen addX subX mulX divX negX afterX powX downX digits powDigits powUp decimal Ieee.ofInt Ieee.neg Ieee.ofBits Ieee.eq Ieee.add Ieee.mul
 example =
     record {
+      C = λ c. valF (nearest c);
+      of-fractions = λ c. valF-pos (nearest c);
       E = ones;
       s = fluid;
       t = one;

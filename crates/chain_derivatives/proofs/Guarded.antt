@@ -45,6 +45,7 @@ module _ (A : Arith) (ended : A .Num) where
         pow = powG;
         powDown = downG;
         lit = duals A .lit;
+        constant = duals A .constant;
         val = λ x. zero64;
         after = λ u x. x;
       }

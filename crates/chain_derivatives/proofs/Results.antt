@@ -7,10 +7,12 @@ use lib.Dec.{T}
 use lib.Ieee.{Float}
 use lib.Ieee.Scale.{finite}
 use Rattle.number.specs.Frac.{Frac, Pos, addF, subF, negF, mulF, divF, valF}
-use Rattle.number.specs.Arith.{one64}
+use Rattle.number.specs.Arith.{Constant, one64}
 use Rattle.number.proofs.Frac.{addF-pos, mulF-pos, negF-pos, valF-pos}
 use Rattle.number.proofs.Rel.{Rel, powUp-rel}
-use Rattle.enclosure.specs.Exact.{Exact, exacts, exactly, both, alone, isZero, quotientX, addX, subX, mulX, divX, negX, afterX, powX, downX}
+use Rattle.enclosure.specs.Constants.{Choice}
+use Rattle.enclosure.specs.Exact.{Exact, exacts, exactly, chosen, both, alone, isZero, quotientX, addX, subX, mulX, divX, negX, afterX, powX, downX}
+use Rattle.chain_derivatives.specs.Chain.{OfFractions}
 use Rattle.chain_derivatives.proofs.Stands.{itself, stands-div}
 
 abbrev pub Has : Exact → Frac → Type 0
@@ -118,6 +120,10 @@ pub exactly-known : (f : Float) → Known (exactly f) (exactly f)
 unfolding exactly
 exactly-known f = record { same = refl; proper = λ v e. subst Pos (finite-value (finite f) (valF f) v e) (valF-pos f) }
 
+pub chosen-known : (C : Choice) → OfFractions C → (c : Constant) → Known (chosen C c) (chosen C c)
+unfolding chosen
+chosen-known C fine c = record { same = refl; proper = λ v e. subst Pos (some-same e) (fine c) }
+
 module _ (x y u v : Exact) (h : Known x u) (k : Known y v) where
   pub known-add : Known (addX x y) (addX u v)
   known-add = record {
@@ -176,8 +182,8 @@ pub known-down : (n : ℕ) (x u : Exact) → Known x u → Known (downX x n) (do
 unfolding downX
 known-down n x u h = known-div _ _ _ _ (exactly-known one64) (known-pow n x u h)
 
-abbrev pub known : Rel exacts exacts
-known =
+abbrev pub known : (C : Choice) → OfFractions C → Rel (exacts C) (exacts C)
+known C fine =
     record {
       R = Known;
       r-add = λ p q. known-add _ _ _ _ p q;
@@ -188,6 +194,7 @@ known =
       r-pow = λ n p. known-pow n _ _ p;
       r-down = λ n p. known-down n _ _ p;
       r-lit = exactly-known;
+      r-constant = chosen-known C fine;
       r-val = λ p. ap (λ (x : Exact). x .value) (p .same);
       r-after = λ p q. known-after _ _ _ _ p q;
     }

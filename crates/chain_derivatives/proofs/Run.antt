@@ -16,6 +16,7 @@ use Rattle.number.specs.Functions.{Answers, Functions, calls}
 use Rattle.number.specs.Lists.{at}
 use Rattle.number.specs.Walk.{walk}
 use Rattle.number.proofs.Rel.{calls-rel}
+use Rattle.enclosure.specs.Constants.{Choice}
 use Rattle.enclosure.specs.Exact.{Exact, exacts, exactly, isZero, divX}
 use Rattle.dual.specs.Dual.{DualOf, duals, plainD, mulD, subD, divD, powD}
 use Rattle.saftvrmie_parameters.specs.declared.SaftVRMiePars.{SaftVRMiePars}
@@ -28,7 +29,7 @@ use Rattle.saftvrmie_energies.specs.Dispersion.{StateIn, propertiesAt, pairTurn
 use Rattle.saftvrmie_energies.specs.Energies.{stateIn, energyRun}
 use Rattle.saftvrmie_energies.proofs.Relation.{weighted-rel, xsOf-rel, properties-rel, state-rel}
 use Rattle.chain_derivatives.specs.Quotient.{Quotient, Equals}
-use Rattle.chain_derivatives.specs.Chain.{SlopeIsDerivative, DensityAt, component, propertiesOf, HasDerivative, OwnRun}
+use Rattle.chain_derivatives.specs.Chain.{OfFractions, SlopeIsDerivative, DensityAt, component, propertiesOf, HasDerivative, OwnRun}
 use Rattle.chain_derivatives.proofs.Stands.{Stands, itself, equals, stands-mul, stands-div}
 use Rattle.chain_derivatives.proofs.Results.{Has, Some, Proper, known, one-result, from-add, from-sub, from-mul, from-div, has-div}
 use Rattle.chain_derivatives.proofs.Derives.{base-4}
@@ -72,9 +73,9 @@ pub record AllSome (s : SumsIn Exact) : Type 0 where
   pub a3 : Some (s .a3)
   pub a-chain : Some (s .a-chain)
 
-from-pair : (xi xj : Exact) (t : TermsIn Exact) (s : SumsIn Exact) → AllSome (addPair exacts xi xj t s) → AllSome s
+from-pair : (C : Choice) (xi xj : Exact) (t : TermsIn Exact) (s : SumsIn Exact) → AllSome (addPair (exacts C) xi xj t s) → AllSome s
 unfolding addPair
-from-pair xi xj t s h = record { a1 = from-add _ _ (h .a1) .0; a2 = from-add _ _ (h .a2) .0; a3 = from-add _ _ (h .a3) .0; a-chain = h .a-chain }
+from-pair C xi xj t s h = record { a1 = from-add _ _ (h .a1) .0; a2 = from-add _ _ (h .a2) .0; a3 = from-add _ _ (h .a3) .0; a-chain = h .a-chain }
 
 -- both orders with their slopes
 pub record OrdersSome (o : OrdersIn (DualOf Exact)) : Type 0 where
@@ -83,17 +84,17 @@ pub record OrdersSome (o : OrdersIn (DualOf Exact)) : Type 0 where
   pub a2 : Some (o .a2 .re)
   pub a2' : Some (o .a2 .eps)
 
-from-g1 : (o : OrdersIn (DualOf Exact)) (p : PairIn Exact) (x : Exact) → Some (g1Of exacts o p x) → Some (o .a1 .eps)
+from-g1 : (C : Choice) (o : OrdersIn (DualOf Exact)) (p : PairIn Exact) (x : Exact) → Some (g1Of (exacts C) o p x) → Some (o .a1 .eps)
 unfolding g1Of
-from-g1 o p x h = from-mul _ _ (from-div _ _ (from-sub _ _ h .0) .0) .0
+from-g1 C o p x h = from-mul _ _ (from-div _ _ (from-sub _ _ h .0) .0) .0
 
-from-g2 : (o : OrdersIn (DualOf Exact)) (p : PairIn Exact) (x k : Exact) → Some (g2Of exacts o p x k) → Some (o .a2 .eps)
+from-g2 : (C : Choice) (o : OrdersIn (DualOf Exact)) (p : PairIn Exact) (x k : Exact) → Some (g2Of (exacts C) o p x k) → Some (o .a2 .eps)
 unfolding g2Of
-from-g2 o p x k h = from-mul _ _ (from-div _ _ (from-div _ _ (from-sub _ _ h .0) .0) .0) .0
+from-g2 C o p x k h = from-mul _ _ (from-div _ _ (from-div _ _ (from-sub _ _ h .0) .0) .0) .0
 
-module _ (F : Functions Exact) where
+module _ (C : Choice) (F : Functions Exact) where
   from-link : (k : KIn Exact) (z : Exact) (o : OrdersIn (DualOf Exact)) (h : Exact) (p : PairIn Exact) (d : Exact) (l : LinkIn Exact) (y : Exact)
-      → linkOf exacts F k z o h p d l ≡ held y → Some y → Some (o .a1 .eps) × Some (o .a2 .eps)
+      → linkOf (exacts C) F k z o h p d l ≡ held y → Some y → Some (o .a1 .eps) × Some (o .a2 .eps)
   unfolding linkOf lnGMie
   from-link k z o h p d l y e s =
       let g = before _ _ y e in
@@ -102,11 +103,11 @@ module _ (F : Functions Exact) where
       let m = before _ _ (n .0) (n .1) in
       let ln-g = from-mul _ _ (subst Some (sym (held-same (n .2))) s) .1 in
       let both = from-add _ _ (from-div _ _ (from-add _ _ (subst Some (sym (held-same (m .2))) ln-g) .1) .0) in
-      (from-g1 o p _ (from-mul _ _ (both .0) .1), from-g2 o p _ h (from-mul _ _ (from-mul _ _ (both .1) .1) .0))
+      (from-g1 C o p _ (from-mul _ _ (both .0) .1), from-g2 C o p _ h (from-mul _ _ (from-mul _ _ (both .1) .1) .0))
 
   from-chain : (w : FluidIn (DualOf Exact)) (b : BarIn Exact) (k : KIn Exact) (p : PairIn Exact) (d : Exact) (l : LinkIn Exact) (x : Exact) (s t : SumsIn Exact)
-      → chainPure exacts F w b k p d l x s ≡ held t → AllSome t
-      → AllSome s × ((o : OrdersIn (DualOf Exact)) × (termOrdersOf exacts (duals exacts) (plainD exacts) F w p d ≡ held o) × OrdersSome o)
+      → chainPure (exacts C) F w b k p d l x s ≡ held t → AllSome t
+      → AllSome s × ((o : OrdersIn (DualOf Exact)) × (termOrdersOf (exacts C) (duals (exacts C)) (plainD (exacts C)) F w p d ≡ held o) × OrdersSome o)
   unfolding chainPure addPure addLink
   from-chain w b k p d l x s t e h =
       let o = before _ _ t e in
@@ -125,21 +126,21 @@ module _ (F : Functions Exact) where
   module _ (n : ℕ) (xs d : ℕ → Exact) (pair : ℕ → ℕ → PairIn Exact) (w : FluidIn Exact) (bar : BarIn Exact) (pure : ℕ → PairIn Exact) (v : FluidIn (DualOf Exact)) (k : KIn Exact) (link : ℕ → LinkIn Exact) where
     -- what is shown of component i
     abbrev Shown : ℕ → Type 0
-    Shown i = (o : OrdersIn (DualOf Exact)) × (termOrdersOf exacts (duals exacts) (plainD exacts) F v (pure i) (d i) ≡ held o) × OrdersSome o
+    Shown i = (o : OrdersIn (DualOf Exact)) × (termOrdersOf (exacts C) (duals (exacts C)) (plainD (exacts C)) F v (pure i) (d i) ≡ held o) × OrdersSome o
 
-    from-row : (i : ℕ) (s t : SumsIn Exact) → pairRow exacts F n xs d pair w bar i s ≡ held t → AllSome t → AllSome s
+    from-row : (i : ℕ) (s t : SumsIn Exact) → pairRow (exacts C) F n xs d pair w bar i s ≡ held t → AllSome t → AllSome s
     unfolding pairRow pairTurn
-    from-row i s t e h = walked AllSome (λ _. Unit {0}) (λ j. pairTurn exacts F xs d pair w bar i (i + 1 + j)) (λ j y z q g. let m = before _ _ z q in (from-pair _ _ (m .0) y (subst AllSome (sym (held-same (m .2))) g), tt)) (n - (i + 1)) s t e h .0
+    from-row i s t e h = walked AllSome (λ _. Unit {0}) (λ j. pairTurn (exacts C) F xs d pair w bar i (i + 1 + j)) (λ j y z q g. let m = before _ _ z q in (from-pair C _ _ (m .0) y (subst AllSome (sym (held-same (m .2))) g), tt)) (n - (i + 1)) s t e h .0
 
-    from-rows : (a : SumsIn Exact) → chainRows exacts F n xs d pair w bar pure v k link ≡ held a → AllSome a → (i : ℕ) → i < n → Shown i
+    from-rows : (a : SumsIn Exact) → chainRows (exacts C) F n xs d pair w bar pure v k link ≡ held a → AllSome a → (i : ℕ) → i < n → Shown i
     unfolding chainRows chainRow
     from-rows a e h =
-        walked AllSome Shown (λ i. chainRow exacts F n xs d pair w bar v k (pure i) (link i) i)
+        walked AllSome Shown (λ i. chainRow (exacts C) F n xs d pair w bar v k (pure i) (link i) i)
         (λ i s t q g. let m = before _ _ t q in from-chain v bar k (pure i) (d i) (link i) (xs i) s (m .0) (m .1) (from-row i (m .0) t (m .2) g)) n _ a e h .1
 
   module _ (n : ℕ) (s : StateIn Exact) where
-    from-energy : (q : PropertiesIn Exact) (e : Exact) → propertiesAt exacts F n s ≡ held q → dispersionChain exacts F n s ≡ held e → Some e
-        → (i : ℕ) → i < n → (o : OrdersIn (DualOf Exact)) × (termOrdersOf exacts (duals exacts) (plainD exacts) F (fluidDual exacts (q .zeta-x) (q .segment-density)) (s .pure i) (s .diameter i) ≡ held o) × OrdersSome o
+    from-energy : (q : PropertiesIn Exact) (e : Exact) → propertiesAt (exacts C) F n s ≡ held q → dispersionChain (exacts C) F n s ≡ held e → Some e
+        → (i : ℕ) → i < n → (o : OrdersIn (DualOf Exact)) × (termOrdersOf (exacts C) (duals (exacts C)) (plainD (exacts C)) F (fluidDual (exacts C) (q .zeta-x) (q .segment-density)) (s .pure i) (s .diameter i) ≡ held o) × OrdersSome o
     unfolding dispersionChain ordersSum
     from-energy q e p r h =
         let m = before _ _ e r in
@@ -148,17 +149,17 @@ module _ (F : Functions Exact) where
         let sum = from-add _ _ (from-mul _ _ (all .0) .1) in
         let two = from-add _ _ (sum .0) in
         let some-sums : AllSome (a .0) = record { a1 = from-mul _ _ (two .0) .0; a2 = from-mul _ _ (two .1) .0; a3 = from-mul _ _ (sum .1) .0; a-chain = all .1 } in
-        subst (λ (y : PropertiesIn Exact). (i : ℕ) → i < n → (o : OrdersIn (DualOf Exact)) × (termOrdersOf exacts (duals exacts) (plainD exacts) F (fluidDual exacts (y .zeta-x) (y .segment-density)) (s .pure i) (s .diameter i) ≡ held o) × OrdersSome o)
+        subst (λ (y : PropertiesIn Exact). (i : ℕ) → i < n → (o : OrdersIn (DualOf Exact)) × (termOrdersOf (exacts C) (duals (exacts C)) (plainD (exacts C)) F (fluidDual (exacts C) (y .zeta-x) (y .segment-density)) (s .pure i) (s .diameter i) ≡ held o) × OrdersSome o)
         (held-same (sym (m .1) ∙ p))
         (from-rows n _ _ _ _ _ _ _ _ _ (a .0) (a .1) some-sums)
 
-  from-packing : (z r : Exact) → eq (r .value) (decimal false 0 0) ≡ false → Some (zetaDual exacts z r .re) → Some (divX z r) × Some r
+  from-packing : (z r : Exact) → eq (r .value) (decimal false 0 0) ≡ false → Some (zetaDual (exacts C) z r .re) → Some (divX z r) × Some r
   unfolding zetaDual rhoDual mulD plainD
   from-packing z r n h = from-mul _ _ (rw n at h)
 
   -- the second order has k_hs as a factor, and so the packing fraction
   from-second : (z r : Exact) (p : PairIn Exact) (d : Exact) (o : OrdersIn (DualOf Exact)) → eq (r .value) (decimal false 0 0) ≡ false
-      → termOrdersOf exacts (duals exacts) (plainD exacts) F (fluidDual exacts z r) p d ≡ held o → Some (o .a2 .re) → Some (divX z r) × Some r
+      → termOrdersOf (exacts C) (duals (exacts C)) (plainD (exacts C)) F (fluidDual (exacts C) z r) p d ≡ held o → Some (o .a2 .re) → Some (divX z r) × Some r
   unfolding termOrdersOf a2Of fluidDual fluidOf kHs mulD divD subD powD plainD
   from-second z r p d o n e h =
       let m = before _ _ o e in
@@ -166,18 +167,18 @@ module _ (F : Functions Exact) where
       from-packing z r n (from-sub _ _ (base-4 _ (from-div _ _ k .0)) .0)
 
 -- ---- the chain's own run
-module _ (E : Answers) (s : SaftVRMiePars) (t : Float) (x rho d : List Float) where
+module _ (C : Choice) (fine : OfFractions C) (E : Answers) (s : SaftVRMiePars) (t : Float) (x rho d : List Float) where
   abbrev F : Functions Exact
-  F = calls exacts E
+  F = calls (exacts C) E
 
   -- density and packing fraction are over positive whole numbers, as every number of the exact run
-  properties-proper : (w : PropertiesIn Exact) → propertiesOf E s t x rho d ≡ held w → Proper (w .segment-density) × Proper (w .zeta-x)
+  properties-proper : (w : PropertiesIn Exact) → propertiesOf C E s t x rho d ≡ held w → Proper (w .segment-density) × Proper (w .zeta-x)
   properties-proper w e =
-      let H = calls-rel exacts exacts known E in
-      let h = state-rel exacts exacts known F F H s t x rho d in
-      let mean = weighted-rel exacts exacts known (s .count) _ _ _ _ (h .fraction) (h .m) in
-      let xs = xsOf-rel exacts exacts known (s .count) _ _ _ _ _ _ (h .fraction) (h .m) mean in
-      let b = both-of w (properties-rel exacts exacts known F F H (s .count) _ _ _ _ _ _ _ _ _ _ xs (h .density) (h .diameter) (h .m) (h .pair)) e in
+      let H = calls-rel (exacts C) (exacts C) (known C fine) E in
+      let h = state-rel (exacts C) (exacts C) (known C fine) F F H s t x rho d in
+      let mean = weighted-rel (exacts C) (exacts C) (known C fine) (s .count) _ _ _ _ (h .fraction) (h .m) in
+      let xs = xsOf-rel (exacts C) (exacts C) (known C fine) (s .count) _ _ _ _ _ _ (h .fraction) (h .m) mean in
+      let b = both-of w (properties-rel (exacts C) (exacts C) (known C fine) F F H (s .count) _ _ _ _ _ _ _ _ _ _ xs (h .density) (h .diameter) (h .m) (h .pair)) e in
       (b .2 .segment-density .proper, b .2 .zeta-x .proper)
 
   -- with the exact run's own ratio: zeta_x is the ratio times the density
@@ -197,11 +198,11 @@ module _ (E : Answers) (s : SaftVRMiePars) (t : Float) (x rho d : List Float) wh
 
 pub own-run : OwnRun
 unfolding energyRun
-own-run E s t x rho d w e f p n r h i l =
-    let k = from-energy (calls exacts E) (s .count) (stateIn exactly s t x rho d) w e p r (f, h) i l in
-    let m = from-second (calls exacts E) (w .zeta-x) (w .segment-density) _ _ (k .0) n (k .1) (k .2 .a2) in
-    let g = properties-proper E s t x rho d w p in
-    let c = chain-slopes E (m .0 .0) (component s i) (at d i) (m .1 .0) (w .zeta-x) (w .segment-density) (k .0) (at-density E s t x rho d w (m .0 .0) (m .1 .0) (g .0) (g .1) n (m .1 .1) (m .0 .1)) (k .1) in
+own-run C fine E s t x rho d w e f p n r h i l =
+    let k = from-energy C (calls (exacts C) E) (s .count) (stateIn exactly s t x rho d) w e p r (f, h) i l in
+    let m = from-second C (calls (exacts C) E) (w .zeta-x) (w .segment-density) _ _ (k .0) n (k .1) (k .2 .a2) in
+    let g = properties-proper C fine E s t x rho d w p in
+    let c = chain-slopes C fine E (m .0 .0) (component s i) (at d i) (m .1 .0) (w .zeta-x) (w .segment-density) (k .0) (at-density C fine E s t x rho d w (m .0 .0) (m .1 .0) (g .0) (g .1) n (m .1 .1) (m .0 .1)) (k .1) in
     record {
       density = m .1 .0;
       ratio = m .0 .0;

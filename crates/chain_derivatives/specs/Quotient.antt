@@ -6,7 +6,8 @@ use mathlib.Core.Option.{Option, some, none}
 use Rattle.number.specs.Frac.{Frac, frac, Pos, negF, addF, mulF, divF}
 use Rattle.number.specs.Power.{powUp}
 use Rattle.number.specs.Arith.{Arith, zero64}
-use Rattle.enclosure.specs.Exact.{Exact, exactly}
+use Rattle.enclosure.specs.Constants.{Choice}
+use Rattle.enclosure.specs.Exact.{Exact, exactly, chosen}
 use Rattle.chain_derivatives.specs.Polynomial.{Coefficients, evaluated, sum, negative, product, derivative}
 
 -- fractions as coefficients
@@ -61,9 +62,9 @@ powQ x n = powUp mulQ (constantOf (some one)) x n
 unfoldable pub downQ : Quotient → ℕ → Quotient
 downQ x n = divQ (constantOf (some one)) (powQ x n)
 
--- A constant of the source is the fraction it stands for. The terms of a component take no branch and make no call on a number that hangs on the density, so that nothing looks at `val`, and work no number that they leave unused.
-abbrev pub quotients : Arith
-quotients =
+-- A number of the source is the fraction it stands for, one of the Rust's constants the fraction chosen for it. The terms of a component take no branch and make no call on a number that hangs on the density, so that nothing looks at `val`, and work no number that they leave unused.
+abbrev pub quotients : Choice → Arith
+quotients C =
     record {
       Num = Quotient;
       add = addQ;
@@ -74,6 +75,7 @@ quotients =
       pow = powQ;
       powDown = downQ;
       lit = λ f. constant (exactly f);
+      constant = λ c. constant (chosen C c);
       val = λ x. zero64;
       after = λ u x. x;
     }
