@@ -1,17 +1,17 @@
 -- What Slip 12 promises of a desk, whatever bits its lists had when it was begun or lent. Assumes nothing.
-use Prim.Native.Nat.{_*_, _≤_}
+use Prim.Native.Nat.{ℕ, _*_, _≤_, _<_}
 use mathlib.Core.Path.{_≡_}
-use mathlib.Core.Bool.{true}
+use mathlib.Core.Bool.{true, false}
 use mathlib.Core.List.{List}
 use mathlib.Core.Option.{some}
 use lib.ListN.{length}
 use Rattle.number.specs.Ans.{held, demand}
 use Rattle.number.proofs.Walk.{then-held}
 use Rattle.round_robin.specs.Desk.{places, Entered, Call, serves, outcome, submit}
-use Rattle.round_robin.proofs.Bound.{Ends, finished-within, Accepted, accepted}
+use Rattle.round_robin.proofs.Bound.{Ends, finished-within, accepted}
 use Rattle.desk_place.specs.Layout.{Lists}
 use Rattle.desk_place.specs.Place.{Query}
-use Rattle.desk.specs.Desk.{rightDesk, shelf, quantum, directly, submitted}
+use Rattle.desk.specs.Desk.{rightDesk, occupiedIn, shelf, quantum, directly, submitted}
 use Rattle.desk.proofs.Shelf.{Right, desk-right, apart}
 use Rattle.desk.proofs.Held.{demanded, door-passed, door-held, Holds, unit-goes, unit-whole}
 use Rattle.desk.proofs.Entering.{enter-whole, enter-holds}
@@ -44,5 +44,9 @@ pub finished-in-time : (l : Lists) (q : Query) (e : Entered Lists) (cs : List (C
 finished-in-time l q e cs h n = let f = entered l q e h in finished-within shelf quantum apart promised l q e cs (f .0) (f .1) n
 
 -- 'An accepted query takes the lowest free place': that place was free, and each below it occupied
-pub takes-lowest : (l : Lists) (q : Query) (e : Entered Lists) → submitted l q ≡ held e → Accepted shelf quantum apart promised l q e
-takes-lowest l q e h = let f = entered l q e h in accepted shelf quantum apart promised l q e (f .1)
+pub takes-lowest : (l : Lists) (q : Query) (e : Entered Lists) → submitted l q ≡ held e
+    → (e .place < places) × (occupiedIn (l .bytes) (e .place) ≡ false) × ((j : ℕ) → j < e .place → occupiedIn (l .bytes) j ≡ true)
+takes-lowest l q e h =
+    let f = entered l q e h in
+    let a = accepted shelf quantum apart promised l q e (f .1) in
+    (a .small, a .was-free, a .below)

@@ -1,4 +1,4 @@
--- Slip 12, 'One desk for all pages': how the desk lies in two lists, and the three calls over any two lists.
+-- Slip 12's desk: how the desk lies in two lists, and the three calls over any two lists.
 use Prim.Native.Nat.{ℕ, _+_, _*_}
 use lib.Dec.{eqb}
 use lib.Ieee.{Float}
