@@ -11,7 +11,7 @@ from . import chains, promises, specs
 from .derivatives import Derivatives
 from .library import same
 from .scopes import Definition
-from .sizes import SIDE
+from .sizes import SHEET, SHEETS, SIDE
 from .terms import spell
 
 F64 = ("binary64",)
@@ -377,6 +377,40 @@ class Cases:
         return Derivatives(self.c, Random(0x14), choices(self.c)[2]).run()
 
     # ---- that nothing was left out: what the boundary, demand 3, the table, Slips 3, 7 and 14 and the promises use was evaluated, but for statements about all values
+    # ---- the desk: queries of one and two components among each other, what each call tells, and the door, beside the direct calls' definitions
+    def desk(self):
+        c = self.c
+        begun, submitted, served, directly = (c.get("desk", "Desk", name) for name in ("begun", "submitted", "servedOnce", "directly"))
+        long, short = 23632, 2369
+
+        def query(n, **other):
+            sheets = [0.0] * SHEETS
+            for k, x in enumerate((3.0, 30.0, 4.0, 12.0, 6.0, 3.3e-27)):
+                for e in (SIDE * i + j for i in range(n) for j in range(n)):
+                    sheets[SHEET * k + e] = x
+            given = {"orders": (1,) * SHEET, "temperature": 30.0, "fractions": (1.0 / n,) * n, "densities": (0.01,) * n} | other
+            lists = c.record(count=n, m=(1.0,) * SIDE, sheets=tuple(sheets), orders=given.pop("orders"))
+            return c.record(lists=lists, wanted=True, **given)
+        desk = begun(c.record(floats=(7.0,) * long, bytes=(9,) * short))[1]
+        asked, told = [query(1), query(2), query(1)], []
+        for k, q in enumerate(asked):
+            answer = submitted(desk, q)
+            desk = answer[1].desk
+            yield compared(f"the place of query {k}", answer[1].place, k)
+        for _ in range(7):
+            answer = served(desk)[1]
+            desk = answer.desk
+            told.append(answer.told)
+        turns = [("finished", 0, asked[0]), ("worked",), ("finished", 2, asked[2]), ("worked",), ("worked",), ("finished", 1, asked[1]), ("idle",)]
+        yield compared("what the calls tell", repr(told), repr([t[:2] + (directly(t[2]),) if len(t) > 2 else t for t in turns]))
+        for _ in range(16):
+            desk = submitted(desk, asked[0])[1].desk
+        refused = {"a seventeenth query": (asked[0], 17), "a cold one": (query(1, temperature=0.5), 2), "another length": (query(1, fractions=(0.5, 0.5), temperature=0.5), 1), "an order of 3": (query(1, orders=(3,) * SHEET, temperature=0.5), 4)}
+        for name, (q, number) in refused.items():
+            yield compared(name, submitted(desk, q), ("refused", number))
+        yield compared("a desk of another length", served(c.record(floats=(7.0,) * (long - 1), bytes=(9,) * short)), ("refused", 1))
+
+    # ---- that nothing was left out: what the boundary, demand 3, the table, Slip 3 and the promises use was evaluated, but for statements about all values
     def believed(self):
         c = self.c
         files = [c.file(*f) for f in (("domthelv", "Operations"), ("domthelv", "Total"), ("domthelv", "Tank"), ("domthelv", "Sets"), ("demand_three", "Demand"), ("proved_table", "Table"), ("power_corners", "Corners"), ("pi_as_pi", "Statement"), ("chain_derivatives", "Chain"), ("elementary", "Promised"), ("elementary", "Port"))]
@@ -495,7 +529,7 @@ class Exact:
         return {"value": value, "fraction": exact.exact[1] if exact.exact[0] == "some" else None}
 
 
-SECTIONS = ["decimals", "tables", "elementary", "promises", "intervals", "table", "corners", "orders", "quadrature", "constants", "slopes", "mie_ends", "quantum_ends", "mie", "quantum", "mie_9_to_12", "quantum_9_to_12", "refusals", "stages", "exact", "sums", "tanks", "derivatives", "believed"]
+SECTIONS = ["decimals", "tables", "elementary", "promises", "intervals", "table", "corners", "orders", "quadrature", "constants", "slopes", "mie_ends", "quantum_ends", "mie", "quantum", "mie_9_to_12", "quantum_9_to_12", "refusals", "stages", "exact", "sums", "tanks", "derivatives", "desk", "believed"]
 
 
 def load(folder, texts, whole=False):
