@@ -59,6 +59,7 @@ fn main() {
         selfcheck::known_values(t);
         selfcheck::payloads(t);
         selfcheck::texts(count / 4, seed, t);
+        selfcheck::slopes(count / 4, seed, t);
     });
     part("elementary functions", &mut |t| elementary::run(50 * count, seed, t));
     part("operations", &mut |t| compare::run(count, seed, option("--only"), t));

@@ -5,11 +5,12 @@ use crate::sizes::{self, COUNTS, LISTS, SHEET, SHEETS, SIDE, TABLE, at};
 use ended::saftvrmie::eos as ended_vr;
 use ended::saftvrqmie::eos::driver as ended_vrq;
 use ends::F;
-use num_dual::Functions;
+use num_dual::{Dual, Functions, REAL_POWER_SLOPES};
 use renamed::saftvrmie::eos as vr;
 use renamed::saftvrmie::parameters::r0;
 use renamed::saftvrqmie::eos::driver as vrq;
 use std::cell::{Cell, RefCell};
+use std::sync::atomic::Ordering::Relaxed;
 
 // ---- elementary functions: domains by the scope, values by the port
 
@@ -418,6 +419,51 @@ pub fn vrq_stage(l: &Lists, st: &State, non_additive: bool, out: usize) -> Resul
     let set = vrq_parameters(l, QUANTUM_SET)?;
     let (table, _) = vrq_table(&set, st.temperature, TABLE_AND_COUNTS)?;
     vrq_energies(&set, st, &table, non_additive, 3)
+}
+
+/// The slopes that a caller supplies.
+#[derive(Clone, Debug)]
+pub struct Slopes {
+    pub temperature: f64,
+    pub fractions: Vec<f64>,
+    pub densities: Vec<f64>,
+}
+
+fn duals(values: &[f64], slopes: &[f64]) -> Vec<Dual<f64>> {
+    values.iter().zip(slopes).map(|(v, s)| Dual::new(*v, *s)).collect()
+}
+/// Values and slopes by turns.
+fn both_parts(list: &[Dual<f64>]) -> Vec<f64> {
+    list.iter().flat_map(|d| [d.re, d.eps]).collect()
+}
+
+/// The contributions, each as value and slope, from a table of its own with slopes: 1 (slope lists too), 2, 7 for a supplied
+/// slope that is not finite, the table's 6 and 7, the energies' 6 and 7. The text runs on dual numbers.
+pub fn vrq_energies_slopes(s: &QuantumSet, st: &State, slopes: &Slopes, non_additive: bool, out: usize) -> Result<Vec<f64>, u8> {
+    let n = s.count;
+    let lists = [&st.fractions, &st.densities, &slopes.fractions, &slopes.densities];
+    quantum_set(s, lists.iter().all(|l| l.len() == n) && out == 6)?;
+    limits(state_right(st))?;
+    finite(&[slopes.temperature])?;
+    finite(&slopes.fractions)?;
+    finite(&slopes.densities)?;
+    let p = vrq::set(n, &s.m, &s.sheets, &s.orders);
+    REAL_POWER_SLOPES.store(true, Relaxed);
+    let result = (|| {
+        let temperature = Dual::new(st.temperature, slopes.temperature);
+        start();
+        let table = vrq::table_slopes(&p, temperature);
+        inside()?;
+        finite(&both_parts(&vrq::flat_table(n, &table, Dual::new(0.0, 0.0))))?;
+        start();
+        let state = vrq::state(temperature, &duals(&st.fractions, &slopes.fractions), &duals(&st.densities, &slopes.densities));
+        let energies = both_parts(&vrq::contributions(&p, &table, &state, non_additive));
+        inside()?;
+        finite(&energies)?;
+        Ok(energies)
+    })();
+    REAL_POWER_SLOPES.store(false, Relaxed);
+    result
 }
 
 // ---- VR Mie operations

@@ -1,10 +1,11 @@
 //! The oracle tried on itself: the renamed text with the platform's functions gives the bits of the unchanged text,
-//! and both give the values worked out for a few fluids; and the bits of a NaN are seen.
+//! and both give the values worked out for a few fluids; the text on dual numbers has the values of the text on floats;
+//! and the bits of a NaN are seen.
 use crate::lent::Lent;
-use crate::oracle::{lists_for, same};
+use crate::oracle::{self, PORT, QuantumSet, Slopes, State, lists_for, same};
 use crate::random::Random;
 use crate::sizes::TABLE;
-use crate::states;
+use crate::states::{self, Kind};
 use crate::tally::Tally;
 
 /// Everything that a text computes from lists and a state.
@@ -125,4 +126,64 @@ pub fn payloads(tally: &mut Tally) {
         unsafe { at.add(1).write(other) };
         tally.note("oracle: NaN payloads", 0, kept && !lent.kept(0), || format!("{:016x} taken for {other:016x}", before[1]));
     }
+}
+
+/// The text on dual numbers: values are the bits of the text on floats, and slopes are close to difference quotients.
+pub fn slopes(count: u64, seed: u64, tally: &mut Tally) {
+    num_dual::use_functions(&PORT);
+    let mut g = Random(seed ^ 0x510e);
+    for case in 0..count {
+        let l = states::lists(&mut g, true);
+        let Ok(set) = oracle::vrq_parameters(&l, oracle::QUANTUM_SET) else { continue };
+        let state = states::state(&mut g, l.count, &l.m, &l.sigma, true);
+        let mut list = |values: &[f64]| values.iter().map(|_| g.within(-1.0, 1.0)).collect();
+        let slopes = Slopes { fractions: list(&state.fractions), densities: list(&state.densities), temperature: g.within(-1.0, 1.0) };
+        let with_slopes = oracle::vrq_energies_slopes(&set, &state, &slopes, true, 6);
+        let floats = floats_alone(&set, &state);
+        let right = match (&with_slopes, &floats) {
+            (Ok(six), Ok(three)) => (0..3).all(|k| same(six[2 * k], three[k])),
+            (Err(6 | 7), Ok(_)) => true,
+            (Err(a), Err(b)) => a == b,
+            _ => false,
+        };
+        let answer = with_slopes.as_ref().err().copied().unwrap_or(0);
+        tally.note("oracle: dual numbers", answer, right, || format!("case {case}: {with_slopes:?} beside {floats:?}"));
+    }
+    for case in 0..count / 4 {
+        let l = states::lists_of(&mut g, true, Kind::Usual);
+        let Ok(set) = oracle::vrq_parameters(&l, oracle::QUANTUM_SET) else { continue };
+        let mut state = states::quiet_state(&mut g, l.count, &l.m, &l.sigma);
+        state.temperature = g.within(60.0, 300.0);
+        let moved = |h: f64| State {
+            temperature: state.temperature * (1.0 + h),
+            fractions: state.fractions.clone(),
+            densities: state.densities.iter().map(|x| x * (1.0 - h)).collect(),
+        };
+        let slopes = Slopes {
+            temperature: state.temperature,
+            fractions: vec![0.0; l.count],
+            densities: state.densities.iter().map(|x| -x).collect(),
+        };
+        let h = 1e-5;
+        let (Ok(six), Ok(up), Ok(down)) =
+            (oracle::vrq_energies_slopes(&set, &state, &slopes, true, 6), floats_alone(&set, &moved(h)), floats_alone(&set, &moved(-h)))
+        else {
+            continue;
+        };
+        let quotient = |k: usize| (up[k] - down[k]) / (2.0 * h);
+        let right = (0..3).all(|k| (six[2 * k + 1] - quotient(k)).abs() <= 1e-4 * quotient(k).abs() + 1e-6 * up[k].abs());
+        tally.note("oracle: difference quotients", 0, right, || {
+            format!("case {case}: {six:?} beside {:?}", [quotient(0), quotient(1), quotient(2)])
+        });
+    }
+}
+
+/// The energies from a table of their own, in floats.
+fn floats_alone(set: &QuantumSet, state: &State) -> Result<[f64; 3], u8> {
+    if state.fractions.len() != set.count || state.densities.len() != set.count {
+        return Err(1);
+    }
+    oracle::vrq_energies(set, state, &[0.0; TABLE], true, 3).map(|_| ()).or_else(|n| if n == 2 { Err(2) } else { Ok(()) })?;
+    let (table, _) = oracle::vrq_table(set, state.temperature, oracle::TABLE_AND_COUNTS)?;
+    oracle::vrq_energies(set, state, &table, true, 3)
 }

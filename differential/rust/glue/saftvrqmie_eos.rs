@@ -11,6 +11,7 @@ pub mod driver {
     use crate::sizes::{self, SHEET, SHEETS, TABLE, at};
     use feos_core::StateHD;
     use nalgebra::{DMatrix, DVector};
+    use num_dual::{Dual, DualNum};
 
     /// Component lists of `count` places, pair lists of their square.
     pub struct Lists<'a> {
@@ -82,8 +83,15 @@ pub mod driver {
 
     /// sigma_eff, hs_diameter, epsilon_k_eff, quantum_d.
     pub fn table(p: &SaftVRQMiePars, temperature: f64) -> [f64; TABLE] {
-        let t = TemperatureDependentProperties::new(p, temperature);
-        let (mut flat, n) = ([0.0; TABLE], p.m.len());
+        flat_table(p.m.len(), &Table(TemperatureDependentProperties::new(p, temperature)), 0.0)
+    }
+
+    /// A table in the Rust's own form.
+    pub struct Table<D = f64>(TemperatureDependentProperties<D>);
+
+    /// Its sheets, `zero` where unused.
+    pub fn flat_table<D: Copy>(n: usize, table: &Table<D>, zero: D) -> [D; TABLE] {
+        let (mut flat, t) = ([zero; TABLE], &table.0);
         let fields = [&t.sigma_eff_ij, &t.hs_diameter_ij, &t.epsilon_k_eff_ij, &t.quantum_d_ij];
         for (s, field) in fields.into_iter().enumerate() {
             for i in 0..n {
@@ -95,9 +103,12 @@ pub mod driver {
         flat
     }
 
-    /// A table filled by hand, in the Rust's own form.
-    pub struct Table(TemperatureDependentProperties<f64>);
+    /// The table with slopes, at a temperature with a slope.
+    pub fn table_slopes(p: &SaftVRQMiePars, temperature: Dual<f64>) -> Table<Dual<f64>> {
+        Table(TemperatureDependentProperties::new(p, temperature))
+    }
 
+    /// A table filled by hand.
     pub fn properties(n: usize, table: &[f64]) -> Table {
         let sheet = |start: usize| DMatrix::from_fn(n, n, |i, j| table[at(start, i, j)]);
         Table(TemperatureDependentProperties {
@@ -108,13 +119,13 @@ pub mod driver {
         })
     }
 
-    pub fn state(temperature: f64, x: &[f64], rho: &[f64]) -> StateHD<f64> {
+    pub fn state<D: Clone>(temperature: D, x: &[D], rho: &[D]) -> StateHD<D> {
         StateHD { temperature, partial_density: DVector::from(rho.to_vec()), molefracs: DVector::from(x.to_vec()) }
     }
 
     /// Hard sphere, dispersion, non-additive (+0 where not wanted).
-    pub fn contributions(p: &SaftVRQMiePars, table: &Table, state: &StateHD<f64>, non_additive: bool) -> [f64; 3] {
-        let third = if non_additive { NonAddHardSphere.helmholtz_energy_density(p, state, &table.0) } else { 0.0 };
+    pub fn contributions<D: DualNum<Primitive = f64> + Copy>(p: &SaftVRQMiePars, table: &Table<D>, state: &StateHD<D>, non_additive: bool) -> [D; 3] {
+        let third = if non_additive { NonAddHardSphere.helmholtz_energy_density(p, state, &table.0) } else { D::from(0.0) };
         [HardSphere.helmholtz_energy_density(p, state, &table.0), Dispersion.helmholtz_energy_density(p, state, &table.0), third]
     }
 

@@ -158,6 +158,10 @@ fn crate_rules() -> bool {
     CRATE_RULES.load(Relaxed)
 }
 
+/// Set: a real power has the slope exponent * (power with exponent - 1) * a', x0's too, as the quantum chain with slopes
+/// has it. Unset: a real power of x0 has slope +0, as the chain term of SAFT-VR Mie has it.
+pub static REAL_POWER_SLOPES: AtomicBool = AtomicBool::new(false);
+
 pub trait Number: DualNum<Primitive = f64> + Copy {}
 impl<T: DualNum<Primitive = f64> + Copy> Number for T {}
 
@@ -185,6 +189,26 @@ impl<T: Number> Dual<T> {
         }
         let slope = if n == 0 { T::zero() } else { T::from(f64::from(n)) * power(&self.re, n - 1) * self.eps };
         Dual::new(power(&self.re, n), slope)
+    }
+    /// The value, and where it is wanted the slope, exponent * (power with exponent - 1) * a' from the left.
+    #[inline]
+    fn real_power(&self, n: f64, power: impl Fn(&T, f64) -> T) -> Self {
+        let value = power(&self.re, n);
+        if !REAL_POWER_SLOPES.load(Relaxed) {
+            return Dual::from_re(value);
+        }
+        Dual::new(value, T::from(n) * power(&self.re, n - f64::one()) * self.eps)
+    }
+    /// exp: its value * a'.
+    #[inline]
+    fn exp_of(&self, exp: impl Fn(&T) -> T) -> Self {
+        let value = exp(&self.re);
+        Dual::new(value, value * self.eps)
+    }
+    /// ln_1p: a' / (1 + a).
+    #[inline]
+    fn ln_1p_of(&self, ln_1p: impl Fn(&T) -> T) -> Self {
+        Dual::new(ln_1p(&self.re), self.eps / (T::one() + self.re))
     }
 }
 impl<T: Number> From<f64> for Dual<T> {
@@ -285,13 +309,29 @@ impl<T: Number> Inv for Dual<T> {
 macro_rules! not_called {
     ($($f:ident),*) => { $(
         fn $f(&self) -> Self {
-            unreachable!("the chain asks no such function of a dual")
+            unreachable!("no text asks such a function of a dual")
         }
     )* };
 }
 impl<T: Number> DualNum for Dual<T> {
     type Primitive = f64;
-    not_called!(sqrt, ln, ln_1p, exp, exp_m1, tanh, port_sqrt, port_ln, port_ln_1p, port_exp, port_exp_m1, port_tanh);
+    not_called!(sqrt, ln, exp_m1, tanh, port_sqrt, port_ln, port_exp_m1, port_tanh);
+    #[inline]
+    fn ln_1p(&self) -> Self {
+        self.ln_1p_of(T::ln_1p)
+    }
+    #[inline]
+    fn port_ln_1p(&self) -> Self {
+        self.ln_1p_of(T::port_ln_1p)
+    }
+    #[inline]
+    fn exp(&self) -> Self {
+        self.exp_of(T::exp)
+    }
+    #[inline]
+    fn port_exp(&self) -> Self {
+        self.exp_of(T::port_exp)
+    }
     fn re(&self) -> f64 {
         self.re.re()
     }
@@ -309,13 +349,12 @@ impl<T: Number> DualNum for Dual<T> {
     fn port_powi(&self, n: i32) -> Self {
         self.whole_power(n, T::port_powi)
     }
-    /// Only x0 is raised to a real power, and x0 has slope 0.
     #[inline]
     fn powf(&self, n: f64) -> Self {
-        Dual::from_re(self.re.powf(n))
+        self.real_power(n, |x, n| x.powf(n))
     }
     #[inline]
     fn port_powf(&self, n: f64) -> Self {
-        Dual::from_re(self.re.port_powf(n))
+        self.real_power(n, |x, n| x.port_powf(n))
     }
 }

@@ -1,0 +1,20 @@
+-- `saftvrqmie_alpha_slopes::eighth` meets its contract. Assumes nothing.
+use mathlib.Core.Path.{refl}
+use lib.Ieee.{ofBits, ofInt}
+use Rattle.number.specs.Arith.{decimal}
+use Rattle.dual.specs.Dual.{powD}
+use Rattle.dual.specs.Value.{dualOf}
+use Rattle.number.specs.Power.{powUp, powDigits, digits}
+-- `saftvrqmie_alpha_slopes::eighth` meets its contract. Assumes nothing.
+use Rattle.saftvrqmie_alpha_slopes.proofs.eighth.Statement.{statement}
+use Rattle.saftvrqmie_alpha_slopes.proofs.eighth.Tie as tie
+
+returns : tie.Need-returns
+unfolding powD powUp powDigits digits dualOf decimal ofBits ofInt
+returns c = refl
+
+pub eighth-spec : {M : Type 1} → statement M
+eighth-spec =
+    tie.close
+    (tie.spec
+    returns)

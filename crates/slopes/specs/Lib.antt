@@ -1,0 +1,4 @@
+pub mod Mixed
+pub mod Rules
+pub mod Staged
+pub mod Answer
