@@ -50,5 +50,5 @@ demand-3-by-history =
       quantum-diameter = λ E q fair s i j t sigma-eff r0. one-ended _ _ (quantum-diameter-rel E enclosures floats values s i j t sigma-eff r0) (quantum-diameter-rel E enclosures (exacts q) (contains q fair) s i j t sigma-eff r0);
       mie-dispersion = λ E q fair s t x rho d chain. one-ended _ _ (dispersion-rel E enclosures floats values s t x rho d chain) (dispersion-rel E enclosures (exacts q) (contains q fair) s t x rho d chain);
       mie-diameter = λ E q fair s i j t r0. one-ended _ _ (mie-diameter-rel E enclosures floats values s i j t r0) (mie-diameter-rel E enclosures (exacts q) (contains q fair) s i j t r0);
-      quantum-tank = λ E q fair s l tables wanted. tank-ended s l tables wanted (layers-rel E enclosures floats values s l wanted) (layers-rel E enclosures (exacts q) (contains q fair) s l wanted);
+      quantum-tank = λ E q fair s l tables wanted. tank-ended q fair s l tables wanted (layers-rel E enclosures floats values s l wanted) (layers-rel E enclosures (exacts q) (contains q fair) s l wanted);
     }

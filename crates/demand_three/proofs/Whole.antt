@@ -95,7 +95,7 @@ module _ (E : Answers) (q : Choice) (fair : Fair q) where
 
     quantum-tank : TwoEnded allSound eachEnds EachEncloses (tankFrom s y tables wanted (runsBy floats E s y wanted)) (tankRun enclosures y tables wanted (runsBy enclosures E s y wanted)) (tankRun (exacts q) y tables wanted (runsBy (exacts q) E s y wanted)) (tankEndsBy E s y tables wanted)
     unfolding tankEndsBy
-    quantum-tank = tank-ended s y tables wanted (layers-rel enclosures floats values) (layers-rel enclosures (exacts q) (contains q fair))
+    quantum-tank = tank-ended q fair s y tables wanted (layers-rel enclosures floats values) (layers-rel enclosures (exacts q) (contains q fair))
 
 pub demand-3 : Demand3
 demand-3 = record { quantum-energies = quantum-energies; quantum-diameter = quantum-diameter; mie-dispersion = mie-dispersion; mie-diameter = mie-diameter; quantum-tank = quantum-tank }
