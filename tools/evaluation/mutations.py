@@ -17,6 +17,8 @@ CHANGED = [
     ("a test before another", "saftvrqmie_parameters/specs/Parameters", "    demand 3 (allOne (l .count) (at (l .m))) >>= λ _.\n    orderWalk (l .count) (l .fh) >>= λ _.\n", "    orderWalk (l .count) (l .fh) >>= λ _.\n    demand 3 (allOne (l .count) (at (l .m))) >>= λ _.\n", "table"),
     ("an order that cannot be ticked", "order_counts/specs/Counts", "map (λ l. 3 ∷ l)", "map (λ l. 4 ∷ l)", "orders"),
     ("a pair of orders that meets 4", "saftvrqmie_parameters/specs/Parameters", "demand 4 (leb (max a b) 2)", "demand 4 (leb a 2)", "orders"),
+    ("the place that is served next", "round_robin/specs/Desk", "next s = seek places (occupied s) (above (D .last s))", "next s = seek places (occupied s) 0", "desk"),
+    ("a place that is not freed", "desk_place/specs/Place", "freed b = set b countAt 0", "freed b = b", "desk"),
     ("a digit of a node", "saftvrqmie_searches/specs/Diameter", "below 995657163025808080735527280689003", "below 995657163025818080735527280689003", "quadrature"),
     ("a step of the wrong sign", "number/specs/Neighbour", "ofBits binary64 (stepDown (toBits binary64 (fin s m e)))", "ofBits binary64 (stepUp (toBits binary64 (fin s m e)))", "intervals"),
     ("a divisor that touches zero", "interval/specs/Interval", "(x .sound && y .sound && oneSign y)", "(x .sound && y .sound)", "intervals"),

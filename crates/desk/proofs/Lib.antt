@@ -6,3 +6,4 @@ pub mod Entering
 pub mod Promise
 pub mod Ways
 pub mod Course
+pub mod Doors

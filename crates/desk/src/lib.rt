@@ -8,7 +8,7 @@ ghost use Rattle.set_lists.specs.Sets.{QuantumLists, quantumLengths};
 ghost use Rattle.mie_parameters.specs.Answer.{verdict, stored};
 ghost use Rattle.number.specs.Ans.{held};
 ghost use Rattle.round_robin.specs.Desk.{places, seek, leaves};
-ghost use Rattle.desk_place.specs.Layout.{Lists};
+ghost use Rattle.desk_place.specs.Layout.{Lists, placeFloats};
 ghost use Rattle.desk_place.specs.Place.{Query, enter, unit};
 ghost use Rattle.desk.specs.Desk.{occupiedIn, shelf, quantum, placeOf, placed, rightDesk, stateLengths, door, begun, submitted, servedOnce, deskAnswer, placeAnswer, toldOf, deskOf, placeTold, enteredOf, lastAt};
 use desk_place::UnitAnswer;
@@ -141,7 +141,7 @@ fn enter(
     densities: &[f64],
     non_additive: bool,
 )
-    requires { ⌜ (length (now floats) ≡ 1477 * places) × (length (now bytes) ≡ lastAt + 1) × (k < places) × (quantumLengths (now m) (now sheets) (now orders) ≡ true) × (count ≤ side) × (length (now fractions) ≡ count) × (length (now densities) ≡ count) ⌝ }
+    requires { ⌜ (length (now floats) ≡ placeFloats * places) × (length (now bytes) ≡ lastAt + 1) × (k < places) × (quantumLengths (now m) (now sheets) (now orders) ≡ true) × (count ≤ side) × (length (now fractions) ≡ count) × (length (now densities) ≡ count) ⌝ }
     ensures { λ _.
         let s : QuantumLists = record { count = count; m = now (m .entry); sheets = now (sheets .entry); orders = now (orders .entry) } in
         let q : Query = record { lists = s; temperature = temperature; fractions = now (fractions .entry); densities = now (densities .entry); wanted = «non_additive» } in
@@ -220,7 +220,7 @@ pub fn submit(
 
 // One unit for the query in place k, which is served last then.
 fn serve_at(floats: &mut [f64], bytes: &mut [u8], k: usize) -> DeskAnswer
-    requires { ⌜ (length (now floats) ≡ 1477 * places) × (length (now bytes) ≡ lastAt + 1) × (k < places) × (occupiedIn (now bytes) k ≡ true) ⌝ }
+    requires { ⌜ (length (now floats) ≡ placeFloats * places) × (length (now bytes) ≡ lastAt + 1) × (k < places) × (occupiedIn (now bytes) k ≡ true) ⌝ }
     ensures { λ r.
         let l : Lists = record { floats = now (floats .entry); bytes = now (bytes .entry) } in
         let s = leaves shelf quantum l k (unit (placeOf l k)) in
