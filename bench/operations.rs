@@ -229,6 +229,54 @@ fn vr_mie(rows: &mut Rows, n: usize) {
 }
 
 /// Two ends of the quantum energies and of a pair's diameter, beside their floats.
+/// The bytes of a fluid's quantum card.
+fn card_of(f: &Fluid, n: usize) -> Vec<u8> {
+    let mut fields = vec![(2, 0), (4, n as u64)];
+    for i in 0..n {
+        fields.extend([f.sigma[i], f.epsilon_k[i], f.lr[i], f.la[i], f.mass[i]].map(|x| (64, x.to_bits())));
+        fields.push((2, f.order[i] as u64));
+    }
+    for i in 0..n {
+        fields.extend((i + 1..n).flat_map(|j| [(64, f.pairs[n * i + j].to_bits()); 2]));
+    }
+    let bits: Vec<u8> = fields.iter().flat_map(|&(w, v): &(u32, u64)| (0..w).rev().map(move |k| (v >> k & 1) as u8)).collect();
+    bits.chunks(8).map(|c| c.iter().enumerate().map(|(k, b)| b << (7 - k)).sum()).collect()
+}
+
+/// A card, beside the parameters of its lists.
+fn quantum_card(rows: &mut Rows, n: usize) {
+    let (Some(card), Some(plain)) = (port::CARD_PARAMETERS, port::VRQ_PARAMETERS) else { return };
+    let fluids = fluids(n, 0, true);
+    let cards: Vec<_> = fluids.iter().map(|f| card_of(f, n)).collect();
+    let lists = |i: usize| {
+        let (mut m, mut sheets, mut orders, fluid) = ([0.0; SIDE], [0.0; SHEETS], [0u8; SHEET], &fluids[i]);
+        let p = |l: &Vec<f64>| l.as_ptr();
+        let nn = n * n;
+        let number = unsafe {
+            plain(
+                n, p(&fluid.m), n, p(&fluid.sigma), n, p(&fluid.epsilon_k), n, p(&fluid.lr), n, p(&fluid.la), n, p(&fluid.mass), n,
+                fluid.order.as_ptr(), n, p(&fluid.pairs), nn, p(&fluid.pairs), nn, m.as_mut_ptr(), SIDE, sheets.as_mut_ptr(), SHEETS,
+                orders.as_mut_ptr(), SHEET,
+            )
+        };
+        assert!(number == 0);
+        sheets
+    };
+    let read = |i: usize| {
+        let (mut model, mut count, mut m, mut lists) = (0, 0, [0.0; SIDE], [0.0; 5 * SIDE]);
+        let (mut sheets, mut orders, bytes) = ([0.0; SHEETS], [0u8; SHEET], &cards[i]);
+        let number = unsafe {
+            card(
+                bytes.as_ptr(), bytes.len(), &mut model, &mut count, m.as_mut_ptr(), SIDE, lists.as_mut_ptr(), 5 * SIDE,
+                sheets.as_mut_ptr(), SHEETS, orders.as_mut_ptr(), SHEET,
+            )
+        };
+        assert!(number == 0);
+        sheets
+    };
+    rows.row("quantum card", n, None, fluids.len(), lists, read);
+}
+
 fn quantum_ends(rows: &mut Rows, n: usize, order: u8) {
     let (Some(energies), Some(ends), Some(radii), Some(diameter), Some(diameter_ends)) =
         (port::VRQ_ENERGIES, port::VRQ_ENERGIES_ENDS, port::VRQ_RADII, port::VRQ_DIAMETER, port::VRQ_DIAMETER_ENDS)
@@ -443,7 +491,10 @@ pub fn run() {
     for n in SIZES {
         vr_mie_ends(&mut rows, n);
     }
-    print("two ends, and the total: the port's floats, and these", ["float us", "port us"], &rows);
+    for n in [1, 2, 4, 8] {
+        quantum_card(&mut rows, n);
+    }
+    print("two ends, the total and the card: the port's floats, and these", ["float us", "port us"], &rows);
     let mut rows = Rows::default();
     for n in SIZES {
         for order in 0..3 {

@@ -62,6 +62,7 @@
 
 /* The most components, and the lengths that hang on it. */
 #define DOMTHELV_SIDE 12
+#define DOMTHELV_CARD_SIDE 8                    /* the most components on a fuel card, whatever the side */
 #define DOMTHELV_SHEET (DOMTHELV_SIDE * DOMTHELV_SIDE)
 #define DOMTHELV_M DOMTHELV_SIDE                /* m of a quantum set */
 #define DOMTHELV_ORDERS DOMTHELV_SHEET          /* orders of a quantum set, bytes */
@@ -109,6 +110,9 @@ enum domthelv_refusal {
     DOMTHELV_DOMAIN = 6,         /* an elementary function's argument is outside its domain */
     DOMTHELV_NOT_FINITE = 7,     /* a result is not finite */
     DOMTHELV_NO_ENDS = 8,        /* two ends: a divisor's ends enclose or touch zero, or an end is not finite */
+    DOMTHELV_SHORT_CARD = 9,     /* a card is too short for the field in hand */
+    DOMTHELV_CARD_HEADING = 10,  /* a card's model is not known, or its count is outside */
+    DOMTHELV_CARD_FILLING = 11,  /* a filling bit of a card is 1, or bytes are left over */
     DOMTHELV_LAYERS = 14         /* a tank's layer count is outside */
 };
 
@@ -267,6 +271,19 @@ uint8_t domthelv_vr_stage(size_t count, const double *m, size_t m_len, const dou
     const double *k_ij, size_t k_ij_len, const double *gamma_ij, size_t gamma_ij_len, double temperature,
     const double *fractions, size_t fractions_len, const double *densities, size_t densities_len, bool chain,
     double *out);
+
+/* The fuel card: bits, most significant first. Two bits of model (0 quantum, 1 SAFT-VR Mie), four bits of count, 1 to
+ * DOMTHELV_CARD_SIDE; for each component sigma, epsilon_k, lr, la, mass as 64-bit floats and a 2-bit order, or of SAFT-VR Mie
+ * m, sigma, epsilon_k, lr, la; for each pair i < j, row by row, two 64-bit floats, k_ij and l_ij, or k_ij and gamma_ij. Zero
+ * bits fill the last byte. Of the quantum model m is 1. */
+
+/* From a card to the parameters of its model: *model, *count and the set, a quantum one in set_m, set_sheets, set_orders, one
+ * of SAFT-VR Mie in set_lists, set_sheets; lists of the other model keep their bits. 1: the length of any of the four lists;
+ * 9: the card ends before the field in hand; 10: the model or the count, once both are in; 11: after all else on the card;
+ * then as domthelv_vrq_parameters (2, 3, 4, 5, 6) or domthelv_vr_parameters (2, 6). */
+uint8_t domthelv_card_parameters(const uint8_t *card, size_t card_len, uint8_t *model, size_t *count, double *set_m,
+    size_t set_m_len, double *set_lists, size_t set_lists_len, double *set_sheets, size_t set_sheets_len,
+    uint8_t *set_orders, size_t set_orders_len);
 
 #ifdef __cplusplus
 }

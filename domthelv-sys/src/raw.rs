@@ -235,4 +235,14 @@ unsafe extern "C" {
         chain: bool,
         out: *mut f64,
     ) -> u8;
+    // The fuel card.
+    pub fn domthelv_card_parameters(
+        card: *const u8, card_len: usize,
+        model: *mut u8,
+        count: *mut usize,
+        set_m: *mut f64, set_m_len: usize,
+        set_lists: *mut f64, set_lists_len: usize,
+        set_sheets: *mut f64, set_sheets_len: usize,
+        set_orders: *mut u8, set_orders_len: usize,
+    ) -> u8;
 }

@@ -25,6 +25,12 @@ pub enum Refusal {
     NotFinite = 7,
     /// Two ends cannot be given: a divisor's ends enclose or touch zero, or an end is not finite.
     NoEnds = 8,
+    /// A card is too short for the field in hand.
+    ShortCard = 9,
+    /// A card's model is not known, or its count is outside.
+    CardHeading = 10,
+    /// A filling bit of a card is 1, or bytes are left over.
+    CardFilling = 11,
     /// A tank's layer count is outside 1 to 32.
     Layers = 14,
 }
@@ -33,7 +39,9 @@ impl Refusal {
     /// The refusal of a number that the boundary gives; 0 is none, and others are never given.
     pub fn of(number: u8) -> Option<Refusal> {
         use Refusal::*;
-        [Length, Limit, SegmentNumber, Order, MixedOrders, Domain, NotFinite, NoEnds, Layers].into_iter().find(|r| *r as u8 == number)
+        [Length, Limit, SegmentNumber, Order, MixedOrders, Domain, NotFinite, NoEnds, ShortCard, CardHeading, CardFilling, Layers]
+            .into_iter()
+            .find(|r| *r as u8 == number)
     }
     pub fn number(self) -> u8 {
         self as u8
@@ -51,6 +59,9 @@ impl core::fmt::Display for Refusal {
             Refusal::Domain => "an elementary function's argument is outside its domain",
             Refusal::NotFinite => "a result is not finite",
             Refusal::NoEnds => "two ends cannot be given",
+            Refusal::ShortCard => "a card is too short for the field in hand",
+            Refusal::CardHeading => "a card's model is not known, or its count is outside",
+            Refusal::CardFilling => "a filling bit of a card is 1, or bytes are left over",
             Refusal::Layers => "a tank's layer count is outside",
         };
         write!(f, "refused ({}): {text}", self.number())
@@ -531,6 +542,35 @@ impl MieSet {
     }
 }
 
+// ---- the fuel card
+
+/// The set that a card holds.
+#[derive(Clone, Debug)]
+pub enum CardSet {
+    Quantum(QuantumSet),
+    Mie(MieSet),
+}
+
+/// From a card to the parameters of its model.
+#[inline]
+pub fn card_parameters(card: &[u8]) -> Result<CardSet, Refusal> {
+    let (mut model, mut count) = (0, 0);
+    let mut q = QuantumSet { count: 0, m: [0.0; SIDE], sheets: [0.0; SHEETS], orders: [0; SHEET] };
+    let mut lists = [0.0; LISTS];
+    #[rustfmt::skip]
+    let number = unsafe {
+        raw::domthelv_card_parameters(
+            card.as_ptr(), card.len(), &mut model, &mut count, q.m.as_mut_ptr(), SIDE, lists.as_mut_ptr(), LISTS,
+            q.sheets.as_mut_ptr(), SHEETS, q.orders.as_mut_ptr(), SHEET,
+        )
+    };
+    let set = match model {
+        0 => CardSet::Quantum(QuantumSet { count, ..q }),
+        _ => CardSet::Mie(MieSet { count, lists, sheets: q.sheets }),
+    };
+    given(number, set)
+}
+
 #[cfg(test)]
 mod tests {
     use super::*;
@@ -690,5 +730,29 @@ mod tests {
         let table = set.table(30.0).unwrap();
         assert_eq!(set.energies(&state, &table.values, true), Err(Refusal::NotFinite));
         assert_eq!((0..=255).filter_map(Refusal::of).map(Refusal::number).collect::<Vec<_>>(), [1, 2, 3, 4, 5, 6, 7, 8]);
+    }
+
+    /// Bits, most significant first.
+    fn packed(fields: &[(u32, u64)]) -> Vec<u8> {
+        let bits: Vec<bool> = fields.iter().flat_map(|&(w, v)| (0..w).rev().map(move |k| v >> k & 1 == 1)).collect();
+        bits.chunks(8).map(|c| c.iter().enumerate().map(|(k, &b)| (b as u8) << (7 - k)).sum()).collect()
+    }
+
+    #[test]
+    fn a_card_of_hydrogen_and_neon_gives_their_set() {
+        let c = hydrogen_and_neon(2);
+        let mut fields = vec![(2, 0), (4, 2)];
+        for i in 0..2 {
+            fields.extend([c.sigma[i], c.epsilon_k[i], c.lr[i], c.la[i], c.mass[i]].map(|x| (64, x.to_bits())));
+            fields.push((2, c.order[i] as u64));
+        }
+        fields.extend([(64, c.k_ij[1].to_bits()), (64, c.l_ij[1].to_bits())]);
+        let card = packed(&fields);
+        let wanted = quantum_parameters(&c).unwrap();
+        let CardSet::Quantum(set) = card_parameters(&card).unwrap() else { panic!("a card of another model") };
+        assert_eq!((set.count, set.m, set.sheets, set.orders), (wanted.count, wanted.m, wanted.sheets, wanted.orders));
+        assert_eq!(card_parameters(&card[..card.len() - 1]).unwrap_err(), Refusal::ShortCard);
+        assert_eq!(card_parameters(&[0b1000_1000]).unwrap_err(), Refusal::CardHeading);
+        assert_eq!(card_parameters(&[&card[..], &[0]].concat()).unwrap_err(), Refusal::CardFilling);
     }
 }

@@ -5,13 +5,14 @@ import re
 import struct
 from decimal import Decimal, localcontext
 from fractions import Fraction
+from importlib.machinery import SourceFileLoader
 from itertools import product
 
 from . import chains, promises, specs
 from .derivatives import Derivatives
 from .library import same
 from .scopes import Definition
-from .sizes import SHEET, SHEETS, SIDE
+from .sizes import LISTS, SHEET, SHEETS, SIDE
 from .terms import spell
 
 F64 = ("binary64",)
@@ -348,6 +349,25 @@ class Cases:
         for n, out in ((0, (9, 9, 9)), (SIDE + 1, (9, 9, 9)), (2, (9, 9)), (2, (9, 9, 9, 9))):
             yield compared(f"{n} orders, {len(out)} places", counts(n, out), ("refused", 1))
 
+    # ---- fuel cards: the cases of tools/cards, whose writer and answers are its own
+    def cards(self):
+        whole, older = self.c.get("card_parameters", "Parameters", "cardParameters"), self.c.get("card", "Card", "older")()
+        made = SourceFileLoader("cards", os.path.join(os.path.dirname(os.path.abspath(__file__)), "..", "cards")).load_module()
+        for name, card, wanted in made.cases():
+            lent = self.c.record(model=9, count=99, m=(0.0,) * SIDE, lists=(0.0,) * LISTS, sheets=(0.0,) * SHEETS, orders=(0,) * SHEET)
+            q = whole(older, tuple(card), lent)
+            told = q[1] if q[0] == "held" else lent
+            number = 0 if q[0] == "held" else q[1]
+            yield compared(name, f"{number} {told.model} {told.count} " + " ".join(f"{made.pattern(x):016x}" for x in told.sheets[:2]), wanted)
+        spared = self.c.get("card", "Fields", "readSpared")
+        for bits, wanted in (("01", (0, "1")), ("10110", (3, "0")), ("1000", 15), ("", 9), ("101", 9)):
+            q = spared(3, tuple(b == "1" for b in bits))
+            told = q[1] if q[0] == "refused" else (q[1].value, "".join("01"[b] for b in q[1].rest))
+            yield compared(f"a spared field of three bits in {bits}", told, wanted)
+        for k, lengths in enumerate(((11, 60, 864, 144), (12, 61, 864, 144), (12, 60, 863, 144), (12, 60, 864, 145))):
+            lent = self.c.record(model=9, count=99, m=(0.0,) * lengths[0], lists=(0.0,) * lengths[1], sheets=(0.0,) * lengths[2], orders=(0,) * lengths[3])
+            yield compared(f"lent list {k} of another length", whole(older, (), lent), ("refused", 1))
+
     # ---- slopes: the rules on fractions, at floats that are short, beside the derivative of a power, a product and a quotient
     def slopes(self):
         c = self.c
@@ -413,7 +433,7 @@ class Cases:
     # ---- that nothing was left out: what the boundary, demand 3, the table, Slip 3 and the promises use was evaluated, but for statements about all values
     def believed(self):
         c = self.c
-        files = [c.file(*f) for f in (("domthelv", "Operations"), ("domthelv", "Total"), ("domthelv", "Tank"), ("domthelv", "Sets"), ("demand_three", "Demand"), ("proved_table", "Table"), ("power_corners", "Corners"), ("pi_as_pi", "Statement"), ("chain_derivatives", "Chain"), ("elementary", "Promised"), ("elementary", "Port"))]
+        files = [c.file(*f) for f in (("domthelv", "Operations"), ("domthelv", "Total"), ("domthelv", "Tank"), ("demand_three", "Demand"), ("proved_table", "Table"), ("power_corners", "Corners"), ("pi_as_pi", "Statement"), ("chain_derivatives", "Chain"), ("set_lists", "Written"), ("card_parameters", "Parameters"), ("elementary", "Promised"), ("elementary", "Port"))]
         for d in sorted((d for d in c.used_by(files) if isinstance(d, Definition)), key=lambda d: d.python):
             name = f"{d.file.name}.{d.name}"
             if not (d.is_type and c.states_of_all(d)):
@@ -529,7 +549,7 @@ class Exact:
         return {"value": value, "fraction": exact.exact[1] if exact.exact[0] == "some" else None}
 
 
-SECTIONS = ["decimals", "tables", "elementary", "promises", "intervals", "table", "corners", "orders", "quadrature", "constants", "slopes", "mie_ends", "quantum_ends", "mie", "quantum", "mie_9_to_12", "quantum_9_to_12", "refusals", "stages", "exact", "sums", "tanks", "derivatives", "desk", "believed"]
+SECTIONS = ["decimals", "tables", "elementary", "promises", "intervals", "table", "corners", "orders", "quadrature", "constants", "slopes", "mie_ends", "quantum_ends", "mie", "quantum", "mie_9_to_12", "quantum_9_to_12", "refusals", "stages", "exact", "sums", "tanks", "derivatives", "desk", "cards", "believed"]
 
 
 def load(folder, texts, whole=False):

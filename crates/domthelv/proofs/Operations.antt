@@ -36,7 +36,8 @@ use Rattle.saftvrmie_energies.specs.Energies.{energy}
 use Rattle.saftvrmie_energies_ends.specs.Operation.{dispersionEnds}
 use Rattle.saftvrmie_diameter_ends.specs.Operations as MieDiameter
 use Rattle.set_lists.specs.Sets.{QuantumLists, taken, quantumLengths, quantumSet, MieLists, mieLengths, mieRead, mieSet}
-use Rattle.domthelv.specs.Operations.{QuantumLent, MieLent, countsWritten, orderCountsOut, setWritten, vrqParameters, vrqTable, radiiLengths, radiiWritten, vrqRadii, energiesWritten, vrqEnergies, endsWritten, vrqEnergiesEnds, pairWritten, vrqDiameter, vrqDiameterEnds, vrqStage, mieWritten, vrParameters, vrDiameters, vrRadius, vrDiameter, vrDispersion, vrDispersionEnds, vrDiameterEnds}
+use Rattle.set_lists.specs.Written.{QuantumLent, MieLent, setWritten, mieWritten}
+use Rattle.domthelv.specs.Operations.{countsWritten, orderCountsOut, vrqParameters, vrqTable, radiiLengths, radiiWritten, vrqRadii, energiesWritten, vrqEnergies, endsWritten, vrqEnergiesEnds, pairWritten, vrqDiameter, vrqDiameterEnds, vrqStage, vrParameters, vrDiameters, vrRadius, vrDiameter, vrDispersion, vrDispersionEnds, vrDiameterEnds}
 
 -- an operation that gives a parameter answer and leaves its lists by `stored`
 pub through-status : {S : Type 0} (q p : Ans S) (a : ParameterAnswer) (r : ℕ) → q ≡ p → a ≡ verdict p → r ≡ numberOf a → r ≡ status q

@@ -1,16 +1,13 @@
 -- The operations behind the boundary, with the lists that a call lends (include/domthelv.h): 1 for anything that is given 1, then 4 for an order of a quantum set, then the operation's other refusals in their order; its own 1 comes before the 4 and is never met after it.
-use Prim.Native.Nat.{ℕ, _*_}
+use Prim.Native.Nat.{ℕ}
 use lib.Dec.{eqb}
 use lib.Ieee.{Float}
 use lib.ListN.{length, set}
 use mathlib.Core.List.{List}
 use mathlib.Core.Bool.{Bool, _&&_}
 use Rattle.number.specs.Ans.{Ans, held, _>>=_, demand}
-use Rattle.sizes.specs.Sizes.{side, sheet}
 use Rattle.saftvrqmie_parameters.specs.Parameters as Quantum
-use Rattle.saftvrqmie_parameters.specs.declared.SaftVRQMiePars.{SaftVRQMiePars}
 use Rattle.saftvrmie_parameters.specs.Parameters as Mie
-use Rattle.saftvrmie_parameters.specs.declared.SaftVRMiePars.{SaftVRMiePars}
 use Rattle.order_counts.specs.Counts.{orderCounts}
 use Rattle.order_counts.specs.declared.OrderCounts.{OrderCounts}
 use Rattle.saftvrqmie_properties.specs.Properties.{radiusOf, lastOf}
@@ -30,7 +27,7 @@ use Rattle.saftvrmie_energies.specs.Energies.{energy}
 use Rattle.saftvrmie_energies_ends.specs.Operation.{dispersionEnds}
 use Rattle.saftvrmie_diameter_ends.specs.Operations as MieDiameter
 use Rattle.set_lists.specs.Sets.{QuantumLists, quantumLengths, quantumSet, MieLists, mieLengths, mieSet}
-use Rattle.domthelv.specs.Sets.{placed, ordersWritten, listsWritten}
+use Rattle.set_lists.specs.Written.{QuantumLent, setWritten, MieLent, mieWritten}
 
 -- how many order lists pass, meet 4, meet 5
 unfoldable pub countsWritten : OrderCounts → List ℕ → List ℕ
@@ -41,15 +38,6 @@ orderCountsOut n l =
     demand 1 (eqb (length l) 3) >>= λ _.
     orderCounts n >>= λ c.
     held (countsWritten c l)
-
--- the lists that a quantum set is written into
-pub record QuantumLent : Type 0 where
-  pub m : List Float
-  pub sheets : List Float
-  pub orders : List ℕ
-
-unfoldable pub setWritten : SaftVRQMiePars → QuantumLent → QuantumLent
-setWritten s l = record { m = placed side (s .m) 0 (l .m); sheets = placed (6 * sheet) (s .sheets) 0 (l .sheets); orders = ordersWritten (s .orders) (l .orders) }
 
 unfoldable pub vrqParameters : Quantum.Lists → QuantumLent → Ans QuantumLent
 vrqParameters x l =
@@ -125,14 +113,6 @@ vrqStage x t fractions rho wanted l =
     demand 1 (eqb (length l) 3) >>= λ _.
     quantumStage x t fractions rho wanted >>= λ e.
     held (energiesWritten e l)
-
--- the lists that a set of SAFT-VR Mie is written into
-pub record MieLent : Type 0 where
-  pub lists : List Float
-  pub sheets : List Float
-
-unfoldable pub mieWritten : SaftVRMiePars → MieLent → MieLent
-mieWritten s l = record { lists = listsWritten s (l .lists); sheets = placed (6 * sheet) (s .sheets) 0 (l .sheets) }
 
 unfoldable pub vrParameters : Mie.Lists → MieLent → Ans MieLent
 vrParameters x l =

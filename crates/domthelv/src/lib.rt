@@ -1,11 +1,12 @@
 // The C boundary: each function takes lists apart, calls a proved operation and stores its result.
+mod cards;
 mod ends;
 mod functions;
 mod mie;
-mod places;
 mod quantum;
 mod tank;
 
+pub use crate::cards::domthelv_card_parameters;
 pub use crate::ends::domthelv_vr_diameter_ends;
 pub use crate::ends::domthelv_vr_dispersion_ends;
 pub use crate::ends::domthelv_vrq_diameter_ends;

@@ -1,36 +1,15 @@
 // SAFT-VR Mie at the C boundary: parameters, diameters, a pair's lower limit and diameter, dispersion, the stage.
 ghost use mathlib.Core.Path.{_≡_};
-ghost use Prim.Native.Nat.{_*_};
-ghost use lib.ListN.{length};
-ghost use Rattle.sizes.specs.Sizes.{side};
 ghost use Rattle.mie_parameters.specs.Answer.{status, stored};
 ghost use Rattle.set_lists.specs.Sets.{MieLists};
-ghost use Rattle.domthelv.specs.Sets.{listsWritten};
-ghost use Rattle.domthelv.specs.Operations.{MieLent, vrParameters, vrDiameters, vrRadius, vrDiameter, vrDispersion};
+ghost use Rattle.set_lists.specs.Written.{MieLent};
+ghost use Rattle.domthelv.specs.Operations.{vrParameters, vrDiameters, vrRadius, vrDiameter, vrDispersion};
 ghost use Rattle.stages.specs.Stages.{mieStage};
 ghost use Rattle.saftvrmie_parameters.specs.Parameters as Mie;
-use crate::places;
 use mie_parameters::NumberAnswer;
 use mie_parameters::ParameterAnswer;
 use saftvrmie_energies::EnergyAnswer;
-use saftvrmie_parameters::SaftVRMiePars;
 use sizes::SIDE;
-
-fn write_lists(set: SaftVRMiePars, lists: &mut [f64])
-    requires { ⌜ length (now lists) ≡ 5 * side ⌝ }
-    ensures { λ _. ⌜ now (lists .exit) ≡ listsWritten set (now (lists .entry)) ⌝ }
-{
-    let m = set.m;
-    let sigma = set.sigma;
-    let epsilon_k = set.epsilon_k;
-    let lr = set.lr;
-    let la = set.la;
-    places::write_places(&m, lists, 0);
-    places::write_places(&sigma, lists, SIDE);
-    places::write_places(&epsilon_k, lists, 2 * SIDE);
-    places::write_places(&lr, lists, 3 * SIDE);
-    places::write_places(&la, lists, 4 * SIDE);
-}
 
 // Parameters of SAFT-VR Mie. 1, 2, 6.
 #[no_mangle]
@@ -80,9 +59,7 @@ pub extern "C" fn domthelv_vr_parameters(
         return mie_parameters::number(answer);
     };
     let set = given.set;
-    let flat = set.sheets;
-    write_lists(set, set_lists);
-    places::write_sheets(&flat, set_sheets, 0);
+    set_lists::write_mie(set, set_lists, set_sheets);
     0
 }
 

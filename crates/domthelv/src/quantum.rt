@@ -1,19 +1,16 @@
 // SAFT-VRQ Mie at the C boundary: parameters, table, a pair's searches and diameter, energies, the stage.
 ghost use mathlib.Core.Path.{_≡_};
 ghost use lib.ListN.{length};
-ghost use Rattle.sizes.specs.Sizes.{sheet};
 ghost use Rattle.mie_parameters.specs.Answer.{status, stored};
 ghost use Rattle.set_lists.specs.Sets.{QuantumLists};
-ghost use Rattle.domthelv.specs.Sets.{ordersWritten};
-ghost use Rattle.domthelv.specs.Operations.{QuantumLent, countsWritten, orderCountsOut, vrqParameters, vrqTable, radiiWritten, radiiLengths, vrqRadii, energiesWritten, vrqEnergies, vrqDiameter, vrqStage};
+ghost use Rattle.set_lists.specs.Written.{QuantumLent};
+ghost use Rattle.domthelv.specs.Operations.{countsWritten, orderCountsOut, vrqParameters, vrqTable, radiiWritten, radiiLengths, vrqRadii, energiesWritten, vrqEnergies, vrqDiameter, vrqStage};
 ghost use Rattle.domthelv.specs.Total.{totalWritten, totalStored, vrqTotal};
 ghost use Rattle.saftvrqmie_parameters.specs.Parameters as Quantum;
-ghost use Rattle.saftvrqmie_potential.specs.Potential.{orderNumber};
 ghost use Rattle.saftvrqmie.specs.Table.{Lent};
 ghost use Rattle.saftvrqmie.specs.Pairs.{searchesIn};
 ghost use Rattle.saftvrqmie_energies.specs.Energies.{energiesIn};
 ghost use Rattle.saftvrqmie_total.specs.Total.{totalAnswer};
-use crate::places;
 use mie_parameters::NumberAnswer;
 use mie_parameters::ParameterAnswer;
 use order_counts::CountsAnswer;
@@ -22,32 +19,8 @@ use saftvrqmie::PairSearches;
 use saftvrqmie::SearchesAnswer;
 use saftvrqmie_energies::EnergiesAnswer;
 use saftvrqmie_energies::QuantumEnergies;
-use saftvrqmie_parameters::FeynmanHibbsOrder;
-use saftvrqmie_parameters::OrderRecord;
 use saftvrqmie_total::QuantumTotal;
 use saftvrqmie_total::TotalAnswer;
-use sizes::SHEET;
-
-fn order_byte(order: FeynmanHibbsOrder) -> u8
-    ensures { λ r. ⌜ r ≡ orderNumber order ⌝ }
-{
-    match order {
-        FeynmanHibbsOrder::FH0 => 0,
-        FeynmanHibbsOrder::FH1 => 1,
-        FeynmanHibbsOrder::FH2 => 2,
-    }
-}
-
-fn orders_written(orders: [OrderRecord; SHEET], l: &mut [u8])
-    requires { ⌜ length (now l) ≡ sheet ⌝ }
-    ensures { λ _. ⌜ now (l .exit) ≡ ordersWritten orders (now (l .entry)) ⌝ }
-{
-    for e in 0usize..SHEET {
-        let record = orders[e];
-        let order = record.order;
-        l[e] = order_byte(order);
-    }
-}
 
 // `SaftVRQMieRecord::new`: 3 if m is not 1.
 #[no_mangle]
@@ -142,12 +115,7 @@ pub extern "C" fn domthelv_vrq_parameters(
         return mie_parameters::number(answer);
     };
     let set = given.set;
-    let places = set.m;
-    places::write_places(&places, set_m, 0);
-    let flat = set.sheets;
-    places::write_sheets(&flat, set_sheets, 0);
-    let records = set.orders;
-    orders_written(records, set_orders);
+    set_lists::write_quantum(set, set_m, set_sheets, set_orders);
     0
 }
 

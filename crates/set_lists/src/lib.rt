@@ -1,4 +1,6 @@
-// A set as it crosses the C boundary, as its count and lists: the tests for 1 and 4, and the set that the lists hold.
+// A set as it crosses the C boundary, as its count and lists: the tests for 1 and 4, the set that the lists hold, and a set written into them.
+mod written;
+
 ghost use mathlib.Core.Path.{_≡_};
 ghost use mathlib.Core.Bool.{true};
 ghost use Prim.Native.Nat.{_+_, _*_, _<_, _≤_};
@@ -6,6 +8,8 @@ ghost use lib.ListN.{length};
 ghost use Rattle.sizes.specs.Sizes.{side, sheet};
 ghost use Rattle.mie_parameters.specs.Answer.{verdict};
 ghost use Rattle.set_lists.specs.Sets.{QuantumLists, copied, taken, rowWithin, ordersWithin, ordersRead, quantumLengths, quantumRead, quantumSet, mieLengths, mieRead};
+pub use crate::written::write_mie;
+pub use crate::written::write_quantum;
 use mie_parameters::ParameterAnswer;
 use saftvrmie_parameters::SaftVRMiePars;
 use saftvrqmie_parameters::FeynmanHibbsOrder;

@@ -43,6 +43,18 @@ impl Caller {
         })
     }
 
+    pub fn card_parameters(&mut self, card: &[u8], out: [usize; 4]) -> Option<u8> {
+        let f = port::CARD_PARAMETERS?;
+        self.lent.clear();
+        let (bytes, model) = (self.lend(card), self.bytes(1));
+        let count = self.random.next() as usize;
+        let count = self.lend(&[count]);
+        let (set_m, set_lists, set_sheets, set_orders) = (self.floats(out[0]), self.floats(out[1]), self.floats(out[2]), self.bytes(out[3]));
+        Some(unsafe {
+            f(bytes, card.len(), model, count, set_m, out[0], set_lists, out[1], set_sheets, out[2], set_orders, out[3])
+        })
+    }
+
     pub fn vrq_table(&mut self, s: &QuantumSet, t: f64, out: [usize; 2]) -> Option<u8> {
         let f = port::VRQ_TABLE?;
         self.lent.clear();

@@ -1,5 +1,6 @@
 //! Arbitrary bits, lengths and counts through the boundary: each call ends, touches nothing but its outputs, and answers as the oracle.
 use crate::calls::Caller;
+use crate::cards;
 use crate::compare::{bytes, floats, judge};
 use crate::oracle::{self, Lists, MieSet, QuantumSet, State};
 use crate::random::Random;
@@ -213,5 +214,6 @@ pub fn run(cases: u64, seed: u64, tally: &mut Tally) {
         let mut g = Random((seed ^ 0xf022).wrapping_mul(0x1000_0000_01b3).wrapping_add(case << 20));
         quantum(&mut g, case, &mut c, tally);
         vr_mie(&mut g, case, &mut c, tally);
+        cards::fuzz(&mut g, case, &mut c, tally);
     }
 }

@@ -76,6 +76,11 @@ impl Lent {
         self.now(k) == self.slots[k].before
     }
 
+    /// Whether the k-th list from the end has its bits.
+    pub fn kept_from_end(&self, k: usize) -> bool {
+        self.kept(self.used - 1 - k)
+    }
+
     /// Whether all lists but the last `outs` have their bits.
     pub fn inputs_kept(&self, outs: usize) -> bool {
         (0..self.used - outs).all(|k| self.kept(k))

@@ -5,6 +5,7 @@ extern crate unproved;
 
 #[rustfmt::skip] // calls of many arguments
 mod calls;
+mod cards;
 mod compare;
 mod elementary;
 mod ends_vectors;
@@ -65,6 +66,7 @@ fn main() {
     part("operations", &mut |t| compare::run(count, seed, option("--only"), t));
     part("order lists", &mut |t| orders::run(seed, t));
     part("tanks", &mut |t| tank::run(count / 4, seed, t));
+    part("fuel cards", &mut |t| cards::run(count / 2, seed, t));
     part("exact run", &mut |t| exact::run(option("--exact").unwrap_or(count / 100), seed, t));
     part("arbitrary bits", &mut |t| fuzz::run(option("--fuzz").unwrap_or(count / 4), seed, t));
     tally.print("answers met");

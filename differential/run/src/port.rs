@@ -7,6 +7,7 @@ type BytesIn = *const u8;
 type BytesOut = *mut u8;
 type WholesOut = *mut u64;
 type Len = usize;
+type CountOut = *mut usize;
 
 /// The energies and their ends are called alike.
 #[rustfmt::skip]
@@ -49,6 +50,8 @@ boundary! {
     VRQ_RECORD_M = domthelv_vrq_record_m(f64);
     // count; out: how many pass, meet 4, meet 5
     ORDER_COUNTS = domthelv_order_counts(usize, WholesOut, Len);
+    // card; model, count, set_m, set_lists, set_sheets, set_orders
+    CARD_PARAMETERS = domthelv_card_parameters(BytesIn, Len, BytesOut, CountOut, Out, Len, Out, Len, Out, Len, BytesOut, Len);
     // count, m, sigma, epsilon_k, lr, la, mass, order, k_ij, l_ij; set_m, set_sheets, set_orders
     VRQ_PARAMETERS = domthelv_vrq_parameters(
         usize, In, Len, In, Len, In, Len, In, Len, In, Len, In, Len, BytesIn, Len, In, Len, In, Len,

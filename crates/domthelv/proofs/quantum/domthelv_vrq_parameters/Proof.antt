@@ -1,77 +1,90 @@
--- `domthelv::quantum::domthelv_vrq_parameters` meets its contract. Assumes nothing.
-use Rattle.set_lists.proofs.Sets.{lengths}
-use Rattle.stages.proofs.Given.{quantum-held, quantum-refused}
-use Rattle.domthelv.proofs.Operations.{parameters-1, parameters-refused, parameters-held, refused-status, refused-stored, held-status, held-stored}
-use Rattle.domthelv.specs.Operations.{QuantumLent, setWritten}
+use Rattle.set_lists.specs.Written.{QuantumLent, MieLent, setWritten, mieWritten}
+use Rattle.stages.proofs.Given.{quantum-held, quantum-refused, mie-held, mie-refused}
+use Rattle.domthelv.proofs.Operations.{parameters-1, parameters-refused, parameters-held, mie-parameters-1, mie-parameters-refused, mie-parameters-held, refused-status, refused-stored, held-status, held-stored, through-status}
 use Rattle.number.proofs.Walk.{told}
 use borrow.Author.Tests.{not-true, not-false}
-use native.Mathlib.Omega.{arith}
 use mathlib.Core.Path.{refl, ap, _∙_}
 use Rattle.mie_parameters.specs.Answer.{numberOf}
 use borrow.Author.Needs.{needs}
 use Rattle.domthelv.proofs.quantum.domthelv_vrq_parameters.Statement.{statement}
 use Rattle.domthelv.proofs.quantum.domthelv_vrq_parameters.Tie as tie
+use Rattle.domthelv.proofs.quantum.domthelv_vrq_parameters.Reads as reads
+use Rattle.domthelv.proofs.quantum.domthelv_vrq_parameters.Lts as lts
+use Rattle.mie_parameters.proofs.number.Reads as number-reads
+use Rattle.saftvrqmie_parameters.proofs.parameters.Reads as parameters-reads
+use Rattle.set_lists.proofs.quantum_lengths.Reads as quantum-lengths-reads
+use Rattle.set_lists.proofs.write_quantum.Reads as write-quantum-reads
 
+-- src/quantum.rt:98:9
 quantum-lengths-requires : tie.Need-quantum-lengths-requires
 quantum-lengths-requires c κs = search needs
 
+-- src/quantum.rt:99:9
 same-length : tie.Need-same-length
 same-length c = search needs
 
+-- src/quantum.rt:99:9
 same-length-2 : tie.Need-same-length-2
 same-length-2 c = search needs
 
+-- src/quantum.rt:99:9
 same-length-3 : tie.Need-same-length-3
 same-length-3 c = search needs
 
+-- src/quantum.rt:99:9
 returns : tie.Need-returns
 returns c = let q = parameters-1 _ _ (told ((c .before .quantum-lengths) .ensures) (not-true _ ((c .if1) .taken))) in (refused-status _ _ _ refl q, ap (λ (l : QuantumLent). l .m) (refused-stored _ _ _ q), ap (λ (l : QuantumLent). l .sheets) (refused-stored _ _ _ q), ap (λ (l : QuantumLent). l .orders) (refused-stored _ _ _ q))
 
+-- src/quantum.rt:101:9
 parameters-requires : tie.Need-parameters-requires
 parameters-requires c κs = search needs
 
 enum-told : tie.Need-enum-told
 enum-told c = search needs
 
+-- src/quantum.rt:115:9
 enum-told-2 : tie.Need-enum-told-2
 enum-told-2 c = search needs
 
+-- src/quantum.rt:115:9
 number-requires : tie.Need-number-requires
 number-requires c κs = search needs
 
+-- src/quantum.rt:115:9
 same-length-4 : tie.Need-same-length-4
 same-length-4 c = search needs
 
+-- src/quantum.rt:115:9
 same-length-5 : tie.Need-same-length-5
 same-length-5 c = search needs
 
+-- src/quantum.rt:115:9
 same-length-6 : tie.Need-same-length-6
 same-length-6 c = search needs
 
+-- src/quantum.rt:115:9
 returns-2 : tie.Need-returns-2
 returns-2 c = let q = (parameters-refused _ _ _ (told ((c .before .before .before .before .before .quantum-lengths) .ensures) (not-false _ ((c .before .before .before .before .if1) .left))) (quantum-refused _ _ _ ((c .before .before .before .parameters) .ensures) ((c .before .enum-told2) .given .1))) in (refused-status _ _ _ (((c .number) .ensures) ∙ ap numberOf ((c .before .enum-told2) .given .1)) q, ap (λ (l : QuantumLent). l .m) (refused-stored _ _ _ q), ap (λ (l : QuantumLent). l .sheets) (refused-stored _ _ _ q), ap (λ (l : QuantumLent). l .orders) (refused-stored _ _ _ q))
 
-write-places-requires : tie.Need-write-places-requires
-write-places-requires c κs = let h = lengths _ _ _ (told ((c .before .before .before .before .before .before .before .before .quantum-lengths) .ensures) (not-false _ ((c .before .before .before .before .before .before .before .if1) .left))) .places in omega (arith, h)
+-- src/quantum.rt:118:5
+write-quantum-requires : tie.Need-write-quantum-requires
+write-quantum-requires c κs = (told ((c .before .before .before .before .before .before .before .before .quantum-lengths) .ensures) (not-false _ ((c .before .before .before .before .before .before .before .if1) .left)))
 
-write-sheets-requires : tie.Need-write-sheets-requires
-write-sheets-requires c κs = let h = lengths _ _ _ (told ((c .before .before .before .before .before .before .before .before .before .before .before .before .before .before .quantum-lengths) .ensures) (not-false _ ((c .before .before .before .before .before .before .before .before .before .before .before .before .before .if1) .left))) .flat in omega (arith, h)
-
-orders-written-requires : tie.Need-orders-written-requires
-orders-written-requires c κs = lengths _ _ _ (told ((c .before .before .before .before .before .before .before .before .before .before .before .before .before .before .before .before .before .before .before .quantum-lengths) .ensures) (not-false _ ((c .before .before .before .before .before .before .before .before .before .before .before .before .before .before .before .before .before .before .if1) .left))) .records
-
+-- src/quantum.rt:64:1
 same-length-7 : tie.Need-same-length-7
 same-length-7 c = search needs
 
+-- src/quantum.rt:64:1
 same-length-8 : tie.Need-same-length-8
 same-length-8 c = search needs
 
+-- src/quantum.rt:64:1
 same-length-9 : tie.Need-same-length-9
 same-length-9 c = search needs
 
+-- src/quantum.rt:64:1
 returns-3 : tie.Need-returns-3
-unfolding setWritten
-returns-3 c = let q = (parameters-held _ _ _ (told ((c .before .before .before .before .before .before .before .before .before .before .before .before .before .before .before .before .before .before .before .before .before .before .quantum-lengths) .ensures) (not-false _ ((c .before .before .before .before .before .before .before .before .before .before .before .before .before .before .before .before .before .before .before .before .before .if1) .left))) (quantum-held _ _ ((c .before .before .before .before .before .before .before .before .before .before .before .before .before .before .before .before .before .before .before .before .parameters) .ensures) ((c .before .before .before .before .before .before .before .before .before .before .before .before .before .before .before .before .before .before .enum-told) .given .1))) in (held-status _ _ q, ((c .before .before .before .before .before .before .before .before .before .before .before .before .before .write-places) .ensures) ∙ ap (λ (l : QuantumLent). l .m) (held-stored _ _ _ q), ((c .before .before .before .before .before .before .before .write-sheets) .ensures) ∙ ap (λ (l : QuantumLent). l .sheets) (held-stored _ _ _ q), ((c .before .before .orders-written) .ensures) ∙ ap (λ (l : QuantumLent). l .orders) (held-stored _ _ _ q))
+returns-3 c = let q = (parameters-held _ _ _ (told ((c .before .before .before .before .before .before .before .before .before .before .before .before .before .before .before .quantum-lengths) .ensures) (not-false _ ((c .before .before .before .before .before .before .before .before .before .before .before .before .before .before .if1) .left))) (quantum-held _ _ ((c .before .before .before .before .before .before .before .before .before .before .before .before .before .parameters) .ensures) ((c .before .before .before .before .before .before .before .before .before .before .before .enum-told) .given .1))) in (held-status _ _ q, ((c .before .before .before .before .before .before .write-quantum) .ensures .0) ∙ ap (λ (l : QuantumLent). l .m) (held-stored _ _ _ q), ((c .before .before .before .before .before .before .write-quantum) .ensures .1) ∙ ap (λ (l : QuantumLent). l .sheets) (held-stored _ _ _ q), ((c .before .before .before .before .before .before .write-quantum) .ensures .2) ∙ ap (λ (l : QuantumLent). l .orders) (held-stored _ _ _ q))
 
 pub domthelv-vrq-parameters-spec : {M : Type 1} → statement M
 domthelv-vrq-parameters-spec =
@@ -90,9 +103,7 @@ domthelv-vrq-parameters-spec =
     same-length-5
     same-length-6
     returns-2
-    write-places-requires
-    write-sheets-requires
-    orders-written-requires
+    write-quantum-requires
     same-length-7
     same-length-8
     same-length-9

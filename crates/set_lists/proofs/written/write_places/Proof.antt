@@ -1,22 +1,21 @@
--- `domthelv::places::write_sheets` meets its contract. Assumes nothing.
-use Rattle.domthelv.specs.Sets.{placed}
+-- `set_lists::written::write_places` meets its contract. Assumes nothing.
+use Rattle.set_lists.specs.Written.{placed}
 use Rattle.number.specs.Lists.{at}
-use Rattle.sizes.specs.Sizes.{sheet}
-use Prim.Native.Nat.{_*_}
+use Rattle.sizes.specs.Sizes.{side}
 use Prim.Native.Nat.{_+_, _≤_, _-_}
 use mathlib.Core.Path.{_≡_, refl}
 use Rattle.number.specs.Walk.{turns}
 use Rattle.number.proofs.Walk.{turns-none, turns-next, turns-end}
 use lib.ListN.{set, length}
 use borrow.Author.Needs.{needs}
-use Rattle.domthelv.proofs.places.write_sheets.Statement.{statement}
-use Rattle.domthelv.proofs.places.write_sheets.Tie as tie
+use Rattle.set_lists.proofs.written.write_places.Statement.{statement}
+use Rattle.set_lists.proofs.written.write_places.Tie as tie
 
 abbrev Inv-loop : tie.InvT-loop
-Inv-loop d l₀ to i₀ l i = (i ≤ 6 * sheet) × (length l ≡ length l₀) × (l ≡ turns i (λ i s. set s (to + i) (at d i)) l₀)
+Inv-loop d l₀ to i₀ l i = (i ≤ side) × (length l ≡ length l₀) × (l ≡ turns i (λ i s. set s (to + i) (at d i)) l₀)
 
 abbrev μ-loop : tie.MeasureT-loop
-μ-loop d l₀ to i₀ l i = 6 * sheet - i
+μ-loop d l₀ to i₀ l i = side - i
 
 loop-holds : tie.Need-loop-holds Inv-loop μ-loop
 loop-holds c = (search needs, refl, turns-none _ _)
@@ -52,8 +51,8 @@ returns : tie.Need-returns Inv-loop μ-loop
 unfolding placed
 returns c = turns-end _ _ _ _ _ ((c .before .loop) .inv .0) ((c .loop-test) .left) ((c .before .loop) .inv .2)
 
-pub write-sheets-spec : {M : Type 1} → statement M
-write-sheets-spec =
+pub write-places-spec : {M : Type 1} → statement M
+write-places-spec =
     tie.close
     (tie.spec
     Inv-loop

@@ -1,5 +1,5 @@
--- `domthelv::quantum::orders_written` meets its contract. Assumes nothing.
-use Rattle.domthelv.specs.Sets.{ordersWritten}
+-- `set_lists::written::orders_written` meets its contract. Assumes nothing.
+use Rattle.set_lists.specs.Written.{ordersWritten}
 use Rattle.saftvrqmie_parameters.specs.Parameters.{unused}
 use Rattle.saftvrqmie_potential.specs.Potential.{orderNumber}
 use Rattle.sizes.specs.Sizes.{sheet}
@@ -9,8 +9,8 @@ use Rattle.number.specs.Walk.{turns}
 use Rattle.number.proofs.Walk.{turns-none, turns-next, turns-end}
 use lib.ListN.{set, getD, length}
 use borrow.Author.Needs.{needs}
-use Rattle.domthelv.proofs.quantum.orders_written.Statement.{statement}
-use Rattle.domthelv.proofs.quantum.orders_written.Tie as tie
+use Rattle.set_lists.proofs.written.orders_written.Statement.{statement}
+use Rattle.set_lists.proofs.written.orders_written.Tie as tie
 
 abbrev Inv-loop : tie.InvT-loop
 Inv-loop l₀ orders e₀ l e = (e ≤ sheet) × (length l ≡ sheet) × (l ≡ turns e (λ e s. set s e (orderNumber (getD orders e unused .order))) l₀)

@@ -1,8 +1,8 @@
--- `domthelv::mie::write_lists` meets its contract. Assumes nothing.
-use Rattle.domthelv.specs.Sets.{listsWritten}
+-- `set_lists::written::write_lists` meets its contract. Assumes nothing.
+use Rattle.set_lists.specs.Written.{listsWritten}
 use borrow.Author.Needs.{needs}
-use Rattle.domthelv.proofs.mie.write_lists.Statement.{statement}
-use Rattle.domthelv.proofs.mie.write_lists.Tie as tie
+use Rattle.set_lists.proofs.written.write_lists.Statement.{statement}
+use Rattle.set_lists.proofs.written.write_lists.Tie as tie
 
 write-places-requires : tie.Need-write-places-requires
 write-places-requires c κs = search needs
