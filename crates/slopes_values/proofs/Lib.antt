@@ -1,0 +1,5 @@
+pub mod OneSided
+pub mod Full
+pub mod Fewer
+pub mod Searches
+pub mod Values
