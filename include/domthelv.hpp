@@ -37,6 +37,9 @@ enum class refusal : std::uint8_t {
     domain = DOMTHELV_DOMAIN,
     not_finite = DOMTHELV_NOT_FINITE,
     no_ends = DOMTHELV_NO_ENDS,
+    short_card = DOMTHELV_SHORT_CARD,
+    card_heading = DOMTHELV_CARD_HEADING,
+    card_filling = DOMTHELV_CARD_FILLING,
     layers = DOMTHELV_LAYERS
 };
 
@@ -51,6 +54,9 @@ inline const char *text(refusal r) noexcept {
     case refusal::domain: return "an elementary function's argument is outside its domain";
     case refusal::not_finite: return "a result is not finite";
     case refusal::no_ends: return "two ends cannot be given";
+    case refusal::short_card: return "a card is too short for the field in hand";
+    case refusal::card_heading: return "a card's model is not known, or its count is outside";
+    case refusal::card_filling: return "a filling bit of a card is 1, or bytes are left over";
     case refusal::layers: return "a tank's layer count is outside";
     }
     return "a number that is no refusal";

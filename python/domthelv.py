@@ -30,6 +30,9 @@ TEXTS = {
     6: "an elementary function's argument is outside its domain",
     7: "a result is not finite",
     8: "two ends cannot be given",
+    9: "a card is too short for the field in hand",
+    10: "a card's model is not known, or its count is outside",
+    11: "a filling bit of a card is 1, or bytes are left over",
     14: "a tank's layer count is outside",
 }
 
