@@ -8,18 +8,18 @@ use Rattle.dual.specs.Dual.{DualOf, plainD}
 use Rattle.slopes.specs.Mixed.{Mixed, plain, sloped}
 
 module _ (E : Answers) where
-  -- 'A real power, of x0 too, has slope exponent · (power with exponent − 1) · a'': the slope's own power may be refused
+  -- A real power, of x0 too, has slope exponent · (power with exponent − 1) · a'; the slope's own power may be refused.
   unfoldable pub realPower : DualOf Float → Float → Ans (DualOf Float)
   realPower x e =
       E .powf (x .re) e >>= λ v.
       E .powf (x .re) (floats .sub e (decimal false 1 0)) >>= λ w.
       held (record { re = v; eps = floats .mul (floats .mul e w) (x .eps) })
 
-  -- 'exp its value · a''
+  -- exp has its value · a'
   unfoldable pub expD : DualOf Float → Ans (DualOf Float)
   expD x = E .exp (x .re) >>= λ v. held (record { re = v; eps = floats .mul v (x .eps) })
 
-  -- '`ln_1p` a'/(1 + a)'
+  -- `ln_1p` has a'/(1 + a)
   unfoldable pub ln1pD : DualOf Float → Ans (DualOf Float)
   ln1pD x = E .ln1p (x .re) >>= λ v. held (record { re = v; eps = floats .div (x .eps) (floats .add (decimal false 1 0) (x .re)) })
 
