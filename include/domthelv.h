@@ -97,7 +97,7 @@ enum domthelv_table_sheet { /* the sheets of a temperature table */
 };
 
 /* The most stack that a call takes, in bytes; a test adds up the frames of the built library. */
-#define DOMTHELV_STACK 65536
+#define DOMTHELV_STACK 73728
 
 /* What a call gives: 0, or why it was refused. */
 enum domthelv_refusal {
