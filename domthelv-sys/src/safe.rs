@@ -729,7 +729,7 @@ mod tests {
         let state = State { temperature: 30.0, fractions: &[0.5, 0.5], densities: &[0.0, 0.0] };
         let table = set.table(30.0).unwrap();
         assert_eq!(set.energies(&state, &table.values, true), Err(Refusal::NotFinite));
-        assert_eq!((0..=255).filter_map(Refusal::of).map(Refusal::number).collect::<Vec<_>>(), [1, 2, 3, 4, 5, 6, 7, 8]);
+        assert_eq!((0..=255).filter_map(Refusal::of).map(Refusal::number).collect::<Vec<_>>(), [1, 2, 3, 4, 5, 6, 7, 8, 9, 10, 11, 14]);
     }
 
     /// Bits, most significant first.
