@@ -208,7 +208,7 @@ class Cases:
         port, calls = c.get("elementary", "Port", "port")(), c.get("number", "Functions", "calls")
         tables = lambda l: c.get("saftvrqmie_tank", "Tank", "tablesOf")(s, tank, l)
         run = lambda a: lambda l: lambda table: c.get("saftvrqmie_energies", "Energies", "contributionsOf")(a, calls(a, port), s, layers[l][0], (1.0,), (layers[l][1],), table, True)
-        exacts = c.get("enclosure", "Exact", "exacts")()
+        exacts = c.get("enclosure", "Exact", "exacts")(choices(c)[0])
         exact = c.get("saftvrqmie_tank", "Tank", "tankRun")(exacts, tank, tables, True, run(exacts))
         float_run = c.get("saftvrqmie_tank", "Tank", "tank")(s, tank, True)
         ends = c.get("saftvrqmie_tank_ends", "TankEnds", "tankEnds")(s, tank, True)
