@@ -1,0 +1,12 @@
+-- `number::of_bits` meets its contract. Assumes nothing.
+use lib.Ieee.{div, of_bits}
+use Rattle.number.proofs.Bits.{plain, nan_read}
+use Rattle.std.proofs.Common.{rules}
+use Rattle.number.proofs.of_bits.Goals as goal
+
+pub float_from_bits-result : goal.float_from_bits-result
+float_from_bits-result c = plain c.args.n c.if-n-gt9218868437227405312.false
+
+pub returns-then-n-gt9218868437227405312 : goal.returns-then-n-gt9218868437227405312
+unfolding div of_bits
+returns-then-n-gt9218868437227405312 c = nan_read c.args.n c.if-n-gt9218868437227405312.true
