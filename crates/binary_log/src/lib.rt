@@ -1,6 +1,8 @@
 // The binary logarithm of an f64 from 1/32 to 32, in fixed point: stage one of the power.
 // With m the significand and j its upper 7 bits, c = factors[j] makes m c at most 1, by less than 2^-6.9, and 1 - m c is exact. So log2 m = - log2 c - (the series of - log2 (1 - r) at r = 1 - m c): a table and eight terms, all positive, even and odd ones apart so that the two chains run side by side.
 // Error, in units of 2^-61: the table's floor 1 one way; the eight terms' floors and the terms left out 17/16 the other way.
+#![tactic(auto)]
+
 ghost use Rattle.std.specs.Prelude.{◌≡◌, ◌<◌, ◌≤◌, ◌^◌, get_or};
 ghost use Rattle.number.specs.Domain.{base_inside};
 ghost use Rattle.binary_log.specs.Tables.{log_factors, logs};
@@ -9,7 +11,7 @@ ghost use Rattle.binary_log.specs.BinaryLog.{eight_terms, significand_log, log_o
 use fixed_point::{high_product, term_step};
 
 // A base with its binary logarithm: the size in units of 2^-61, and whether it is below 0.
-#[derive(Drop)]
+#[derive(Clone, Copy)]
 pub struct Log {
     pub base: f64,
     pub size: u64,

@@ -87,6 +87,7 @@ numeral_next i l h = rw (add-one, take-suc l i false h, numeral_append (take i l
 -- a digit of a number
 pub digit_at : (w v i : ℕ) → i < w → cond (get_or (digits w v) i false) 1 0 ≡ v / 2 ^ (w - 1 - i) % 2
 unfolding digits
+digit_at zero v i h = elim h [ ]
 digit_at (suc w) v zero h =
     let b : v / 2 ^ w % 2 < 2 = omega arith in
     let e : suc w - 1 - 0 ≡ w = omega arith in

@@ -1,4 +1,6 @@
 // Fields of bits in a list of bytes, most significant first: read and written at any position.
+#![tactic(auto)]
+
 ghost use Rattle.std.specs.Prelude.{◌≡◌, false, cond, ◌+◌, ◌*◌, ◌%◌, ◌^◌, ◌<◌, ◌≤◌, min, length, get_or, take, drop};
 ghost use Rattle.bit_fields.specs.Bits.{numeral, digits, bits_of, over};
 

@@ -1,4 +1,6 @@
 // The fuel card, read as patterns of 64 bits: field by field, by its list of fields.
+#![tactic(auto)]
+
 ghost use Rattle.std.specs.Prelude.{◌≡◌, ◌+◌, ◌*◌, ◌-◌, ◌^◌, ◌<◌, ◌≤◌, length, get_or, drop};
 ghost use Rattle.bit_fields.specs.Bits.{bits_of};
 ghost use Rattle.card.specs.Fields.{read_plain, read_spared, read_field, read_fields};
@@ -14,38 +16,38 @@ pub const NEWER_MOST: usize = 12;
 pub const VALUES: usize = 204;
 
 // How a field is stored.
-#[derive(Drop)]
+#[derive(Clone, Copy)]
 pub struct Field {
     pub width: usize,
     pub spared: bool,
 }
 
-#[derive(Drop)]
+#[derive(Clone, Copy)]
 pub struct FieldValue {
     pub value: u64,
     pub end: usize,
 }
 
-#[derive(Drop)]
+#[derive(Clone, Copy)]
 pub enum FieldAnswer {
     Value(FieldValue),
     Refused(u8),
 }
 
-#[derive(Drop)]
+#[derive(Clone, Copy)]
 pub enum EndAnswer {
     At(usize),
     Refused(u8),
 }
 
 // A card's kind (0 quantum, 1 SAFT-VR Mie) and count.
-#[derive(Drop)]
+#[derive(Clone, Copy)]
 pub struct Heading {
     pub kind: usize,
     pub count: usize,
 }
 
-#[derive(Drop)]
+#[derive(Clone, Copy)]
 pub enum CardAnswer {
     Card(Heading),
     Refused(u8),

@@ -1,4 +1,6 @@
 // A card's numbers as component lists: floats from patterns, and pairs in their square.
+#![tactic(auto)]
+
 ghost use Rattle.std.specs.Prelude.{◌≡◌, [], ◌∷◌, ◌++◌, ◌+◌, ◌*◌, ◌-◌, ◌<◌, ◌≤◌, min, max, length, take};
 ghost use Rattle.sizes.specs.Sizes.{side, sheet};
 ghost use Rattle.card.specs.Fields.{joined};

@@ -1,4 +1,6 @@
 // Runs the cards of data/cards.bin through the operations behind the C boundary. A record is 1600 bytes: the card's length, least significant byte first, in the first two; in the third 0 for an older card to be read, 1 for a newer one, 2 for an older card to be moved, 3 for a newer one; in the fifth and sixth the length of the list that a moved card is written to; the card from the ninth on. Writes for a card that is read the answer, the model, the count, and the bits of two entries of the first sheet, for one that is moved the answer, the length and the list. Then those of data/written.bin, component lists of which a card is written: 300 words, least significant byte first, laid out as docs/VECTORS.md says.
+#![tactic(auto)]
+
 ghost use Rattle.std.specs.Prelude.{◌<◌};
 
 use sizes::{LISTS, SHEET, SHEETS, SIDE};

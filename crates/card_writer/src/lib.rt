@@ -1,4 +1,6 @@
 // The fuel card, written by the list of fields that it is read by, and moved from one form to the other.
+#![tactic(auto)]
+
 ghost use Rattle.std.specs.Prelude.{◌≡◌, not, ◌++◌, ◌+◌, ◌*◌, ◌^◌, ◌<◌, ◌≤◌, length, drop};
 ghost use Rattle.bit_fields.specs.Bits.{bits_of, over};
 ghost use Rattle.mie_parameters.specs.Answer.{verdict, stored};

@@ -1,4 +1,5 @@
 // What a worked case hands to a call: numbers and lists at the fixed places of docs/VECTORS.md.
+#![tactic(auto)]
 
 pub fn number_at(f: &[f64], at: usize) -> f64 {
     if at < f.len() {

@@ -1,4 +1,6 @@
 // Works the calls of data/cases.bin on the C boundary and compares the number and every bit of what was lent with the file's. The file is lines of four words, least significant byte first; docs/VECTORS.md says which. Writes each case's name and number, what differs, and how many.
+#![tactic(auto)]
+
 ghost use Rattle.std.specs.Prelude.{◌<◌, ◌≤◌};
 
 mod mie;

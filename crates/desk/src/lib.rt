@@ -1,4 +1,6 @@
 // One desk for quantum queries over two lent lists: begin, submit, serve. Any two lists are taken, and nothing outside them is touched.
+#![tactic(auto)]
+
 ghost use Rattle.std.specs.Prelude.{◌≡◌, true, not, cond, ◌+◌, ◌*◌, ◌<◌, ◌≤◌, length};
 ghost use Rattle.sizes.specs.Sizes.{side};
 ghost use Rattle.set_lists.specs.Sets.{QuantumLists, quantum_lengths};
@@ -23,7 +25,7 @@ pub const LAST_AT: usize = PLACE_BYTES * PLACES;
 pub const BYTES: usize = LAST_AT + 1;
 
 // What a call of `serve` tells.
-#[derive(Drop)]
+#[derive(Clone, Copy)]
 pub enum DeskAnswer {
     Idle,
     Worked,
@@ -32,7 +34,7 @@ pub enum DeskAnswer {
 }
 
 // The place of an accepted query.
-#[derive(Drop)]
+#[derive(Clone, Copy)]
 pub enum PlaceAnswer {
     At(usize),
     Refused(u8),

@@ -1,4 +1,6 @@
 // The desk's calls as they cross the C boundary: a number for the answer, and what is told in places that the caller lends.
+#![tactic(auto)]
+
 ghost use Rattle.std.specs.Prelude.{◌≡◌, length};
 ghost use Rattle.mie_parameters.specs.Answer.{status, stored};
 ghost use Rattle.saftvrqmie_energies.specs.Energies.{energies_answer};

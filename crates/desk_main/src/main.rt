@@ -1,4 +1,6 @@
 // Works the calls of data/calls.bin at one desk, through the operations behind the C boundary. A record is eight words, least significant byte first; docs/VECTORS.md says which. Writes for each call its answer and what it tells.
+#![tactic(auto)]
+
 ghost use Rattle.std.specs.Prelude.{◌<◌};
 
 use desk::{BYTES, FLOATS};

@@ -1,4 +1,6 @@
 // A place of the desk: a query comes in, a pair is read and stored where it lies, the energies are worked from the whole table.
+#![tactic(auto)]
+
 ghost use Rattle.std.specs.Prelude.{◌≡◌, true, cond, ◌++◌, [], ◌+◌, ◌*◌, ◌<◌, ◌≤◌, length, get_or, drop};
 ghost use Rattle.number.specs.Lists.{at};
 ghost use Rattle.sizes.specs.Sizes.{side, sheet};
@@ -24,7 +26,7 @@ use sizes::table::{EPSILON_K_EFF, HS_DIAMETER, QUANTUM_D};
 use sizes::{SIDE, TABLE};
 
 // What a unit leaves: the query goes on, or is finished with an answer.
-#[derive(Drop)]
+#[derive(Clone, Copy)]
 pub enum UnitAnswer {
     Going,
     Done(EnergiesAnswer),

@@ -1,4 +1,6 @@
 // The C boundary: each function takes lists apart, calls a proved operation and stores its result.
+#![tactic(auto)]
+
 mod card_writing;
 mod cards;
 mod desks;

@@ -1,10 +1,12 @@
 // Dual numbers in floats: a value and a slope, by document 01's slope rules.
+#![tactic(auto)]
+
 ghost use Rattle.std.specs.Prelude.{◌≡◌};
 ghost use Rattle.number.specs.Arith.{floats};
 ghost use Rattle.dual.specs.Dual.{plain_d, add_d, sub_d, mul_d, div_d, neg_d, pow_d, down_d};
 ghost use Rattle.dual.specs.Value.{dual_of};
 
-#[derive(Drop)]
+#[derive(Clone, Copy)]
 pub struct Dual {
     pub re: f64,
     pub eps: f64,

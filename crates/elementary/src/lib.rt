@@ -1,4 +1,6 @@
 // The seven elementary functions, as the formulas call them: a value, or that an argument is outside its domain.
+#![tactic(auto)]
+
 ghost use Rattle.std.specs.Prelude.{◌≡◌};
 ghost use Rattle.number.specs.Answer.{answer};
 ghost use Rattle.elementary.specs.Port.{port};

@@ -1,4 +1,6 @@
 // The elementary functions in the two-ended run: the float run's answer as a point, after its arguments.
+#![tactic(auto)]
+
 ghost use Rattle.std.specs.Prelude.{◌≡◌};
 ghost use Rattle.number.specs.Functions.{calls};
 ghost use Rattle.elementary.specs.Port.{port};

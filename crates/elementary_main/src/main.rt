@@ -1,5 +1,7 @@
 // Runs the vectors of data/vectors.bin through the elementary functions. A record is four words, least significant byte first: which function, two
 // arguments' bits, and the answer's bits, or all ones for a refusal. Writes for each function how many answers were as they should be.
+#![tactic(auto)]
+
 ghost use Rattle.std.specs.Prelude.{◌<◌};
 
 use number::FloatAnswer;

@@ -1,4 +1,6 @@
 // Enclosures: the float run's value beside its two ends, for branches and for the arguments of elementary calls.
+#![tactic(auto)]
+
 ghost use Rattle.std.specs.Prelude.{◌≡◌};
 ghost use Rattle.number.specs.Arith as Arith;
 ghost use Rattle.number.specs.Functions.{answered, answered₂};
@@ -10,28 +12,28 @@ ghost use Rattle.enclosure.specs.Ends.{ends_alone};
 use interval::Interval;
 use number::FloatAnswer;
 
-#[derive(Drop)]
+#[derive(Clone, Copy)]
 pub struct Enclosure {
     pub value: f64,
     pub ends: Interval,
 }
 
 // What a formula answers in the two-ended run.
-#[derive(Drop)]
+#[derive(Clone, Copy)]
 pub enum EnclosureAnswer {
     Value(Enclosure),
     Outside,
 }
 
 // Document 01's two ends, as a two-ended operation reports them.
-#[derive(Drop)]
+#[derive(Clone, Copy)]
 pub struct Ends {
     pub lower: f64,
     pub upper: f64,
 }
 
 // What a two-ended operation answers: the ends, or a refusal's number.
-#[derive(Drop)]
+#[derive(Clone, Copy)]
 pub enum EndsAnswer {
     Held(Ends),
     Refused(u8),

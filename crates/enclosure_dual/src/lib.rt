@@ -1,4 +1,6 @@
 // Dual numbers in the two-ended run: a value and a slope, both enclosures, by document 01's slope rules.
+#![tactic(auto)]
+
 ghost use Rattle.std.specs.Prelude.{◌≡◌};
 ghost use Rattle.number.specs.Arith.{zero64};
 ghost use Rattle.enclosure.specs.Enclosure.{enclosures, mul_e, point};
@@ -8,7 +10,7 @@ ghost use Rattle.enclosure_dual.specs.Value.{dual_of, about_zero};
 use enclosure::Enclosure;
 use interval::Interval;
 
-#[derive(Drop)]
+#[derive(Clone, Copy)]
 pub struct EnclosureDual {
     pub re: Enclosure,
     pub eps: Enclosure,

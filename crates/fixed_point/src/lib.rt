@@ -1,4 +1,6 @@
 // Fixed point in u64, for the elementary functions: products, quotients, Horner's rule, and the way back to f64. Each result is rounded down, so an error is at most one unit a step and has one sign.
+#![tactic(auto)]
+
 ghost use Rattle.std.specs.Prelude.{◌≡◌, ◌+◌, ◌*◌, ◌/◌, ◌^◌, ◌≤◌, ◌<◌};
 ghost use Rattle.std.specs.Int.Count.{count_leading_zeros};
 ghost use Rattle.fixed_point.specs.Quotient.{quotient};

@@ -1,5 +1,7 @@
 // Intervals: two ends in f64 that each operation moves one float outward, and whether all on the way was sound.
 // The usual way of an operation is inlined: operands in order, a positive factor or divisor, results on one side of zero and away from it and from the largest f64. There two corners are the least and the greatest, and a step is one pattern further. Everything else goes out of line.
+#![tactic(auto)]
+
 ghost use Rattle.std.specs.Prelude.{◌≡◌, ◌&&◌, cond};
 ghost use Rattle.std.specs.Float.{binary64};
 ghost use Rattle.std.specs.Float.Ieee.{lt, neg, mul};
@@ -8,7 +10,7 @@ ghost use Rattle.interval.specs.Interval.{point, outward, around, add_i, sub_i, 
 ghost use Rattle.interval.specs.Worked.{worked_of};
 
 // Document 01's two ends. `sound` is false once a divisor's ends touched zero or an end was not finite.
-#[derive(Drop)]
+#[derive(Clone, Copy)]
 pub struct Interval {
     pub lower: f64,
     pub upper: f64,
@@ -16,14 +18,14 @@ pub struct Interval {
 }
 
 // The operations that go out of line together. One function for the three is too large to be inlined, as is wanted.
-#[derive(Drop)]
+#[derive(Clone, Copy)]
 enum Operation {
     Sum,
     Difference,
     Quotient,
 }
 
-#[derive(Drop)]
+#[derive(Clone, Copy)]
 struct Operands {
     operation: Operation,
     sound: bool,

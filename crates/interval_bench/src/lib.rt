@@ -1,4 +1,6 @@
 // One operation again and again, for the benchmark: each turn waits for the one before it.
+#![tactic(auto)]
+
 ghost use Rattle.std.specs.Prelude.{◌≡◌};
 ghost use Rattle.interval_bench.specs.Repeat.{float_step, interval_step, float_repeat, interval_repeat};
 

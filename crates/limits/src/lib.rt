@@ -1,4 +1,6 @@
 // Document 01's limits of what is taken, shared by both models.
+#![tactic(auto)]
+
 ghost use Rattle.std.specs.Prelude.{◌≡◌, ◌*◌, ◌<◌, ◌≤◌, length};
 ghost use Rattle.number.specs.Lists.{at};
 ghost use Rattle.sizes.specs.Sizes.{side};
@@ -6,7 +8,7 @@ ghost use Rattle.number.specs.Walk.{every};
 ghost use Rattle.limits.specs.Limits.{square, components, in_limits, count_within, index_within, component_within, components_within, all_within, masses_within, segments_within, shares_within, temperature_within, state_within, same_bits, pair_within, pairs_within, all_one};
 
 // The numbers of one component that both models take.
-#[derive(Drop)]
+#[derive(Clone, Copy)]
 pub struct Component {
     pub sigma: f64,
     pub epsilon_k: f64,

@@ -2,6 +2,8 @@
 // ln x: x = 2^k w with 2/3 <= w < 4/3, which is document 01's own way, so no seam stands between the two. With z = (w - 1) / (w + 1) the series 2 (z + z^3/3 + ..) has 11 terms here, all positive, and is worked relative to z; k ln 2 is added in units of 2^-54.
 // ln (1 + v): below 2^-54 in size v is the answer; below 1/4 w is 1 + v, k is 0 and z = v / (2 + v); from 1/4 on 1 + v is a whole number of v's last places, and goes the way of ln.
 // Error budget, relative, 2^-48 being allowed. k = 0: 111 units of at least 2^59 (terms left out 104, quotient, square, series and product 7), then one rounding: 2^-51.5. Else 4 units of at least 2^51 (k ln 2, w's part), then one rounding: 2^-48.9. v for ln (1 + v): 2^-55.
+#![tactic(auto)]
+
 ghost use Rattle.std.specs.Prelude.{not, ◌≡◌, ◌+◌, ◌*◌, ◌/◌, ◌%◌, ◌^◌, ◌≤◌, ◌<◌, T};
 ghost use Rattle.std.specs.Float.{binary64};
 ghost use Rattle.std.specs.Float.Ieee.{is_nan, to_bits};

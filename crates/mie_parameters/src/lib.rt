@@ -1,4 +1,6 @@
 // What both models share: constants, the tables of their dispersion; of their parameters the combining rules of a Mie pair, the answer, and lists in their places.
+#![tactic(auto)]
+
 ghost use Rattle.std.specs.Prelude.{◌≡◌, ◌≤◌, length};
 ghost use Rattle.number.specs.Answer.{answer};
 ghost use Rattle.number.specs.Arith.{floats};
@@ -44,14 +46,14 @@ pub const LAM_COEFF: [[f64; 4]; 4] = [
 ];
 
 // Held, or the refusal's number; the set stands beside it.
-#[derive(Drop)]
+#[derive(Clone, Copy)]
 pub enum ParameterAnswer {
     Held,
     Refused(u8),
 }
 
 // What an operation answers that gives one number: it, or the refusal's.
-#[derive(Drop)]
+#[derive(Clone, Copy)]
 pub enum NumberAnswer {
     Value(f64),
     Refused(u8),

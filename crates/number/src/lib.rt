@@ -1,4 +1,6 @@
 // Floats by their bits, the lesser and the greater of two, and the whole power.
+#![tactic(auto)]
+
 ghost use Rattle.std.specs.Prelude.{◌≡◌, ◌<◌, from_bits, to_bits};
 ghost use Rattle.std.specs.Float.{binary64};
 ghost use Rattle.std.specs.Float.Ieee.Scale.{finite};
@@ -7,7 +9,7 @@ ghost use Rattle.number.specs.Arith as Arith;
 ghost use Rattle.number.specs.Arith.{floats};
 
 // What a call in floats answers: a value, or that an elementary function's argument lies outside its domain.
-#[derive(Drop)]
+#[derive(Clone, Copy)]
 pub enum FloatAnswer {
     Value(f64),
     Outside,

@@ -1,15 +1,17 @@
 // How the order lists fall: of all lists of orders 0 to 3, how many pass the walk over the pairs, meet 4 and meet 5.
+#![tactic(auto)]
+
 ghost use Rattle.std.specs.Prelude.{◌≡◌, ◌+◌, ◌*◌, ◌-◌, ◌^◌, ◌≤◌};
 ghost use Rattle.order_counts.specs.Counts.{counts_answer, order_counts};
 
-#[derive(Drop)]
+#[derive(Clone, Copy)]
 pub struct OrderCounts {
     pub passing: u64,
     pub meeting_4: u64,
     pub meeting_5: u64,
 }
 
-#[derive(Drop)]
+#[derive(Clone, Copy)]
 pub enum CountsAnswer {
     Counts(OrderCounts),
     Refused(u8),

@@ -1,4 +1,6 @@
 // The made-up formulas in floats.
+#![tactic(auto)]
+
 ghost use Rattle.std.specs.Prelude.{◌≡◌, length};
 ghost use Rattle.number.specs.Lists.{at};
 ghost use Rattle.number.specs.Answer.{answer};

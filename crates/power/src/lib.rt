@@ -1,5 +1,7 @@
 // powf(base, exponent), base 1/32 to 32, exponent -192 to 192, in stages: the base's binary logarithm (`log_base`), the exponent in fixed point (`exponent`), and `raise`, which multiplies the two and takes 2 to the product (`raise_core`). A caller that needs several powers of one base works its logarithm once; the bits stay those of `powf`.
 // Error, as a part of the power: the logarithm's 17/16 units of 2^-61 by 192 ln 2, 2^-53.8; the exponent's and the product's floors, 13/8 units of 2^-53 by ln 2, 2^-52.8; the core's table and series, 2^-54.5, and the rounding to an f64, 2^-53. In all less than 2^-50. Exponent 1 gives the base itself; exponents 0 and base 1 come out as 1.
+#![tactic(auto)]
+
 ghost use Rattle.std.specs.Prelude.{◌≡◌, ◌*◌, ◌^◌, ◌≤◌, ◌<◌};
 ghost use Rattle.number.specs.Answer.{answer};
 ghost use Rattle.number.specs.Domain.{exponent_inside};
@@ -11,7 +13,7 @@ use fixed_point::{high_product, shift_right};
 use number::FloatAnswer;
 
 // An exponent in fixed point: the size in units of 2^-56, whether it is below 0, and whether it is 1.
-#[derive(Drop)]
+#[derive(Clone, Copy)]
 pub struct FixedExponent {
     pub size: u64,
     pub negative: bool,

@@ -1,4 +1,6 @@
 // Fourteen powers of one base, for the benchmark: the base's logarithm is worked once.
+#![tactic(auto)]
+
 ghost use Rattle.std.specs.Prelude.{◌≡◌};
 ghost use Rattle.power_bench.specs.Powers.{fourteen_powers};
 

@@ -5,6 +5,8 @@
 // is the result's significand.
 // Error budget: none. A step of Newton's never comes out above the reciprocal, so that no digits are too large; what all of them leave is at
 // most 4 times the root, so that one correction reaches the whole root, and no midpoint of two floats is the root of a float.
+#![tactic(auto)]
+
 ghost use Rattle.std.specs.Prelude.{◌≡◌, ◌+◌, ◌-◌, ◌*◌, ◌/◌, ◌^◌, ◌≤◌, ◌<◌, get_or};
 ghost use Rattle.number.specs.Answer.{answer};
 ghost use Rattle.root.specs.Root.{root, positive_root, whole_root};

@@ -139,6 +139,7 @@ module _ {S P Q A : Type 0} (D : Shelf S P) (W : Work P Q A) (K : Apart D) (E : 
 
   own_unit : (q : Q) (k u d : ℕ) (s : S) (t : Step P A) → k < places → d < places → Right s → Whole (left_in t) → Goes (Holds q) (answer q) u t → Serves q k u d (leaves D W s k t)
   unfolding leaves heard
+  own_unit q k zero d s t h b r w x5 = elim x5 [ ]
   own_unit q k (suc u) d s (going p) h b r w (goes x) =
       let f = after_unit s k p r h w in
       on u 15 (omega arith) (omega arith)
@@ -194,6 +195,7 @@ module _ {S P Q A : Type 0} (D : Shelf S P) (W : Work P Q A) (K : Apart D) (E : 
   -- ---- the bound
 
   some_left : (q : Q) (u : ℕ) (t : Step P A) → Goes (Holds q) (answer q) u t → 1 ≤ u
+  some_left q zero t x' = elim x' [ ]
   some_left q (suc u) t (goes x) = omega arith
   some_left q (suc u) t (ends x) = omega arith
 

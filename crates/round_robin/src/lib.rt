@@ -1,4 +1,6 @@
 // A desk served in turn, over any places and any work: the order of service, and how long a query waits. Definitions and laws, and the step from one place to the next.
+#![tactic(auto)]
+
 ghost use Rattle.std.specs.Prelude.{◌≡◌, ◌+◌, ◌<◌};
 ghost use Rattle.round_robin.specs.Desk.{above};
 

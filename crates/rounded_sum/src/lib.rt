@@ -1,11 +1,13 @@
 // The sum of two floats, rounded, and what the rounding left as a second float.
+#![tactic(auto)]
+
 ghost use Rattle.std.specs.Prelude.{◌≡◌};
 ghost use Rattle.std.specs.Float.{binary64};
 ghost use Rattle.std.specs.Float.Ieee.{add, sub};
 ghost use Rattle.number.specs.Arith.{zero64};
 ghost use Rattle.rounded_sum.specs.RoundedSum.{rounded_sum};
 
-#[derive(Drop)]
+#[derive(Clone, Copy)]
 pub struct RoundedSum {
     pub sum: f64,
     pub remainder: f64,

@@ -1,4 +1,6 @@
 // The chain of SAFT-VR Mie (saftvrmie/eos/dispersion.rs) in the two-ended run: a component's first two orders with slopes by the segment density, and what it adds to a_chain.
+#![tactic(auto)]
+
 mod chain;
 mod lost_slopes;
 mod orders;
@@ -10,7 +12,7 @@ use enclosure::Enclosure;
 use enclosure_dual::EnclosureDual;
 
 // What all pairs of a state share, with slopes by the segment density.
-#[derive(Drop)]
+#[derive(Clone, Copy)]
 pub struct FluidDuals {
     pub segment_density: EnclosureDual,
     pub zeta_x: EnclosureDual,
@@ -21,7 +23,7 @@ pub struct FluidDuals {
 }
 
 // a1s_b at la, lr, 2 la, la + lr, 2 lr.
-#[derive(Drop)]
+#[derive(Clone, Copy)]
 pub struct FiveDuals {
     pub at_la: EnclosureDual,
     pub at_lr: EnclosureDual,
@@ -31,7 +33,7 @@ pub struct FiveDuals {
 }
 
 // The first and the second order of a component, with the sums that they are made of.
-#[derive(Drop)]
+#[derive(Clone, Copy)]
 pub struct OrdersDuals {
     pub five: FiveDuals,
     pub a1: EnclosureDual,
@@ -39,26 +41,26 @@ pub struct OrdersDuals {
 }
 
 // What only the chain reads of a component and of the state; t_inv is 1/T.
-#[derive(Drop)]
+#[derive(Clone, Copy)]
 pub struct LinkEnclosures {
     pub m: Enclosure,
     pub fraction: Enclosure,
     pub t_inv: Enclosure,
 }
 
-#[derive(Drop)]
+#[derive(Clone, Copy)]
 pub enum DualsAnswer {
     At(EnclosureDual),
     Outside,
 }
 
-#[derive(Drop)]
+#[derive(Clone, Copy)]
 pub enum FiveDualsAnswer {
     At(FiveDuals),
     Outside,
 }
 
-#[derive(Drop)]
+#[derive(Clone, Copy)]
 pub enum OrdersDualsAnswer {
     At(OrdersDuals),
     Outside,

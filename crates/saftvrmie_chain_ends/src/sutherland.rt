@@ -12,7 +12,7 @@ use enclosure_dual::EnclosureDual;
 use saftvrmie_dispersion_ends::LambdaEnclosures;
 
 // The powers 2, 3 and 4 of a number.
-#[derive(Drop)]
+#[derive(Clone, Copy)]
 struct PowersDuals {
     second: EnclosureDual,
     third: EnclosureDual,

@@ -1,4 +1,6 @@
 // The temperature-dependent diameter of SAFT-VR Mie (saftvrmie/parameters.rs): lower limit by Halley's method, 10-node rule.
+#![tactic(auto)]
+
 ghost use Rattle.std.specs.Prelude.{◌≡◌, true, ◌<◌};
 ghost use Rattle.number.specs.Answer.{answer};
 ghost use Rattle.number.specs.Arith.{floats};
@@ -16,14 +18,14 @@ use power::FixedExponent;
 const LN_EPSILON: f64 = -36.04365338911715;
 
 // A pair's exponents in fixed point: its powers at one radius share the radius' logarithm.
-#[derive(Drop)]
+#[derive(Clone, Copy)]
 pub struct Exponents {
     pub lr: FixedExponent,
     pub la: FixedExponent,
 }
 
 // What one evaluation gives: the function and the step.
-#[derive(Drop)]
+#[derive(Clone, Copy)]
 pub enum HalleyAnswer {
     At(f64, f64),
     Outside,

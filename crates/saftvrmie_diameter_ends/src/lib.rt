@@ -1,4 +1,6 @@
 // The diameter of a pair from its reduced lower limit (saftvrmie/parameters.rs, `hs_diameter_ij`) in the two-ended run, and as a two-ended operation.
+#![tactic(auto)]
+
 ghost use Rattle.std.specs.Prelude.{◌≡◌, ◌+◌, ◌*◌, ◌<◌};
 ghost use Rattle.number.specs.Functions.{calls};
 ghost use Rattle.number.specs.Lists.{at};

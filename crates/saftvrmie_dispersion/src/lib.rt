@@ -1,4 +1,6 @@
 // What a pair and a component add to the Helmholtz energies of SAFT-VR Mie (saftvrmie/eos/dispersion.rs), in floats; the chain's pure terms in dual numbers. The powers of one x0 share its logarithm.
+#![tactic(auto)]
+
 mod chain;
 mod orders;
 mod slopes;
@@ -11,7 +13,7 @@ pub use crate::sutherland::{a1s_ij, fluid_of, k_hs, zeta_eff};
 use dual::Dual;
 
 // What all pairs of a state share: b1, b2 and b3 are the factors of `b_ij` that hang on zeta_x alone.
-#[derive(Drop)]
+#[derive(Clone, Copy)]
 pub struct Fluid {
     pub segment_density: f64,
     pub zeta_x: f64,
@@ -22,7 +24,7 @@ pub struct Fluid {
 }
 
 // The same with slopes by the segment density.
-#[derive(Drop)]
+#[derive(Clone, Copy)]
 pub struct FluidDual {
     pub segment_density: Dual,
     pub zeta_x: Dual,
@@ -33,7 +35,7 @@ pub struct FluidDual {
 }
 
 // zeta_x_bar and its powers 5 and 8.
-#[derive(Drop)]
+#[derive(Clone, Copy)]
 pub struct Bar {
     pub zeta_x_bar: f64,
     pub zx5: f64,
@@ -41,7 +43,7 @@ pub struct Bar {
 }
 
 // a1s_b at la, lr, 2 la, la + lr, 2 lr.
-#[derive(Drop)]
+#[derive(Clone, Copy)]
 pub struct Five {
     pub at_la: f64,
     pub at_lr: f64,
@@ -50,7 +52,7 @@ pub struct Five {
     pub at_2lr: f64,
 }
 
-#[derive(Drop)]
+#[derive(Clone, Copy)]
 pub struct FiveDual {
     pub at_la: Dual,
     pub at_lr: Dual,
@@ -60,7 +62,7 @@ pub struct FiveDual {
 }
 
 // The first and the second order of a component, with the sums that they are made of.
-#[derive(Drop)]
+#[derive(Clone, Copy)]
 pub struct OrdersDual {
     pub five: FiveDual,
     pub a1: Dual,
@@ -68,7 +70,7 @@ pub struct OrdersDual {
 }
 
 // The three orders of a pair, and the chi that corrects the second.
-#[derive(Drop)]
+#[derive(Clone, Copy)]
 pub struct Terms {
     pub a1: f64,
     pub a2: f64,
@@ -76,7 +78,7 @@ pub struct Terms {
     pub xi: f64,
 }
 
-#[derive(Drop)]
+#[derive(Clone, Copy)]
 pub struct Sums {
     pub a1: f64,
     pub a2: f64,
@@ -85,7 +87,7 @@ pub struct Sums {
 }
 
 // The k-values of the hard spheres' pair correlation function.
-#[derive(Drop)]
+#[derive(Clone, Copy)]
 pub struct KValues {
     pub k0: f64,
     pub k1: f64,
@@ -94,38 +96,38 @@ pub struct KValues {
 }
 
 // What only the chain reads of a component and of the state; t_inv is 1/T.
-#[derive(Drop)]
+#[derive(Clone, Copy)]
 pub struct Link {
     pub m: f64,
     pub fraction: f64,
     pub t_inv: f64,
 }
 
-#[derive(Drop)]
+#[derive(Clone, Copy)]
 pub enum FiveAnswer {
     At(Five),
     Outside,
 }
 
-#[derive(Drop)]
+#[derive(Clone, Copy)]
 pub enum OrdersDualAnswer {
     At(OrdersDual),
     Outside,
 }
 
-#[derive(Drop)]
+#[derive(Clone, Copy)]
 pub enum TermsAnswer {
     At(Terms),
     Outside,
 }
 
-#[derive(Drop)]
+#[derive(Clone, Copy)]
 pub enum SumsAnswer {
     At(Sums),
     Outside,
 }
 
-#[derive(Drop)]
+#[derive(Clone, Copy)]
 pub enum KAnswer {
     At(KValues),
     Outside,

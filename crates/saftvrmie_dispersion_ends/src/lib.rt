@@ -1,4 +1,6 @@
 // What a pair and a component add to the Helmholtz energies of SAFT-VR Mie (saftvrmie/eos/dispersion.rs) in the two-ended run.
+#![tactic(auto)]
+
 ghost use Rattle.std.specs.Prelude.{◌≡◌};
 ghost use Rattle.number.specs.Functions.{calls};
 ghost use Rattle.elementary.specs.Port.{port};
@@ -18,7 +20,7 @@ use mie_parameters::{LAM_COEFF, PHI};
 use saftvrmie_parameters::PairParameters;
 
 // What all pairs of a state share: b1, b2 and b3 are the factors of `b_ij` that hang on zeta_x alone.
-#[derive(Drop)]
+#[derive(Clone, Copy)]
 pub struct FluidEnclosures {
     pub segment_density: Enclosure,
     pub zeta_x: Enclosure,
@@ -29,7 +31,7 @@ pub struct FluidEnclosures {
 }
 
 // zeta_x_bar and its powers 5 and 8.
-#[derive(Drop)]
+#[derive(Clone, Copy)]
 pub struct BarEnclosures {
     pub zeta_x_bar: Enclosure,
     pub zx5: Enclosure,
@@ -37,7 +39,7 @@ pub struct BarEnclosures {
 }
 
 // What the sums work of an exponent alone: lambda - 3, lambda - 4, and the rows of C at 1 / lambda.
-#[derive(Drop)]
+#[derive(Clone, Copy)]
 pub struct LambdaEnclosures {
     pub l3: Enclosure,
     pub l4: Enclosure,
@@ -48,7 +50,7 @@ pub struct LambdaEnclosures {
 }
 
 // a1s_b at la, lr, 2 la, la + lr, 2 lr.
-#[derive(Drop)]
+#[derive(Clone, Copy)]
 pub struct FiveEnclosures {
     pub at_la: Enclosure,
     pub at_lr: Enclosure,
@@ -58,7 +60,7 @@ pub struct FiveEnclosures {
 }
 
 // `f` of the six rows of PHI at one alpha.
-#[derive(Drop)]
+#[derive(Clone, Copy)]
 pub struct SixEnclosures {
     pub f0: Enclosure,
     pub f1: Enclosure,
@@ -69,7 +71,7 @@ pub struct SixEnclosures {
 }
 
 // The three orders of a pair, and the chi that corrects the second.
-#[derive(Drop)]
+#[derive(Clone, Copy)]
 pub struct TermsEnclosures {
     pub a1: Enclosure,
     pub a2: Enclosure,
@@ -77,7 +79,7 @@ pub struct TermsEnclosures {
     pub xi: Enclosure,
 }
 
-#[derive(Drop)]
+#[derive(Clone, Copy)]
 pub struct SumsEnclosures {
     pub a1: Enclosure,
     pub a2: Enclosure,
@@ -85,19 +87,19 @@ pub struct SumsEnclosures {
     pub a_chain: Enclosure,
 }
 
-#[derive(Drop)]
+#[derive(Clone, Copy)]
 pub enum FiveEnclosuresAnswer {
     At(FiveEnclosures),
     Outside,
 }
 
-#[derive(Drop)]
+#[derive(Clone, Copy)]
 pub enum TermsEnclosuresAnswer {
     At(TermsEnclosures),
     Outside,
 }
 
-#[derive(Drop)]
+#[derive(Clone, Copy)]
 pub enum SumsEnclosuresAnswer {
     At(SumsEnclosures),
     Outside,

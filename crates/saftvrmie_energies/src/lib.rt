@@ -1,4 +1,6 @@
 // Helmholtz energies of SAFT-VR Mie on a set (saftvrmie/eos/dispersion.rs): `Properties::new`, dispersion, and dispersion with chain.
+#![tactic(auto)]
+
 ghost use Rattle.std.specs.Prelude.{◌≡◌, ℕ, ◌<◌, ◌≤◌, Float, length};
 ghost use Rattle.number.specs.Answer.{answer};
 ghost use Rattle.number.specs.Arith.{floats};
@@ -26,7 +28,7 @@ use sizes::mie_set::{ALPHA_IJ, C_IJ, EPSILON_K_IJ, LA_IJ, LR_IJ};
 use sizes::{SHEETS, SIDE};
 
 // What of `Properties::new` dispersion reads.
-#[derive(Drop)]
+#[derive(Clone, Copy)]
 pub struct Properties {
     pub segment_density: f64,
     pub zeta_x: f64,
@@ -34,7 +36,7 @@ pub struct Properties {
 }
 
 // An energy, or the refusal's number.
-#[derive(Drop)]
+#[derive(Clone, Copy)]
 pub enum EnergyAnswer {
     Value(f64),
     Refused(u8),

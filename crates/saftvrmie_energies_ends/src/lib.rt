@@ -1,4 +1,6 @@
 // Helmholtz energies of SAFT-VR Mie on a set (saftvrmie/eos/dispersion.rs) in the two-ended run: dispersion, and dispersion with chain.
+#![tactic(auto)]
+
 ghost use Rattle.std.specs.Prelude.{◌≡◌, false, ℕ, ◌<◌, ◌≤◌, length};
 ghost use Rattle.number.specs.Arith.{decimal};
 ghost use Rattle.number.specs.Functions.{calls};

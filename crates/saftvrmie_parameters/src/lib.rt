@@ -1,4 +1,6 @@
 // SAFT-VR Mie parameters (saftvrmie/parameters.rs): from component lists to the set of pair values.
+#![tactic(auto)]
+
 ghost use Rattle.std.specs.Prelude.{◌≡◌, ◌*◌, ◌<◌, ◌≤◌, length};
 ghost use Rattle.number.specs.Ans.{refused};
 ghost use Rattle.number.specs.Answer.{answer};
@@ -30,13 +32,13 @@ pub struct SaftVRMiePars {
     pub sheets: [f64; SHEETS],
 }
 
-#[derive(Drop)]
+#[derive(Clone, Copy)]
 pub struct ParameterSet {
     pub answer: ParameterAnswer,
     pub set: SaftVRMiePars,
 }
 
-#[derive(Drop)]
+#[derive(Clone, Copy)]
 pub struct PairParameters {
     pub sigma: f64,
     pub epsilon_k: f64,
@@ -46,7 +48,7 @@ pub struct PairParameters {
     pub alpha: f64,
 }
 
-#[derive(Drop)]
+#[derive(Clone, Copy)]
 pub enum PairAnswer {
     At(PairParameters),
     Outside,

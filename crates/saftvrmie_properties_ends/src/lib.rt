@@ -1,4 +1,6 @@
 // `Properties::new` of SAFT-VR Mie (saftvrmie/eos/dispersion.rs) in the two-ended run.
+#![tactic(auto)]
+
 ghost use Rattle.std.specs.Prelude.{◌≡◌, false, ◌<◌, ◌≤◌, length};
 ghost use Rattle.number.specs.Arith.{decimal};
 ghost use Rattle.number.specs.Functions.{calls};
@@ -17,7 +19,7 @@ use enclosure::{Enclosure, EnclosureAnswer};
 use sizes::{SHEETS, SIDE};
 
 // k0 to k3 of the hard spheres' pair correlation function.
-#[derive(Drop)]
+#[derive(Clone, Copy)]
 pub struct KEnclosures {
     pub k0: Enclosure,
     pub k1: Enclosure,
@@ -25,13 +27,13 @@ pub struct KEnclosures {
     pub k3: Enclosure,
 }
 
-#[derive(Drop)]
+#[derive(Clone, Copy)]
 pub enum KEnclosuresAnswer {
     At(KEnclosures),
     Outside,
 }
 
-#[derive(Drop)]
+#[derive(Clone, Copy)]
 pub struct PropertiesEnclosures {
     pub segment_density: Enclosure,
     pub zeta_x: Enclosure,
@@ -39,7 +41,7 @@ pub struct PropertiesEnclosures {
     pub k: KEnclosures,
 }
 
-#[derive(Drop)]
+#[derive(Clone, Copy)]
 pub enum PropertiesEnclosuresAnswer {
     At(PropertiesEnclosures),
     Outside,

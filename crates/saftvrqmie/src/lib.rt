@@ -1,4 +1,6 @@
 // Operations of SAFT-VRQ Mie on a set: the temperature table (saftvrqmie/eos/mod.rs), and a pair's searches and diameter.
+#![tactic(auto)]
+
 ghost use Rattle.std.specs.Prelude.{◌≡◌, ◌+◌, ◌*◌, ◌<◌, ◌≤◌, length, take, drop};
 ghost use Rattle.number.specs.Arith.{floats};
 ghost use Rattle.number.specs.Functions.{calls};
@@ -21,7 +23,7 @@ use sizes::table::{EPSILON_K_EFF, HS_DIAMETER, QUANTUM_D, SIGMA_EFF};
 use sizes::{COUNTS, SHEET, SHEETS, SIDE, TABLE};
 
 // What the three searches of a pair give, each with its count.
-#[derive(Drop)]
+#[derive(Clone, Copy)]
 pub struct PairSearches {
     pub sigma: Search,
     pub zero: Search,
@@ -31,7 +33,7 @@ pub struct PairSearches {
     pub depth_count: u8,
 }
 
-#[derive(Drop)]
+#[derive(Clone, Copy)]
 pub enum SearchesAnswer {
     Searched(PairSearches),
     Refused(u8),

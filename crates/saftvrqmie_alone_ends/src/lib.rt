@@ -1,5 +1,7 @@
 // The quantum Mie potential u (saftvrqmie/eos/hard_sphere.rs) in the two-ended run, where of its derivatives only counts whether they are sound.
 // Of a tame pair they are, at each sound radius from 1 to 32: there u is worked alone, by the radius' logarithm, and no flag on the way.
+#![tactic(auto)]
+
 ghost use Rattle.std.specs.Prelude.{◌≡◌};
 ghost use Rattle.number.specs.Functions.{calls};
 ghost use Rattle.elementary.specs.Port.{port};
@@ -17,7 +19,7 @@ use power::FixedExponent;
 use saftvrqmie_potential_ends::{PairShared, PotentialEnclosuresAnswer};
 
 // What u alone asks of a pair beside what its radii share: the exponents, the orders, and whether the pair is tame.
-#[derive(Drop)]
+#[derive(Clone, Copy)]
 pub struct Alone {
     pub er0: FixedExponent,
     pub ea0: FixedExponent,
@@ -31,7 +33,7 @@ pub struct Alone {
 }
 
 // An enclosure that is known to be sound.
-#[derive(Drop)]
+#[derive(Clone, Copy)]
 pub struct Sure {
     pub value: f64,
     pub lower: f64,

@@ -1,4 +1,6 @@
 // Alpha of a pair and its functions (saftvrqmie/eos/dispersion.rs) in the two-ended run, with chi and the third order perturbation.
+#![tactic(auto)]
+
 ghost use Rattle.std.specs.Prelude.{◌≡◌};
 ghost use Rattle.number.specs.Functions.{calls};
 ghost use Rattle.elementary.specs.Port.{port};

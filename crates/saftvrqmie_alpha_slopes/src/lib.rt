@@ -1,4 +1,6 @@
 // Alpha of a pair and its functions (saftvrqmie/eos/dispersion.rs), the third perturbation and the compressibility factor, with slopes (document 02, Slip 1): the definitions of saftvrqmie_dispersion read at mixed numbers.
+#![tactic(auto)]
+
 ghost use Rattle.std.specs.Prelude.{◌≡◌};
 ghost use Rattle.number.specs.Arith.{floats};
 ghost use Rattle.elementary.specs.Port.{port};

@@ -1,5 +1,7 @@
 // The dispersion of SAFT-VRQ Mie for one pair (saftvrqmie/eos/dispersion.rs), in floats: alpha and its functions, the three perturbations.
 // Whole powers are written out; 1.0 is the first factor of each.
+#![tactic(auto)]
+
 ghost use Rattle.std.specs.Prelude.{◌≡◌, ◌+◌, ◌*◌};
 ghost use Rattle.number.specs.Answer.{answer};
 ghost use Rattle.number.specs.Arith.{floats};
@@ -17,7 +19,7 @@ use saftvrqmie_parameters::FeynmanHibbsOrder;
 use saftvrqmie_potential::Pair;
 
 // What both perturbations of a pair take.
-#[derive(Drop)]
+#[derive(Clone, Copy)]
 pub struct DispersionPair {
     pub la: f64,
     pub lr: f64,
@@ -31,7 +33,7 @@ pub struct DispersionPair {
 }
 
 // The quantum contributions of first and second order to the two exponents.
-#[derive(Drop)]
+#[derive(Clone, Copy)]
 pub struct Quantum {
     pub qa1: f64,
     pub qr1: f64,
@@ -40,7 +42,7 @@ pub struct Quantum {
 }
 
 // The factors of a turn of the second order.
-#[derive(Drop)]
+#[derive(Clone, Copy)]
 pub struct Factors {
     pub afac: f64,
     pub rfac: f64,

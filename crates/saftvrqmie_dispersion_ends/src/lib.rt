@@ -1,4 +1,6 @@
 // First and second order perturbation of a pair (saftvrqmie/eos/dispersion.rs) in the two-ended run.
+#![tactic(auto)]
+
 ghost use Rattle.std.specs.Prelude.{◌≡◌, ◌+◌, ◌*◌};
 ghost use Rattle.number.specs.Functions.{calls};
 ghost use Rattle.elementary.specs.Port.{port};
@@ -16,7 +18,7 @@ use saftvrqmie_parameters::FeynmanHibbsOrder;
 use saftvrqmie_potential_ends::PairEnclosures;
 
 // What both perturbations of a pair take.
-#[derive(Drop)]
+#[derive(Clone, Copy)]
 pub struct DispersionEnclosures {
     pub la: Enclosure,
     pub lr: Enclosure,
@@ -30,7 +32,7 @@ pub struct DispersionEnclosures {
 }
 
 // The quantum contributions of first and second order to the two exponents.
-#[derive(Drop)]
+#[derive(Clone, Copy)]
 pub struct Quantum {
     pub qa1: Enclosure,
     pub qr1: Enclosure,
@@ -39,7 +41,7 @@ pub struct Quantum {
 }
 
 // The factors of a turn of the second order.
-#[derive(Drop)]
+#[derive(Clone, Copy)]
 pub struct Factors {
     pub afac: Enclosure,
     pub rfac: Enclosure,

@@ -1,4 +1,6 @@
 // The first and second perturbation of a pair (saftvrqmie/eos/dispersion.rs) with slopes (document 02, Slip 1): the definitions of saftvrqmie_dispersion read at mixed numbers.
+#![tactic(auto)]
+
 ghost use Rattle.std.specs.Prelude.{◌≡◌, ◌+◌, ◌*◌};
 ghost use Rattle.elementary.specs.Port.{port};
 ghost use Rattle.dual.specs.Value.{dual_of};
@@ -19,7 +21,7 @@ use saftvrqmie_potential::Pair;
 use slopes::DualAnswer;
 
 // What both perturbations of a pair take.
-#[derive(Drop)]
+#[derive(Clone, Copy)]
 pub struct DualDispersionPair {
     pub la: f64,
     pub lr: f64,
@@ -33,7 +35,7 @@ pub struct DualDispersionPair {
 }
 
 // The quantum contributions of first and second order to the two exponents.
-#[derive(Drop)]
+#[derive(Clone, Copy)]
 pub struct DualQuantum {
     pub qa1: Dual,
     pub qr1: Dual,
@@ -42,7 +44,7 @@ pub struct DualQuantum {
 }
 
 // The factors of a turn of the second order.
-#[derive(Drop)]
+#[derive(Clone, Copy)]
 pub struct DualFactors {
     pub afac: Dual,
     pub rfac: Dual,

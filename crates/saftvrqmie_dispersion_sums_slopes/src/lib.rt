@@ -1,4 +1,6 @@
 // The dispersion's contribution (saftvrqmie/eos/dispersion.rs) with slopes (document 02, Slip 1): segment and packing fractions, alphas, the sums of the three orders, read at mixed numbers.
+#![tactic(auto)]
+
 ghost use Rattle.std.specs.Prelude.{◌≡◌, cond, ◌*◌, ◌<◌, ◌≤◌, eqb, length};
 ghost use Rattle.number.specs.Arith.{floats, whole};
 ghost use Rattle.number.specs.Lists.{nth};
@@ -27,7 +29,7 @@ use saftvrqmie_parameters::OrderRecord;
 use sizes::{SHEET, SHEETS, SIDE, TABLE};
 use slopes::DualAnswer;
 
-#[derive(Drop)]
+#[derive(Clone, Copy)]
 pub struct SegmentSlopes {
     pub rho_s: Dual,
     pub zeta: Dual,

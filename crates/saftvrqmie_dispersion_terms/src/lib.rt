@@ -1,5 +1,7 @@
 // The Sutherland and B terms of a pair (saftvrqmie/eos/dispersion.rs, `eta_eff` to `combine_sutherland_and_b`), in floats.
 // What all exponents of a pair share is worked once (`PairTerms`): the logarithms of the two bases, and what hangs on the packing fraction alone. Of the five powers of a term three differ; each is worked once.
+#![tactic(auto)]
+
 ghost use Rattle.std.specs.Prelude.{◌≡◌};
 ghost use Rattle.number.specs.Answer.{answer};
 ghost use Rattle.number.specs.Arith.{floats};
@@ -14,7 +16,7 @@ use mie_parameters::LAM_COEFF;
 use number::FloatAnswer;
 
 // What all exponents of a pair share.
-#[derive(Drop)]
+#[derive(Clone, Copy)]
 pub struct PairTerms {
     pub epsilon_k: f64,
     pub zeta: f64,
@@ -24,7 +26,7 @@ pub struct PairTerms {
     pub x0_eff: Log,
 }
 
-#[derive(Drop)]
+#[derive(Clone, Copy)]
 pub enum TermsAnswer {
     At(PairTerms),
     Outside,

@@ -1,4 +1,6 @@
 // The Sutherland and B terms of a pair (saftvrqmie/eos/dispersion.rs, `eta_eff` to `combine_sutherland_and_b`) in the two-ended run.
+#![tactic(auto)]
+
 ghost use Rattle.std.specs.Prelude.{◌≡◌};
 ghost use Rattle.number.specs.Functions.{calls};
 ghost use Rattle.elementary.specs.Port.{port};
@@ -13,7 +15,7 @@ use enclosure::{Enclosure, EnclosureAnswer};
 use mie_parameters::LAM_COEFF;
 
 // A base of powers with its logarithm, which holds where the base is inside the power's domain.
-#[derive(Drop)]
+#[derive(Clone, Copy)]
 pub struct Base {
     pub x: Enclosure,
     pub inside: bool,
@@ -21,7 +23,7 @@ pub struct Base {
 }
 
 // What all exponents of a pair share.
-#[derive(Drop)]
+#[derive(Clone, Copy)]
 pub struct PairTerms {
     pub epsilon_k: Enclosure,
     pub zeta: Enclosure,

@@ -1,5 +1,7 @@
 // The Sutherland and B terms of a pair (saftvrqmie/eos/dispersion.rs, `eta_eff` to `combine_sutherland_and_b`) with slopes (document 02, Slip 1).
 // What all exponents of a pair share is worked once (`PairSlopes`): the logarithms of the two bases, and what hangs on the packing fraction alone.
+#![tactic(auto)]
+
 ghost use Rattle.std.specs.Prelude.{◌≡◌};
 ghost use Rattle.number.specs.Arith.{floats};
 ghost use Rattle.elementary.specs.Port.{port};
@@ -16,7 +18,7 @@ use mie_parameters::LAM_COEFF;
 use slopes::DualAnswer;
 
 // What all exponents of a pair share.
-#[derive(Drop)]
+#[derive(Clone, Copy)]
 pub struct PairSlopes {
     pub epsilon_k: f64,
     pub zeta: Dual,
@@ -28,7 +30,7 @@ pub struct PairSlopes {
     pub x0_eff_slope: f64,
 }
 
-#[derive(Drop)]
+#[derive(Clone, Copy)]
 pub enum PairSlopesAnswer {
     At(PairSlopes),
     Outside,

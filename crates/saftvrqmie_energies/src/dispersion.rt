@@ -20,7 +20,7 @@ use saftvrqmie_parameters::OrderRecord;
 use sizes::table::{EPSILON_K_EFF, HS_DIAMETER, QUANTUM_D, SIGMA_EFF};
 use sizes::{SHEET, SHEETS, SIDE};
 
-#[derive(Drop)]
+#[derive(Clone, Copy)]
 struct SegmentState {
     rho_s: f64,
     zeta: f64,

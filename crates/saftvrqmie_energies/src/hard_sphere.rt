@@ -13,7 +13,7 @@ use mie_parameters::PI;
 use number::FloatAnswer;
 use sizes::SIDE;
 
-#[derive(Drop)]
+#[derive(Clone, Copy)]
 pub struct Zetas {
     pub z0: f64,
     pub z1: f64,
@@ -21,7 +21,7 @@ pub struct Zetas {
     pub z3: f64,
 }
 
-#[derive(Drop)]
+#[derive(Clone, Copy)]
 struct Zeta23 {
     y0: f64,
     y1: f64,

@@ -1,4 +1,6 @@
 // The Helmholtz energy densities of SAFT-VRQ Mie: hard sphere, dispersion, non-additive (saftvrqmie/eos).
+#![tactic(auto)]
+
 ghost use Rattle.std.specs.Prelude.{◌≡◌, ◌*◌, ◌≤◌, length, cond};
 ghost use Rattle.number.specs.Arith.{floats, zero64};
 ghost use Rattle.number.specs.Functions.{calls};
@@ -18,14 +20,14 @@ use number::FloatAnswer;
 use saftvrqmie_parameters::{OrderRecord, SaftVRQMiePars};
 use sizes::{SHEET, SHEETS, SIDE, TABLE};
 
-#[derive(Drop)]
+#[derive(Clone, Copy)]
 pub struct QuantumEnergies {
     pub hard_sphere: f64,
     pub dispersion: f64,
     pub non_additive: f64,
 }
 
-#[derive(Drop)]
+#[derive(Clone, Copy)]
 pub enum EnergiesAnswer {
     Energies(QuantumEnergies),
     Refused(u8),

@@ -21,7 +21,7 @@ use saftvrqmie_dispersion_ends::DispersionEnclosures;
 use saftvrqmie_parameters::OrderRecord;
 use sizes::{SHEET, SHEETS, SIDE};
 
-#[derive(Drop)]
+#[derive(Clone, Copy)]
 struct MixtureEnclosures {
     rho_s: Enclosure,
     zeta: Enclosure,

@@ -13,7 +13,7 @@ use crate::state;
 use enclosure::{Enclosure, EnclosureAnswer};
 use sizes::SIDE;
 
-#[derive(Drop)]
+#[derive(Clone, Copy)]
 pub struct ZetaEnclosures {
     pub z0: Enclosure,
     pub z1: Enclosure,
@@ -21,7 +21,7 @@ pub struct ZetaEnclosures {
     pub z3: Enclosure,
 }
 
-#[derive(Drop)]
+#[derive(Clone, Copy)]
 struct Zeta23Enclosures {
     y0: Enclosure,
     y1: Enclosure,

@@ -1,4 +1,6 @@
 // The Helmholtz energy densities of SAFT-VRQ Mie (saftvrqmie/eos) in the two-ended run: hard sphere, dispersion, non-additive.
+#![tactic(auto)]
+
 ghost use Rattle.std.specs.Prelude.{◌≡◌, ◌*◌, ◌≤◌, length, cond};
 ghost use Rattle.number.specs.Arith.{zero64};
 ghost use Rattle.number.specs.Functions.{calls};
@@ -25,28 +27,28 @@ use saftvrqmie_parameters::{OrderRecord, SaftVRQMiePars};
 use sizes::{SHEET, SHEETS, SIDE};
 
 // The two ends of each contribution.
-#[derive(Drop)]
+#[derive(Clone, Copy)]
 pub struct EnergiesEnds {
     pub hard_sphere: Ends,
     pub dispersion: Ends,
     pub non_additive: Ends,
 }
 
-#[derive(Drop)]
+#[derive(Clone, Copy)]
 pub enum EnergiesEndsAnswer {
     Held(EnergiesEnds),
     Refused(u8),
 }
 
 // Each contribution of the two-ended run, sound or not.
-#[derive(Drop)]
+#[derive(Clone, Copy)]
 pub struct EnergiesEnclosures {
     pub hard_sphere: Enclosure,
     pub dispersion: Enclosure,
     pub non_additive: Enclosure,
 }
 
-#[derive(Drop)]
+#[derive(Clone, Copy)]
 pub enum EnclosuresAnswer {
     Held(EnergiesEnclosures),
     Refused(u8),

@@ -1,4 +1,6 @@
 // The Helmholtz energy densities of SAFT-VRQ Mie with slopes (document 02, Slip 1): hard sphere, dispersion, non-additive, each a value and a slope.
+#![tactic(auto)]
+
 ghost use Rattle.std.specs.Prelude.{◌≡◌, ◌<◌, ◌≤◌, length};
 ghost use Rattle.sizes.specs.Sizes.{side};
 ghost use Rattle.elementary.specs.Port.{port};
@@ -11,14 +13,14 @@ use saftvrqmie_parameters::OrderRecord;
 use sizes::{SHEET, SHEETS, SIDE, TABLE};
 use slopes::DualAnswer;
 
-#[derive(Drop)]
+#[derive(Clone, Copy)]
 pub struct QuantumEnergiesSlopes {
     pub hard_sphere: Dual,
     pub dispersion: Dual,
     pub non_additive: Dual,
 }
 
-#[derive(Drop)]
+#[derive(Clone, Copy)]
 pub enum EnergiesSlopesAnswer {
     Energies(QuantumEnergiesSlopes),
     Refused(u8),

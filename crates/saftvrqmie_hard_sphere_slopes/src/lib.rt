@@ -1,4 +1,6 @@
 // The hard sphere's and the non-additive part's contributions (saftvrqmie/eos/hard_sphere.rs, non_additive_hs.rs) with slopes: densities, fractions and diameters carry one, m is plain (document 02, Slip 1).
+#![tactic(auto)]
+
 ghost use Rattle.std.specs.Prelude.{◌≡◌, cond, ◌<◌, ◌≤◌, length};
 ghost use Rattle.number.specs.Arith.{zero64};
 ghost use Rattle.number.specs.Lists.{nth};
@@ -19,7 +21,7 @@ use sizes::table::HS_DIAMETER;
 use sizes::{SIDE, TABLE};
 use slopes::DualAnswer;
 
-#[derive(Drop)]
+#[derive(Clone, Copy)]
 pub struct ZetaSlopes {
     pub z0: Dual,
     pub z1: Dual,
@@ -27,7 +29,7 @@ pub struct ZetaSlopes {
     pub z3: Dual,
 }
 
-#[derive(Drop)]
+#[derive(Clone, Copy)]
 struct Zeta23Slopes {
     y0: Dual,
     y1: Dual,

@@ -1,4 +1,6 @@
 // SAFT-VRQ Mie parameters (saftvrqmie/parameters.rs): from component lists to the set of pair values.
+#![tactic(auto)]
+
 ghost use Rattle.std.specs.Prelude.{◌≡◌, true, ◌*◌, ◌<◌, ◌≤◌, max, length};
 ghost use Rattle.number.specs.Ans.{refused};
 ghost use Rattle.number.specs.Arith.{floats};
@@ -16,14 +18,14 @@ use number::FloatAnswer;
 use sizes::quantum_set::{C_IJ, EPSILON_K_IJ, LAMBDA_A_IJ, LAMBDA_R_IJ, MASS_IJ};
 use sizes::{SHEET, SHEETS, SIDE};
 
-#[derive(Drop)]
+#[derive(Clone, Copy)]
 pub enum FeynmanHibbsOrder {
     FH0,
     FH1,
     FH2,
 }
 
-#[derive(Drop)]
+#[derive(Clone, Copy)]
 pub struct OrderRecord {
     pub order: FeynmanHibbsOrder,
 }
@@ -36,13 +38,13 @@ pub struct SaftVRQMiePars {
     pub orders: [OrderRecord; SHEET],
 }
 
-#[derive(Drop)]
+#[derive(Clone, Copy)]
 pub struct ParameterSet {
     pub answer: ParameterAnswer,
     pub set: SaftVRQMiePars,
 }
 
-#[derive(Drop)]
+#[derive(Clone, Copy)]
 pub struct PairParameters {
     pub sigma: f64,
     pub epsilon_k: f64,
@@ -52,7 +54,7 @@ pub struct PairParameters {
     pub mass: f64,
 }
 
-#[derive(Drop)]
+#[derive(Clone, Copy)]
 pub enum PairAnswer {
     At(PairParameters),
     Outside,

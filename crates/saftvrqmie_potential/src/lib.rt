@@ -1,5 +1,7 @@
 // The quantum Mie potential of a pair with its two derivatives (saftvrqmie/eos/hard_sphere.rs), in floats.
 // What all radii of a pair share is worked once (`Shared`): powers of sigma, exponents, factors. At a radius its logarithm is taken once, and each power of it once.
+#![tactic(auto)]
+
 ghost use Rattle.std.specs.Prelude.{◌≡◌, ◌<◌, true, cond};
 ghost use Rattle.number.specs.Answer.{answer};
 ghost use Rattle.number.specs.Arith.{floats};
@@ -19,7 +21,7 @@ use sizes::{SHEET, SHEETS};
 const D_QM_PREFACTOR: f64 = 6.712554014896364e-27;
 
 // The parameters of a pair, and the temperature.
-#[derive(Drop)]
+#[derive(Clone, Copy)]
 pub struct Pair {
     pub sigma: f64,
     pub epsilon_k: f64,
@@ -32,21 +34,21 @@ pub struct Pair {
 }
 
 // The potential and its two derivatives by the radius.
-#[derive(Drop)]
+#[derive(Clone, Copy)]
 pub struct QMiePotential {
     pub u: f64,
     pub u_r: f64,
     pub u_rr: f64,
 }
 
-#[derive(Drop)]
+#[derive(Clone, Copy)]
 pub enum PotentialAnswer {
     Value(QMiePotential),
     Outside,
 }
 
 // One of the two terms: its exponent, its factors, sigma to its exponent, and the exponents of its lines.
-#[derive(Drop)]
+#[derive(Clone, Copy)]
 pub struct Term {
     pub lambda: f64,
     pub q1: f64,
@@ -62,7 +64,7 @@ pub struct Term {
 }
 
 // What all radii of a pair share.
-#[derive(Drop)]
+#[derive(Clone, Copy)]
 pub struct Shared {
     pub r: Term,
     pub a: Term,
@@ -73,7 +75,7 @@ pub struct Shared {
     pub second: bool,
 }
 
-#[derive(Drop)]
+#[derive(Clone, Copy)]
 pub enum SharedAnswer {
     At(Shared),
     Outside,

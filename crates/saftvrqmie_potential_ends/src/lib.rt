@@ -1,5 +1,7 @@
 // The quantum Mie potential of a pair with its two derivatives (saftvrqmie/eos/hard_sphere.rs) in the two-ended run.
 // What all radii of a pair share is worked once (`PairShared`): powers of sigma and factors.
+#![tactic(auto)]
+
 ghost use Rattle.std.specs.Prelude.{◌≡◌, ◌<◌};
 ghost use Rattle.number.specs.Ans.{held};
 ghost use Rattle.number.specs.Functions.{calls};
@@ -16,7 +18,7 @@ use saftvrqmie_parameters::{FeynmanHibbsOrder, OrderRecord};
 use sizes::{SHEET, SHEETS};
 
 // The parameters of a pair, and the temperature.
-#[derive(Drop)]
+#[derive(Clone, Copy)]
 pub struct PairEnclosures {
     pub sigma: Enclosure,
     pub epsilon_k: Enclosure,
@@ -29,21 +31,21 @@ pub struct PairEnclosures {
 }
 
 // The potential and its two derivatives by the radius.
-#[derive(Drop)]
+#[derive(Clone, Copy)]
 pub struct PotentialEnclosures {
     pub u: Enclosure,
     pub u_r: Enclosure,
     pub u_rr: Enclosure,
 }
 
-#[derive(Drop)]
+#[derive(Clone, Copy)]
 pub enum PotentialEnclosuresAnswer {
     Value(PotentialEnclosures),
     Outside,
 }
 
 // What all radii of a pair share: sigma to its two exponents, the factors of both orders, c * epsilon_k.
-#[derive(Drop)]
+#[derive(Clone, Copy)]
 pub struct PairShared {
     pub pair: PairEnclosures,
     pub sr: Enclosure,
@@ -57,20 +59,20 @@ pub struct PairShared {
     pub ce: Enclosure,
 }
 
-#[derive(Drop)]
+#[derive(Clone, Copy)]
 pub enum PairSharedAnswer {
     At(PairShared),
     Outside,
 }
 
 // A line's two powers of the radius.
-#[derive(Drop)]
+#[derive(Clone, Copy)]
 pub struct LinePowers {
     pub rr: Enclosure,
     pub ra: Enclosure,
 }
 
-#[derive(Drop)]
+#[derive(Clone, Copy)]
 pub enum LineAnswer {
     Powers(LinePowers),
     Outside,

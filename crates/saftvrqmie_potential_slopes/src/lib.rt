@@ -1,5 +1,7 @@
 // The quantum Mie potential of a pair with its two derivatives, each as value and slope: temperature and radius carry a slope (document 02, Slip 1).
 // What all radii of a pair share is worked once (`SlopeShared`). At a radius its logarithm is taken once; each power of it and each power of a slope is raised once.
+#![tactic(auto)]
+
 ghost use Rattle.std.specs.Prelude.{◌≡◌, true, cond};
 ghost use Rattle.number.specs.Arith.{floats};
 ghost use Rattle.elementary.specs.Port.{port};
@@ -18,21 +20,21 @@ use slopes::{DualAnswer, SlopeExponent};
 const D_QM_PREFACTOR: f64 = 6.712554014896364e-27;
 
 // The potential and its two derivatives by the radius, each with its slope.
-#[derive(Drop)]
+#[derive(Clone, Copy)]
 pub struct DualPotential {
     pub u: Dual,
     pub u_r: Dual,
     pub u_rr: Dual,
 }
 
-#[derive(Drop)]
+#[derive(Clone, Copy)]
 pub enum DualPotentialAnswer {
     Value(DualPotential),
     Outside,
 }
 
 // One of the two terms: its exponent, its factors, sigma to its exponent, and the exponents of its lines.
-#[derive(Drop)]
+#[derive(Clone, Copy)]
 pub struct SlopeTerm {
     pub lambda: f64,
     pub q1: f64,
@@ -48,7 +50,7 @@ pub struct SlopeTerm {
 }
 
 // What all radii of a pair share.
-#[derive(Drop)]
+#[derive(Clone, Copy)]
 pub struct SlopeShared {
     pub r: SlopeTerm,
     pub a: SlopeTerm,
@@ -59,7 +61,7 @@ pub struct SlopeShared {
     pub second: bool,
 }
 
-#[derive(Drop)]
+#[derive(Clone, Copy)]
 pub enum SlopeSharedAnswer {
     At(SlopeShared),
     Outside,

@@ -1,4 +1,6 @@
 // The temperature-dependent properties of one pair (saftvrqmie/eos/mod.rs), in floats: what all radii share is worked once.
+#![tactic(auto)]
+
 ghost use Rattle.std.specs.Prelude.{◌≡◌};
 ghost use Rattle.number.specs.Arith.{floats};
 ghost use Rattle.number.specs.Functions.{calls};
@@ -11,7 +13,7 @@ use number::FloatAnswer;
 use saftvrqmie_potential::{Pair, SharedAnswer};
 use saftvrqmie_searches::{Search, SearchAnswer};
 
-#[derive(Drop)]
+#[derive(Clone, Copy)]
 pub struct PairProperties {
     pub sigma_eff: f64,
     pub hs_diameter: f64,
@@ -22,7 +24,7 @@ pub struct PairProperties {
     pub depth_count: u8,
 }
 
-#[derive(Drop)]
+#[derive(Clone, Copy)]
 pub enum PropertiesAnswer {
     At(PairProperties),
     Outside,

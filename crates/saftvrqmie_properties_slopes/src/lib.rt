@@ -1,4 +1,6 @@
 // The temperature-dependent properties of one pair (saftvrqmie/eos/mod.rs) with slopes: what all radii share is worked once (document 02, Slip 1).
+#![tactic(auto)]
+
 ghost use Rattle.std.specs.Prelude.{◌≡◌};
 ghost use Rattle.elementary.specs.Port.{port};
 ghost use Rattle.dual.specs.Value.{dual_of};
@@ -12,7 +14,7 @@ use saftvrqmie_potential_slopes::SlopeSharedAnswer;
 use saftvrqmie_searches_slopes::{DualSearch, DualSearchAnswer};
 use slopes::DualAnswer;
 
-#[derive(Drop)]
+#[derive(Clone, Copy)]
 pub struct DualProperties {
     pub sigma_eff: Dual,
     pub hs_diameter: Dual,
@@ -23,7 +25,7 @@ pub struct DualProperties {
     pub depth_count: u8,
 }
 
-#[derive(Drop)]
+#[derive(Clone, Copy)]
 pub enum DualPropertiesAnswer {
     At(DualProperties),
     Outside,

@@ -1,4 +1,6 @@
 // The three radius searches of a pair and its diameter (saftvrqmie/eos/hard_sphere.rs), in floats.
+#![tactic(auto)]
+
 ghost use Rattle.std.specs.Prelude.{◌≡◌, ◌<◌};
 ghost use Rattle.number.specs.Answer.{answer};
 ghost use Rattle.number.specs.Arith.{floats};
@@ -65,21 +67,21 @@ pub const W_K21: [f64; 21] = [
 ];
 
 // The radius and the last potential.
-#[derive(Drop)]
+#[derive(Clone, Copy)]
 pub enum Search {
     Found(f64, f64),
     Spent(f64, f64),
 }
 
 // A search with its count, or that an elementary argument was outside on the way.
-#[derive(Drop)]
+#[derive(Clone, Copy)]
 pub enum SearchAnswer {
     Ended(Search, u8),
     Outside,
 }
 
 // Which of the three searches.
-#[derive(Drop)]
+#[derive(Clone, Copy)]
 enum SearchKind {
     Sigma,
     Zero,

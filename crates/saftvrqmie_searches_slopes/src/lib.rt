@@ -1,4 +1,6 @@
 // The three radius searches of a pair and its diameter (saftvrqmie/eos/hard_sphere.rs), with slopes: a search leaves by the value alone and carries the slope through its steps (document 02, Slip 1).
+#![tactic(auto)]
+
 ghost use Rattle.std.specs.Prelude.{◌≡◌, ◌<◌};
 ghost use Rattle.number.specs.Arith.{floats};
 ghost use Rattle.elementary.specs.Port.{port};
@@ -21,21 +23,21 @@ use slopes::DualAnswer;
 const EPSILON: f64 = 2.220446049250313e-16;
 
 // The radius and the last potential.
-#[derive(Drop)]
+#[derive(Clone, Copy)]
 pub enum DualSearch {
     Found(Dual, Dual),
     Spent(Dual, Dual),
 }
 
 // A search with its count, or that an elementary argument was outside on the way.
-#[derive(Drop)]
+#[derive(Clone, Copy)]
 pub enum DualSearchAnswer {
     Ended(DualSearch, u8),
     Outside,
 }
 
 // Which of the three searches.
-#[derive(Drop)]
+#[derive(Clone, Copy)]
 enum SlopeSearch {
     OfSigma,
     OfZero,

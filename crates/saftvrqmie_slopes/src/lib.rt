@@ -1,4 +1,6 @@
 // The quantum chain with slopes on a set: temperature, fractions and densities carry one, and so does each contribution (document 02, Slip 1).
+#![tactic(auto)]
+
 ghost use Rattle.std.specs.Prelude.{◌≡◌};
 ghost use Rattle.dual.specs.Value.{dual_of};
 ghost use Rattle.slopes_lists.specs.Lists.{SlopedList, SlopedState};

@@ -1,4 +1,6 @@
 // The temperature table of a quantum set with slopes (saftvrqmie/eos/mod.rs; document 02, Slip 1): values in one list, their slopes in another.
+#![tactic(auto)]
+
 ghost use Rattle.std.specs.Prelude.{◌≡◌, ◌<◌, ◌≤◌};
 ghost use Rattle.sizes.specs.Sizes.{side, sheet};
 ghost use Rattle.elementary.specs.Port.{port};

@@ -1,4 +1,6 @@
 // Slip 10: the energies of a tank in layers, over one quantum set.
+#![tactic(auto)]
+
 ghost use Rattle.std.specs.Prelude.{◌≡◌, true, cond, ◌≤◌, length};
 ghost use Rattle.number.specs.Arith.{floats, zero64};
 ghost use Rattle.number.specs.Functions.{calls};

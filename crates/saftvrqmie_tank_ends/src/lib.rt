@@ -1,4 +1,6 @@
 // Slip 10: the two ends of a tank's energies, over one quantum set.
+#![tactic(auto)]
+
 ghost use Rattle.std.specs.Prelude.{◌≡◌, true, cond, ◌≤◌, length};
 ghost use Rattle.number.specs.Arith.{zero64};
 ghost use Rattle.enclosure.specs.Enclosure.{enclosures, point};

@@ -1,4 +1,6 @@
 // The energies of SAFT-VRQ Mie as one number: each rounded sum with its remainder.
+#![tactic(auto)]
+
 ghost use Rattle.std.specs.Prelude.{◌≡◌};
 ghost use Rattle.saftvrqmie_parameters.specs.declared.SaftVRQMiePars.{SaftVRQMiePars};
 ghost use Rattle.saftvrqmie_energies.specs.Energies.{energies_in};
@@ -9,13 +11,13 @@ use saftvrqmie_energies::{EnergiesAnswer, QuantumEnergies};
 use saftvrqmie_parameters::{OrderRecord, SaftVRQMiePars};
 use sizes::{SHEET, SHEETS, SIDE};
 
-#[derive(Drop)]
+#[derive(Clone, Copy)]
 pub struct QuantumTotal {
     pub first: RoundedSum,
     pub last: RoundedSum,
 }
 
-#[derive(Drop)]
+#[derive(Clone, Copy)]
 pub enum TotalAnswer {
     Total(QuantumTotal),
     Refused(u8),

@@ -1,4 +1,6 @@
 // A set as it crosses the C boundary, as its count and lists: the tests for 1 and 4, the set that the lists hold, and a set written into them.
+#![tactic(auto)]
+
 mod written;
 
 ghost use Rattle.std.specs.Prelude.{◌≡◌, true, ◌+◌, ◌*◌, ◌<◌, ◌≤◌, length};

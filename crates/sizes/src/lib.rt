@@ -1,4 +1,6 @@
 // Slip 8's sizes, the one place that has them: how many components, how long each list, and where each sheet of a set or table starts.
+#![tactic(auto)]
+
 pub mod counts;
 pub mod mie_set;
 pub mod quantum_set;

@@ -1,4 +1,6 @@
 // Numbers with a slope beside plain ones: a D with an f64, and the elementary functions of a D, by the slope rules of document 02's Slip 1.
+#![tactic(auto)]
+
 ghost use Rattle.std.specs.Prelude.{◌≡◌, false};
 ghost use Rattle.number.specs.Arith.{floats, decimal};
 ghost use Rattle.elementary.specs.Port.{port};
@@ -13,14 +15,14 @@ use dual::Dual;
 use number::FloatAnswer;
 use power::FixedExponent;
 
-#[derive(Drop)]
+#[derive(Clone, Copy)]
 pub enum DualAnswer {
     Value(Dual),
     Outside,
 }
 
 // An exponent, and in fixed point it and the exponent of its slope, which is one less.
-#[derive(Drop)]
+#[derive(Clone, Copy)]
 pub struct SlopeExponent {
     pub e: f64,
     pub at: FixedExponent,

@@ -1,4 +1,6 @@
 // Slip 1 behind the C boundary: the quantum chain with slopes over a set that crosses as its lists.
+#![tactic(auto)]
+
 ghost use Rattle.std.specs.Prelude.{◌≡◌, length};
 ghost use Rattle.mie_parameters.specs.Answer.{status, stored};
 ghost use Rattle.set_lists.specs.Sets.{QuantumLists};

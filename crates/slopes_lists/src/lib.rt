@@ -1,4 +1,6 @@
 // What the call with slopes takes beside a set: a temperature, fractions and densities, each with a slope (document 02, Slip 1). Its test for 1, and that for 7 of the supplied slopes.
+#![tactic(auto)]
+
 ghost use Rattle.std.specs.Prelude.{◌≡◌, length};
 ghost use Rattle.dual.specs.Value.{dual_of};
 ghost use Rattle.slopes_lists.specs.Lists.{SlopedList, SlopedState, right_lengths, sloped_lengths, all_finite, supplied_finite};

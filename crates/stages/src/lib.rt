@@ -1,4 +1,6 @@
 // The energy stages of both models: from component lists to energies.
+#![tactic(auto)]
+
 ghost use Rattle.std.specs.Prelude.{◌≡◌};
 ghost use Rattle.saftvrqmie_energies.specs.Energies.{energies_answer};
 ghost use Rattle.saftvrmie_energies.specs.Energies.{energy_answer};

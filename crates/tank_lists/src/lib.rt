@@ -1,4 +1,6 @@
 // Slip 10 behind the C boundary: a tank over a quantum set that crosses as its lists.
+#![tactic(auto)]
+
 ghost use Rattle.std.specs.Prelude.{◌≡◌, ◌≤◌};
 ghost use Rattle.saftvrqmie_energies.specs.Energies.{energies_answer};
 ghost use Rattle.saftvrqmie_energies_ends.specs.Operation.{energies_ends_answer};

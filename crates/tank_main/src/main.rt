@@ -1,4 +1,6 @@
 // Works the tanks of data/tanks.bin on the C boundary and, layer by layer, on its single calls (docs/VECTORS.md has the layout of a record). Writes for each its name and number, and DIFFERS where what was lent does not hold what the layers give, or was touched by a refused call.
+#![tactic(auto)]
+
 ghost use Rattle.std.specs.Prelude.{◌<◌, ◌≤◌};
 
 use sizes::{COUNTS, SHEET, SHEETS, SIDE, TABLE};

@@ -1,4 +1,6 @@
 // Runs the calls of data/quantum.bin and data/mie.bin, and of 9 to 12 components those of both files beside them, and compares each answer, bit for bit, with the one in the file. A record is 24 words, least significant byte first, and a list of words; docs/VECTORS.md says which. Places of lists go by sheet, row and column, so that the files hold whatever the side is. Writes for each operation how often it gave each number (0 for accepted), and how many calls differ.
+#![tactic(auto)]
+
 ghost use Rattle.std.specs.Prelude.{◌<◌, ◌≤◌};
 
 use saftvrmie_energies::EnergyAnswer;

@@ -1,0 +1,10 @@
+-- `dual::add` meets its contract. Assumes nothing.
+use Rattle.dual.specs.Value.{dual_of}
+use Rattle.dual.specs.Dual.{add_d}
+use mathlib.Core.Path.{refl}
+use Rattle.dual.proofs.add.Goals as goal
+
+pub returns : goal.returns
+unfolding add_d dual_of
+returns c =
+    refl

@@ -1,0 +1,41 @@
+-- `interval::any_power` meets its contract. Assumes nothing.
+use Rattle.interval.specs.Interval.{pow_i}
+use borrow.Author.Rules.{rules}
+use mathlib.Core.Path.{◌≡◌, ◌∙◌}
+use mathlib.Core.Logic.{⊎_elim}
+use borrow.Author.Tests.{eq-eqb, ne_eqb}
+use Rattle.number.specs.Arith.{one64}
+use Rattle.interval.specs.Interval.{mul_i, point}
+use Rattle.number.proofs.Power.{Turn, start, done, times, turn_more, turn_last}
+use Rattle.interval.proofs.any_power.Goals as goal
+use Rattle.interval.proofs.any_power.Goals.{Joined-left-eq1}
+
+pub point-acc-requires : goal.point-acc-requires
+point-acc-requires c = tt
+
+pub loop-left-init : goal.loop-left-init
+loop-left-init c = rw c.point-acc.ensures (start mul_i _ _ _ c.ranges.n.fits)
+
+pub product-acc-requires : goal.product-acc-requires
+product-acc-requires c = tt
+
+pub product-sq-requires : goal.product-sq-requires
+product-sq-requires c = tt
+
+acc_is : (c : Joined-left-eq1) → c.if-left-eq1.acc ≡ times mul_i c.loop-left.left c.loop-left.sq c.loop-left.acc
+unfolding mul_i
+acc_is c =
+    ⊎_elim (λ w. rw (eq-eqb _ _ w.0.taken) (w.4 ∙ w.3.ensures)) (λ w. rw (ne_eqb _ _ w.0.left) w.1) c.if-left-eq1.branch
+
+pub loop-left-preserved-then-left-gt0 : goal.loop-left-preserved-then-left-gt0
+unfolding mul_i
+loop-left-preserved-then-left-gt0 c =
+    rw (acc_is c.before.before.before, c.product-sq.ensures)
+    (turn_more mul_i _ _ _ _ _ _ c.if-left-gt0.true c.loop-left.invariant)
+
+pub loop-left-preserved : goal.loop-left-preserved
+loop-left-preserved c = rw (acc_is c.before) (turn_last mul_i _ _ _ _ _ _ (search rules) c.if-left-gt0.false c.loop-left.invariant)
+
+pub returns : goal.returns
+unfolding pow_i
+returns c = done mul_i _ _ _ _ _ _ c.loop-left-test.false c.loop-left.invariant

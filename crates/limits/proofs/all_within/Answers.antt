@@ -1,0 +1,19 @@
+-- `limits::all_within` meets its contract. Assumes nothing.
+use Rattle.limits.specs.Limits.{in_limits, all_within}
+use Rattle.number.proofs.Walk.{every_none, every_next, every_end}
+use Prim.Native.Nat.{◌≤◌, ◌-◌}
+use mathlib.Core.Path.{◌≡◌}
+use Rattle.number.specs.Walk.{every}
+use Rattle.number.specs.Lists.{at}
+use borrow.Author.Rules.{rules}
+use Rattle.limits.proofs.all_within.Goals as goal
+
+pub loop-i-init : goal.loop-i-init
+loop-i-init c = (search rules, every_none _)
+
+pub loop-i-preserved : goal.loop-i-preserved
+loop-i-preserved c = (search rules, every_next _ _ _ _ c.loop-i.invariant.1 c.within-ok.ensures)
+
+pub returns : goal.returns
+unfolding all_within
+returns c = every_end _ _ _ _ c.loop-i.invariant.0 c.loop-i-test.false c.loop-i.invariant.1

@@ -1,0 +1,10 @@
+-- `limits::temperature_within` meets its contract. Assumes nothing.
+use Rattle.limits.specs.Limits.{temperature_within}
+use lib.Ieee.{of_bits}
+use Rattle.number.specs.Arith.{decimal}
+use borrow.Author.Rules.{rules}
+use Rattle.limits.proofs.temperature_within.Goals as goal
+
+pub returns : goal.returns
+unfolding temperature_within decimal of_bits
+returns c = rw c.within.ensures
