@@ -14,4 +14,4 @@ overflow_add-result c = Fits-bits 64 tt (room c.args.c c.high_product.result c.a
 
 pub returns : goal.returns
 returns c =
-    record { value = ap (λ (x : ℕ). c.args.c + x) (c.high_product.ensures.value ∙ ap (λ (x : ℕ). x / 2 ^ 64) (mul_comm c.args.q c.args.h)); small = (add-le-add (le_refl c.args.c) c.high_product.ensures.small, ) }
+    record { value = ap (λ (x : ℕ). c.args.c + x) (c.high_product.ensures.value ∙ ap (λ (x : ℕ). x / 2 ^ 64) (mul_comm c.args.q c.args.h)); small = add-le-add (le_refl c.args.c) c.high_product.ensures.small }

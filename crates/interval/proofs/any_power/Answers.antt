@@ -8,7 +8,7 @@ use Rattle.number.specs.Arith.{one64}
 use Rattle.interval.specs.Interval.{mul_i, point}
 use Rattle.number.proofs.Power.{Turn, start, done, times, turn_more, turn_last}
 use Rattle.interval.proofs.any_power.Goals as goal
-use Rattle.interval.proofs.any_power.Goals.{Joined-left-eq1}
+use Rattle.interval.proofs.any_power.Goals.{Joined-left-eq1, then-left-eq1, else-left-eq1}
 
 pub point-acc-requires : goal.point-acc-requires
 point-acc-requires c = tt
@@ -25,7 +25,10 @@ product-sq-requires c = tt
 acc_is : (c : Joined-left-eq1) → c.if-left-eq1.acc ≡ times mul_i c.loop-left.left c.loop-left.sq c.loop-left.acc
 unfolding mul_i
 acc_is c =
-    ⊎_elim (λ w. rw (eq-eqb _ _ w.0.taken) (w.4 ∙ w.3.ensures)) (λ w. rw (ne_eqb _ _ w.0.left) w.1) c.if-left-eq1.branch
+    elim c.if-left-eq1.branch [
+      | then-left-eq1 w ↦ rw (eq-eqb _ _ w.if-left-eq1.true) (w.acc-is ∙ w.product-acc.ensures)
+      | else-left-eq1 w ↦ rw (ne_eqb _ _ w.if-left-eq1.false) w.acc-is
+    ]
 
 pub loop-left-preserved-then-left-gt0 : goal.loop-left-preserved-then-left-gt0
 unfolding mul_i
