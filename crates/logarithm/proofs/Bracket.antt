@@ -73,7 +73,7 @@ module _ (s : Bool) (x : Frac) (n d S r : ℕ) (px : Pos x) (dp : 0 < d) (sp : 0
   low_numbers = le_trans (le_of_eq (lin r Q E)) (le_trans lo (le_of_eq (ap₂ ◌+◌ (t (2 ^ 62) S P) (ap (λ (z : ℕ). 2 * z) (sym (one-mul Q))))))
     where
       lin : (r q e : ℕ) → r * (1 * q) + 0 * e ≡ r * q
-      lin r q e = ap₂ ◌+◌ (ap (λ (z : ℕ). r * z) (one-mul q)) (Nat.zero-mul e) ∙ Nat.add_zero (r * q)
+      lin r q e = ap₂ ◌+◌ (ap (λ (z : ℕ). r * z) (one-mul q)) (Nat.zero-mul e) ∙ Nat.add-zero (r * q)
 
       t : (a S P : ℕ) → 2 * a * S * P ≡ 2 * P * (a * S)
       t a S P = simp ac

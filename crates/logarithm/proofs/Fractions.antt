@@ -128,7 +128,7 @@ add_plain a b c d = ap (λ (y : ℕ). frac (a * d + c * b) y (b * d)) (ap₂ ◌
 
 pub pow_plain : (n d k : ℕ) → pow_f (frac n 0 d) k ≡ frac (n ^ k) 0 (d ^ k)
 unfolding pow_f
-pow_plain n d zero = ap₂ (λ (x y : ℕ). frac x 0 y) (sym (Nat.pow_zero n)) (sym (Nat.pow_zero d))
+pow_plain n d zero = ap₂ (λ (x y : ℕ). frac x 0 y) (sym (Nat.pow-zero n)) (sym (Nat.pow-zero d))
 pow_plain n d (suc k) = ap (λ (x : Frac). mul_f x (frac n 0 d)) (pow_plain n d k) ∙ mul_plain (n ^ k) (d ^ k) n d ∙ ap₂ (λ (x y : ℕ). frac x 0 y) (sym (pow-suc n k)) (sym (pow-suc d k))
 
 -- ---- signs

@@ -1,0 +1,16 @@
+use Prim.Native.Nat.{◌+◌, ◌*◌, ◌%◌, ◌/◌, ◌-◌, ◌≤◌, ◌<◌}
+use native.Mathlib.Omega.{arith}
+use mathlib.Core.Path.{◌≡◌, refl, sym, ap, ◌∙◌}
+use Rattle.card.proofs.Reading.{known_newer, known_older, filling_over, filling_none, filling_last}
+use borrow.Author.Rules.{rules}
+use Rattle.card.proofs.known.Reads as reads
+use Rattle.card.proofs.known.Lts as lts
+use Rattle.card.proofs.known.Goals as goal
+
+-- src/lib.rt:175:9
+pub returns-then-newer : goal.returns-then-newer
+returns-then-newer c = known_newer _ _ _ c.if-newer.true
+
+-- src/lib.rt:171:1
+pub returns : goal.returns
+returns c = known_older _ _ _ c.if-newer.false

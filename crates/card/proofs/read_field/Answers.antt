@@ -1,0 +1,18 @@
+use Prim.Native.Nat.{◌+◌, ◌*◌, ◌%◌, ◌-◌, ◌≤◌, ◌<◌}
+use native.Mathlib.Omega.{arith}
+use mathlib.Core.Path.{◌≡◌, refl, sym, ap, ◌∙◌}
+use Rattle.card.proofs.Reading.{plain_short, plain_held, flag_short, flag_zero, stored_short, stored_zero, stored_held, field_spared, field_plain}
+use borrow.Author.Rules.{rules}
+use Rattle.card.proofs.read_field.Reads as reads
+use Rattle.card.proofs.read_field.Lts as lts
+use Rattle.card.proofs.plain.Reads as plain-reads
+use Rattle.card.proofs.spared.Reads as spared-reads
+use Rattle.card.proofs.read_field.Goals as goal
+
+-- src/lib.rt:96:9
+pub returns-then-field : goal.returns-then-field
+returns-then-field c = (c.spared.ensures.0 ∙ field_spared _ _ c.if-field.true, omega (arith, c.spared.ensures.1))
+
+-- src/lib.rt:91:1
+pub returns : goal.returns
+returns c = (c.plain.ensures.0 ∙ field_plain _ _ c.if-field.false, omega (arith, c.plain.ensures.1))

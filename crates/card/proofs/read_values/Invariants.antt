@@ -1,0 +1,22 @@
+use Prim.Native.Nat.{◌+◌, ◌*◌, ◌%◌, ◌/◌, ◌-◌, ◌≤◌, ◌<◌}
+use native.Mathlib.Omega.{arith}
+use mathlib.Core.Path.{◌≡◌, refl, sym, ap, ◌∙◌}
+use lib.ListN.{length, take, drop, length-set}
+use Rattle.card.proofs.Reading.{On, on_start, on_next, on_stop, on_end, ends, total_small, in_layout, value_at, refusal_at}
+use Rattle.card.specs.Card.{form_of, layout, float, value_count}
+use Rattle.bit_fields.specs.Bits.{bits_of}
+use Rattle.card.proofs.Fields.{layout_length}
+use borrow.Author.Rules.{rules}
+use Rattle.card.proofs.read_values.Reads as reads
+use Rattle.card.proofs.read_values.Lts as lts
+use Rattle.card.proofs.field_at.Reads as field-at-reads
+use Rattle.card.proofs.read_field.Reads as read-field-reads
+use Rattle.card.proofs.refusal.Reads as refusal-reads
+use Rattle.card.proofs.value_count.Reads as value-count-reads
+use Rattle.card.proofs.read_values.Given as goal
+
+abbrev pub invariant-loop-k : goal.invariant-loop-k
+invariant-loop-k l = (l.k ≤ l.total) × (l.end ≤ l.at + 65 * l.k) × (length l.values ≡ 204) × On (layout (form_of l.newer) l.kind l.count) (drop l.at (bits_of l.card)) l.card l.values l.end l.k
+
+abbrev pub decreases-loop-k : goal.decreases-loop-k
+decreases-loop-k l = l.total - l.k

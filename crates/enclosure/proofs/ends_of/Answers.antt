@@ -1,0 +1,22 @@
+-- `enclosure::ends_of` meets its contract. Assumes nothing.
+use mathlib.Core.Path.{sym, ◌∙◌}
+use borrow.Author.Tests.{not-true, not-false}
+use Rattle.enclosure.proofs.TwoEnds.{alone_6, alone_7, alone_8, alone_held}
+use borrow.Author.Rules.{rules}
+use Rattle.enclosure.proofs.ends_of.Goals as goal
+
+pub returns-in_default : goal.returns-in_default
+returns-in_default c = rw c.in_default.is alone_6
+
+pub returns-then-not-is_finite : goal.returns-then-not-is_finite
+returns-then-not-is_finite c = rw c.in-Value.is (alone_7 _ (sym c.is_finite.ensures ∙ c.if-not-is_finite.true))
+
+pub returns-then-not-ends : goal.returns-then-not-ends
+returns-then-not-ends c =
+    rw c.in-Value.is
+    (alone_8 _ (sym c.is_finite.ensures ∙ c.if-not-is_finite.false) (not-true _ c.if-not-ends.true))
+
+pub returns : goal.returns
+returns c =
+    rw c.in-Value.is
+    (alone_held _ (sym c.is_finite.ensures ∙ c.if-not-is_finite.false) (not-false _ c.if-not-ends.false))

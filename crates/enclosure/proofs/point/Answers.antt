@@ -1,0 +1,10 @@
+-- `enclosure::point` meets its contract. Assumes nothing.
+use Rattle.enclosure.specs.Enclosure.{point}
+use borrow.Author.Rules.{rules}
+use Rattle.enclosure.proofs.point.Goals as goal
+
+pub returns : goal.returns
+unfolding point
+returns c =
+    rw
+    c.point.ensures

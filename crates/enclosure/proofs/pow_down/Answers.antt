@@ -1,0 +1,12 @@
+-- `enclosure::pow_down` meets its contract. Assumes nothing.
+use Rattle.enclosure.specs.Enclosure.{down_e}
+use borrow.Author.Rules.{rules}
+use Rattle.enclosure.proofs.pow_down.Goals as goal
+
+pub returns : goal.returns
+unfolding down_e
+returns c =
+    rw (
+      c.pow_down-2.ensures,
+      c.pow_down.ensures,
+    )

@@ -1,0 +1,12 @@
+-- `enclosure::pow_up` meets its contract. Assumes nothing.
+use Rattle.enclosure.specs.Enclosure.{pow_e}
+use borrow.Author.Rules.{rules}
+use Rattle.enclosure.proofs.pow_up.Goals as goal
+
+pub returns : goal.returns
+unfolding pow_e
+returns c =
+    rw (
+      c.pow_up-2.ensures,
+      c.pow_up.ensures,
+    )

@@ -1,0 +1,13 @@
+-- `enclosure_dual::add` meets its contract. Assumes nothing.
+use Rattle.enclosure_dual.specs.Value.{dual_of}
+use Rattle.dual.specs.Dual.{add_d}
+use borrow.Author.Rules.{rules}
+use Rattle.enclosure_dual.proofs.add.Goals as goal
+
+pub returns : goal.returns
+unfolding add_d dual_of
+returns c =
+    rw (
+      c.add-2.ensures,
+      c.add.ensures,
+    )

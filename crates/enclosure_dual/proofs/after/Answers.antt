@@ -1,0 +1,13 @@
+-- `enclosure_dual::after` meets its contract. Assumes nothing.
+use Rattle.enclosure_dual.specs.Value.{dual_of}
+use Rattle.dual.specs.Dual.{after_d}
+use borrow.Author.Rules.{rules}
+use Rattle.enclosure_dual.proofs.after.Goals as goal
+
+pub returns : goal.returns
+unfolding after_d dual_of
+returns c =
+    rw (
+      c.after.ensures,
+      c.after-worked.ensures,
+    )

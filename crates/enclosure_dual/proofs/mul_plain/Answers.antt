@@ -1,0 +1,15 @@
+-- `enclosure_dual::mul_plain` meets its contract. Assumes nothing.
+use Rattle.dual.specs.Dual.{mul_d, plain_d}
+use Rattle.enclosure_dual.specs.Value.{dual_of}
+use borrow.Author.Rules.{rules}
+use Rattle.enclosure_dual.proofs.mul_plain.Goals as goal
+
+pub returns : goal.returns
+unfolding mul_d plain_d dual_of
+returns c =
+    rw (
+      c.add.ensures,
+      c.times_zero.ensures,
+      c.mul.ensures,
+      c.mul-left.ensures,
+    )

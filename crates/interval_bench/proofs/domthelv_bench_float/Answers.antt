@@ -1,0 +1,18 @@
+-- `interval_bench::domthelv_bench_float` meets its contract. Assumes nothing.
+use borrow.Author.Rules.{rules}
+use Rattle.number.specs.Walk.{turns}
+use Rattle.number.proofs.Walk.{turns_none, turns_next, turns_end}
+use Prim.Native.Nat.{ℕ, ◌≤◌, ◌-◌}
+use mathlib.Core.Path.{◌≡◌}
+use Rattle.interval_bench.specs.Repeat.{float_step}
+use lib.Ieee.{Float}
+use Rattle.interval_bench.proofs.domthelv_bench_float.Goals as goal
+
+pub loop-i-init : goal.loop-i-init
+loop-i-init c = (search rules, turns_none _ _)
+
+pub loop-i-preserved : goal.loop-i-preserved
+loop-i-preserved c = (search rules, turns_next _ _ _ _ _ c.loop-i.invariant.1 c.float_step-s.ensures)
+
+pub returns : goal.returns
+returns c = turns_end _ _ _ _ _ c.loop-i.invariant.0 c.loop-i-test.false c.loop-i.invariant.1

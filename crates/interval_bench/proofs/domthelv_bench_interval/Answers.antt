@@ -1,0 +1,18 @@
+-- `interval_bench::domthelv_bench_interval` meets its contract. Assumes nothing.
+use borrow.Author.Rules.{rules}
+use Rattle.number.specs.Walk.{turns}
+use Rattle.number.proofs.Walk.{turns_none, turns_next, turns_end}
+use Prim.Native.Nat.{ℕ, ◌≤◌, ◌-◌}
+use mathlib.Core.Path.{◌≡◌}
+use Rattle.interval_bench.specs.Repeat.{interval_step}
+use Rattle.interval.specs.declared.Interval.{Interval}
+use Rattle.interval_bench.proofs.domthelv_bench_interval.Goals as goal
+
+pub loop-i-init : goal.loop-i-init
+loop-i-init c = (search rules, turns_none _ _)
+
+pub loop-i-preserved : goal.loop-i-preserved
+loop-i-preserved c = (search rules, turns_next _ _ _ _ _ c.loop-i.invariant.1 c.interval_step-s.ensures)
+
+pub returns : goal.returns
+returns c = rw (turns_end _ _ _ _ _ c.loop-i.invariant.0 c.loop-i-test.false c.loop-i.invariant.1, c.point-step.ensures, c.point-s.ensures)

@@ -1,0 +1,13 @@
+-- `logarithm::bits_1p` meets its contract. Assumes nothing.
+use borrow.Author.Rules.{rules}
+use borrow.Author.Tests.{lt-ltb, le-ltb}
+use Rattle.logarithm.specs.Logarithm.{bits1p}
+use Rattle.logarithm.proofs.bits_1p.Goals as goal
+
+pub returns-then-f-lt1021 : goal.returns-then-f-lt1021
+unfolding bits1p
+returns-then-f-lt1021 c = rw (lt-ltb _ _ c.if-f-lt1021.true) c.small_1p.ensures
+
+pub returns : goal.returns
+unfolding bits1p
+returns c = rw (le-ltb _ _ c.if-f-lt1021.false) c.large_1p.ensures
