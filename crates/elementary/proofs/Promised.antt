@@ -40,9 +40,11 @@ use Rattle.elementary.proofs.Exists.{exp_m1_has_value, tanh_has_value}
 
 -- ---- a function that tests its domain and then answers
 outside_of : (t : Bool) (v : Float) → T (not t) → cond t (held v) (refused 6) ≡ refused 6
+outside_of true v h = elim h [ ]
 outside_of false v h = refl
 
 inside_of : (t : Bool) (v : Float) → T t → cond t (held v) (refused 6) ≡ held v
+inside_of false v h = elim h [ ]
 inside_of true v h = refl
 
 -- what is held lies close to every value, and there is one: so it is finite, too
@@ -89,10 +91,13 @@ tanh_at x f = (tested _ (tanh_inside x) (TanhValue (val_f x)) (tanh_of x) _ refl
 two_outside : (s t : Bool) (v : Float) → T (not (s && t)) → (demand 6 s >>= λ _. demand 6 t >>= λ _. held v) ≡ refused 6
 unfolding demand ◌>>=◌
 two_outside false t v h = refl
+two_outside true true v h = elim h [ ]
 two_outside true false v h = refl
 
 two_inside : (s t : Bool) (v : Float) → T (s && t) → (demand 6 s >>= λ _. demand 6 t >>= λ _. held v) ≡ held v
 unfolding demand ◌>>=◌
+two_inside false t v h = elim h [ ]
+two_inside true false v h = elim h [ ]
 two_inside true true v h = refl
 
 powf_keeps : (x y : Float) → T (fits binary64 x) → T (fits binary64 y) → Keeps (base_inside x && exponent_inside y) (PowerValue (val_f x) (val_f y)) (within (2 ^ 48)) (powf_of x y)

@@ -148,6 +148,8 @@ takes x f h = subst (λ (z : Float). T (ln_inside z)) (of_bits-to_bits binary64 
     high b h = (omega arith, omega arith)
 
     both : (a b : Bool) → T a → T b → T (a && b)
+    both false b h k = elim h [ ]
+    both true false h k = elim k [ ]
     both true true h k = tt
 
     go : (b : ℕ) → 1018 * 2 ^ 52 ≤ b → b ≤ 1028 * 2 ^ 52 → T (ln_inside (of_bits binary64 b))

@@ -20,7 +20,9 @@ pub overflow_sub-result : goal.overflow_sub-result
 overflow_sub-result c = below c.product-v.ensures.small
 
 pub returns-then-log-exponent : goal.returns-then-log-exponent
-returns-then-log-exponent c = (sum_is _ _ _ c.product-v.ensures.value c.if-log-exponent.true, sum_range _ c.product-v.ensures.small)
+returns-then-log-exponent c =
+    record { value = sum_is _ _ _ c.product-v.ensures.value c.if-log-exponent.true; range = sum_range _ c.product-v.ensures.small }
 
 pub returns-else-log-exponent : goal.returns-else-log-exponent
-returns-else-log-exponent c = (difference_is _ _ _ c.product-v.ensures.value c.if-log-exponent.false, difference_range _ c.product-v.ensures.small)
+returns-else-log-exponent c =
+    record { value = difference_is _ _ _ c.product-v.ensures.value c.if-log-exponent.false; range = difference_range _ c.product-v.ensures.small }

@@ -1,0 +1,33 @@
+-- `card_writer::card_length` meets its contract. Assumes nothing.
+use Prim.Native.Nat.{◌+◌, ◌*◌, ◌-◌, ◌≤◌}
+use native.Mathlib.Omega.{arith}
+use mathlib.Core.Path.{◌≡◌}
+use lib.ListN.{length}
+use Rattle.card.specs.Card.{form_of, layout}
+use Rattle.card_writer.proofs.Writing.{part, total_below, next_length, all_is, none_length}
+use borrow.Author.Rules.{rules}
+use Rattle.card_writer.proofs.card_length.Goals as goal
+
+pub loop-k-init : goal.loop-k-init
+loop-k-init c = (search rules, omega (arith, none_length (layout (form_of c.args.newer) c.args.kind c.args.count) c.args.values.now), search rules)
+
+pub field_at-field-requires : goal.field_at-field-requires
+field_at-field-requires c = (c.requires.1, omega (arith, c.value_count-total.ensures, c.loop-k-test.true))
+
+pub offset_bounds-values-k : goal.offset_bounds-values-k
+offset_bounds-values-k c = omega (arith, total_below c.args.kind c.args.count c.args.newer c.args.values.now _ c.requires.1 c.value_count-total.ensures c.requires.2, c.loop-k-test.true)
+
+pub bounds-values-k : goal.bounds-values-k
+bounds-values-k c = omega (arith, c.value_count-total.ensures, c.requires.2, c.loop-k-test.true)
+
+pub field_length-bits-requires : goal.field_length-bits-requires
+field_length-bits-requires c = c.field_at-field.ensures.2
+
+pub overflow_add-bits : goal.overflow_add-bits
+overflow_add-bits c = omega (arith, total_below c.args.kind c.args.count c.args.newer c.args.values.now _ c.requires.1 c.value_count-total.ensures c.requires.2, c.loop-k-test.true, c.loop-k.invariant.2, c.field_length-bits.ensures.1)
+
+pub loop-k-preserved : goal.loop-k-preserved
+loop-k-preserved c = (omega (arith, c.loop-k-test.true), omega (arith, c.loop-k.invariant.1, c.field_length-bits.ensures.0, next_length c.args.kind c.args.count c.args.newer c.args.values.now _ c.requires.1 c.value_count-total.ensures c.requires.2 c.loop-k.k c.loop-k-test.true _ c.field_at-field.ensures.0), omega (arith, c.loop-k.invariant.2, c.field_length-bits.ensures.1))
+
+pub returns : goal.returns
+returns c = (rw (all_is c.args.kind c.args.count c.args.newer c.args.values.now _ c.requires.1 c.value_count-total.ensures c.requires.2 c.loop-k.k c.loop-k.invariant.0 c.loop-k-test.false) at c.loop-k.invariant.1, omega (arith, total_below c.args.kind c.args.count c.args.newer c.args.values.now _ c.requires.1 c.value_count-total.ensures c.requires.2, c.loop-k.invariant.0, c.loop-k.invariant.2))

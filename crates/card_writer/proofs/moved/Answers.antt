@@ -1,0 +1,29 @@
+-- `card_writer::moved` meets its contract. Assumes nothing.
+use native.Mathlib.Omega.{arith}
+use mathlib.Core.Path.{ap}
+use mathlib.Core.Bool.{not}
+use Rattle.card.specs.Card.{form_of}
+use Rattle.card.proofs.Reading.{total_small}
+use Rattle.card.proofs.Whole.{twelve}
+use Rattle.card_writer.specs.Writing.{CardRoom}
+use Rattle.card_writer.proofs.Stored.{refused_verdict, refused_stored, counts, moved_refused, moved_many, moved_goes, too_many, few_enough, part_many}
+use borrow.Author.Rules.{rules}
+use Rattle.card_writer.proofs.moved.Goals as goal
+
+pub returns-in_default : goal.returns-in_default
+returns-in_default c = let s = moved_refused (form_of c.args.newer) (form_of (not c.args.newer)) c.args.card.now (record { card = c.args.to.now; length = c.args.told.now }) _ _ c.read-read.ensures.0 _ _ c.in_default.is c.card_refusal.ensures in (refused_verdict (record { card = c.args.to.now; length = c.args.told.now }) _ _ s, ap (λ (x : CardRoom). x.card) (refused_stored (record { card = c.args.to.now; length = c.args.told.now }) _ _ s), ap (λ (x : CardRoom). x.length) (refused_stored (record { card = c.args.to.now; length = c.args.told.now }) _ _ s))
+
+pub returns-then-newer-n : goal.returns-then-newer-n
+returns-then-newer-n c = let s = moved_many (form_of c.args.newer) (form_of (not c.args.newer)) c.args.card.now (record { card = c.args.to.now; length = c.args.told.now }) _ _ c.read-read.ensures.0 c.in-Card.head c.in-Card.is (too_many c.args.newer c.in-Card.head.count c.if-newer-n.true) in (refused_verdict (record { card = c.args.to.now; length = c.args.told.now }) _ 16 s, ap (λ (x : CardRoom). x.card) (refused_stored (record { card = c.args.to.now; length = c.args.told.now }) _ 16 s), ap (λ (x : CardRoom). x.length) (refused_stored (record { card = c.args.to.now; length = c.args.told.now }) _ 16 s))
+
+pub value_count-total-requires : goal.value_count-total-requires
+value_count-total-requires c = ((counts (form_of c.args.newer) (form_of (not c.args.newer)) c.args.card.now (record { card = c.args.to.now; length = c.args.told.now }) _ _ c.read-read.ensures.0 c.in-Card.head c.in-Card.is).some, twelve c.args.newer _ (counts (form_of c.args.newer) (form_of (not c.args.newer)) c.args.card.now (record { card = c.args.to.now; length = c.args.told.now }) _ _ c.read-read.ensures.0 c.in-Card.head c.in-Card.is).most)
+
+pub slice_bounds-store-end : goal.slice_bounds-store-end
+slice_bounds-store-end c = omega (arith, total_small c.read-1.head.kind c.read-1.head.count _ (twelve c.args.newer _ (counts (form_of c.args.newer) (form_of (not c.args.newer)) c.args.card.now (record { card = c.args.to.now; length = c.args.told.now }) _ _ c.read-read.ensures.0 c.read-1.head c.read-1.in-Card-own.given.1).most) c.value_count-total.ensures, c.read-read.ensures.1)
+
+pub store-requires : goal.store-requires
+store-requires c = ((counts (form_of c.args.newer) (form_of (not c.args.newer)) c.args.card.now (record { card = c.args.to.now; length = c.args.told.now }) _ _ c.read-read.ensures.0 c.read-1.head c.read-1.in-Card-own.given.1).kind_low, (counts (form_of c.args.newer) (form_of (not c.args.newer)) c.args.card.now (record { card = c.args.to.now; length = c.args.told.now }) _ _ c.read-read.ensures.0 c.read-1.head c.read-1.in-Card-own.given.1).some, twelve c.args.newer _ (counts (form_of c.args.newer) (form_of (not c.args.newer)) c.args.card.now (record { card = c.args.to.now; length = c.args.told.now }) _ _ c.read-read.ensures.0 c.read-1.head c.read-1.in-Card-own.given.1).most, part_many _ _ c.read-1.head.kind c.read-1.head.count c.read-read.ensures.1 (twelve c.args.newer _ (counts (form_of c.args.newer) (form_of (not c.args.newer)) c.args.card.now (record { card = c.args.to.now; length = c.args.told.now }) _ _ c.read-read.ensures.0 c.read-1.head c.read-1.in-Card-own.given.1).most) c.value_count-total.ensures)
+
+pub returns : goal.returns
+returns c = let g = moved_goes (form_of c.args.newer) (form_of (not c.args.newer)) c.args.card.now (record { card = c.args.to.now; length = c.args.told.now }) _ _ c.read-read.ensures.0 c.read-1.head c.read-1.in-Card-own.given.1 _ (few_enough c.args.newer c.read-1.head.count (counts (form_of c.args.newer) (form_of (not c.args.newer)) c.args.card.now (record { card = c.args.to.now; length = c.args.told.now }) _ _ c.read-read.ensures.0 c.read-1.head c.read-1.in-Card-own.given.1).most c.if-newer-n.false) c.value_count-total.ensures in (rw g c.store.ensures.0, rw g c.store.ensures.1, rw g c.store.ensures.2)

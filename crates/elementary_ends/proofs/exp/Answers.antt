@@ -1,0 +1,6 @@
+-- `elementary_ends::exp` meets its contract. Assumes nothing.
+use borrow.Author.Rules.{rules}
+use Rattle.elementary_ends.proofs.exp.Goals as goal
+
+pub returns : goal.returns
+returns c = rw (c.answered.ensures, c.exp.ensures)

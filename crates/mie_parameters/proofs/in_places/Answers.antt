@@ -1,0 +1,19 @@
+-- `mie_parameters::in_places` meets its contract. Assumes nothing.
+use Rattle.mie_parameters.specs.Places.{in_places}
+use Rattle.std.proofs.Common.{◌≡◌, ◌-◌, ◌≤◌, set, replicate, refl, rules}
+use Rattle.number.proofs.Walk.{turns_none, turns_next, turns_end}
+use Rattle.number.specs.Walk.{turns}
+use Rattle.sizes.specs.Sizes.{side}
+use Rattle.number.specs.Lists.{at}
+use Rattle.number.specs.Arith.{zero64}
+use Rattle.mie_parameters.proofs.in_places.Goals as goal
+
+pub loop-i-init : goal.loop-i-init
+loop-i-init c = (search rules, turns_none _ _)
+
+pub loop-i-preserved : goal.loop-i-preserved
+loop-i-preserved c = (search rules, turns_next _ _ _ _ _ c.loop-i.invariant.1 refl)
+
+pub returns : goal.returns
+unfolding in_places
+returns c = turns_end _ _ _ _ _ c.loop-i.invariant.0 c.loop-i-test.false c.loop-i.invariant.1

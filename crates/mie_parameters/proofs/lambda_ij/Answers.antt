@@ -1,0 +1,18 @@
+-- `mie_parameters::lambda_ij` meets its contract. Assumes nothing.
+use Rattle.mie_parameters.specs.Combine.{lambda_ij}
+use lib.Ieee.{of_bits}
+use Rattle.number.specs.Arith.{decimal}
+use Rattle.number.specs.Ans.{◌>>=◌}
+use Rattle.number.specs.Answer.{answer}
+use Rattle.number.specs.Functions.{answered}
+use Rattle.number.proofs.Walk.{via}
+use Rattle.std.proofs.Common.{rules}
+use Rattle.mie_parameters.proofs.lambda_ij.Goals as goal
+
+pub returns-in_default : goal.returns-in_default
+unfolding lambda_ij answered ◌>>=◌ decimal of_bits
+returns-in_default c = rw (via answer c.sqrt.ensures c.in_default.is)
+
+pub returns : goal.returns
+unfolding lambda_ij answered ◌>>=◌ decimal of_bits
+returns c = rw (via answer c.sqrt.ensures c.in-Value.is)

@@ -1,0 +1,20 @@
+-- `saftvrmie_diameter::betas_of` meets its contract. Assumes nothing.
+use Rattle.number.proofs.Walk.{turns_none, turns_next, turns_end}
+use mathlib.Core.Path.{◌≡◌}
+use Prim.Native.Nat.{◌≤◌, ◌-◌}
+use Rattle.number.specs.Walk.{turns}
+use lib.ListN.{get_or, set, replicate}
+use Rattle.number.specs.Arith.{zero64}
+use Rattle.saftvrmie_diameter.specs.Staged.{beta_uAt, beyond, betas_of}
+use borrow.Author.Rules.{rules}
+use Rattle.saftvrmie_diameter.proofs.betas_of.Goals as goal
+
+pub loop-k-init : goal.loop-k-init
+loop-k-init c = (search rules, turns_none _ _)
+
+pub loop-k-preserved : goal.loop-k-preserved
+loop-k-preserved c = (search rules, turns_next _ _ _ _ _ c.loop-k.invariant.1 (rw c.beta_u_mie.ensures))
+
+pub returns : goal.returns
+unfolding betas_of
+returns c = turns_end 10 _ _ _ _ c.loop-k.invariant.0 c.loop-k-test.false c.loop-k.invariant.1

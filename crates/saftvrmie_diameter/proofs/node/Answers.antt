@@ -1,0 +1,22 @@
+-- `saftvrmie_diameter::node` meets its contract. Assumes nothing.
+use lib.Ieee.{of_bits}
+use Rattle.number.specs.Arith.{decimal}
+use Rattle.saftvrmie_diameter.specs.Staged.{node_at}
+use Rattle.number.specs.Ans.{◌>>=◌, demand}
+use Rattle.number.specs.Answer.{answer}
+use borrow.Author.Tests.{not-true, not-false}
+use Rattle.number.proofs.Walk.{told, via}
+use borrow.Author.Rules.{rules}
+use Rattle.saftvrmie_diameter.proofs.node.Goals as goal
+
+pub returns-then-not-base_inside : goal.returns-then-not-base_inside
+unfolding node_at demand ◌>>=◌
+returns-then-not-base_inside c = rw (told c.base_inside.ensures c.if-not-base_inside.true)
+
+pub returns-in_default : goal.returns-in_default
+unfolding node_at demand ◌>>=◌
+returns-in_default c = rw (told c.base_inside.ensures c.if-not-base_inside.false, via answer c.exp_m1.ensures c.in_default.is)
+
+pub returns : goal.returns
+unfolding node_at demand ◌>>=◌ decimal of_bits
+returns c = rw (told c.base_inside.ensures c.if-not-base_inside.false, via answer c.exp_m1.ensures c.in-Value.is, c.weight.ensures)

@@ -1,0 +1,18 @@
+-- `slopes::ln` meets its contract. Assumes nothing.
+use Rattle.number.proofs.Walk.{via}
+use Rattle.number.specs.Answer.{answer}
+use Rattle.number.specs.Ans.{◌>>=◌}
+use Rattle.slopes.specs.Rules.{ln_d}
+use Rattle.dual.specs.Value.{dual_of}
+use lib.Ieee.{of_bits}
+use Rattle.number.specs.Arith.{decimal}
+use borrow.Author.Rules.{rules}
+use Rattle.slopes.proofs.ln.Goals as goal
+
+pub returns-in_default : goal.returns-in_default
+unfolding ln_d dual_of ◌>>=◌ decimal of_bits
+returns-in_default c = rw (via answer c.ln.ensures c.in_default.is)
+
+pub returns : goal.returns
+unfolding ln_d dual_of ◌>>=◌ decimal of_bits
+returns c = rw (via answer c.ln.ensures c.in-Value.is)
