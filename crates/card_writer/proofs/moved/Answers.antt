@@ -20,10 +20,10 @@ pub value_count-total-requires : goal.value_count-total-requires
 value_count-total-requires c = ((counts (form_of c.args.newer) (form_of (not c.args.newer)) c.args.card.now (record { card = c.args.to.now; length = c.args.told.now }) _ _ c.read-read.ensures.0 c.in-Card.head c.in-Card.is).some, twelve c.args.newer _ (counts (form_of c.args.newer) (form_of (not c.args.newer)) c.args.card.now (record { card = c.args.to.now; length = c.args.told.now }) _ _ c.read-read.ensures.0 c.in-Card.head c.in-Card.is).most)
 
 pub slice_bounds-store-end : goal.slice_bounds-store-end
-slice_bounds-store-end c = omega (arith, total_small c.read-1.head.kind c.read-1.head.count _ (twelve c.args.newer _ (counts (form_of c.args.newer) (form_of (not c.args.newer)) c.args.card.now (record { card = c.args.to.now; length = c.args.told.now }) _ _ c.read-read.ensures.0 c.read-1.head c.read-1.in-Card-own.given.1).most) c.value_count-total.ensures, c.read-read.ensures.1)
+slice_bounds-store-end c = omega (arith, total_small c.in-Card.head.kind c.in-Card.head.count _ (twelve c.args.newer _ (counts (form_of c.args.newer) (form_of (not c.args.newer)) c.args.card.now (record { card = c.args.to.now; length = c.args.told.now }) _ _ c.read-read.ensures.0 c.in-Card.head c.in-Card.is).most) c.value_count-total.ensures, c.read-read.ensures.1)
 
 pub store-requires : goal.store-requires
-store-requires c = ((counts (form_of c.args.newer) (form_of (not c.args.newer)) c.args.card.now (record { card = c.args.to.now; length = c.args.told.now }) _ _ c.read-read.ensures.0 c.read-1.head c.read-1.in-Card-own.given.1).kind_low, (counts (form_of c.args.newer) (form_of (not c.args.newer)) c.args.card.now (record { card = c.args.to.now; length = c.args.told.now }) _ _ c.read-read.ensures.0 c.read-1.head c.read-1.in-Card-own.given.1).some, twelve c.args.newer _ (counts (form_of c.args.newer) (form_of (not c.args.newer)) c.args.card.now (record { card = c.args.to.now; length = c.args.told.now }) _ _ c.read-read.ensures.0 c.read-1.head c.read-1.in-Card-own.given.1).most, part_many _ _ c.read-1.head.kind c.read-1.head.count c.read-read.ensures.1 (twelve c.args.newer _ (counts (form_of c.args.newer) (form_of (not c.args.newer)) c.args.card.now (record { card = c.args.to.now; length = c.args.told.now }) _ _ c.read-read.ensures.0 c.read-1.head c.read-1.in-Card-own.given.1).most) c.value_count-total.ensures)
+store-requires c = ((counts (form_of c.args.newer) (form_of (not c.args.newer)) c.args.card.now (record { card = c.args.to.now; length = c.args.told.now }) _ _ c.read-read.ensures.0 c.in-Card.head c.in-Card.is).kind_low, (counts (form_of c.args.newer) (form_of (not c.args.newer)) c.args.card.now (record { card = c.args.to.now; length = c.args.told.now }) _ _ c.read-read.ensures.0 c.in-Card.head c.in-Card.is).some, twelve c.args.newer _ (counts (form_of c.args.newer) (form_of (not c.args.newer)) c.args.card.now (record { card = c.args.to.now; length = c.args.told.now }) _ _ c.read-read.ensures.0 c.in-Card.head c.in-Card.is).most, part_many _ _ c.in-Card.head.kind c.in-Card.head.count c.read-read.ensures.1 (twelve c.args.newer _ (counts (form_of c.args.newer) (form_of (not c.args.newer)) c.args.card.now (record { card = c.args.to.now; length = c.args.told.now }) _ _ c.read-read.ensures.0 c.in-Card.head c.in-Card.is).most) c.value_count-total.ensures)
 
 pub returns : goal.returns
-returns c = let g = moved_goes (form_of c.args.newer) (form_of (not c.args.newer)) c.args.card.now (record { card = c.args.to.now; length = c.args.told.now }) _ _ c.read-read.ensures.0 c.read-1.head c.read-1.in-Card-own.given.1 _ (few_enough c.args.newer c.read-1.head.count (counts (form_of c.args.newer) (form_of (not c.args.newer)) c.args.card.now (record { card = c.args.to.now; length = c.args.told.now }) _ _ c.read-read.ensures.0 c.read-1.head c.read-1.in-Card-own.given.1).most c.if-newer-n.false) c.value_count-total.ensures in (rw g c.store.ensures.0, rw g c.store.ensures.1, rw g c.store.ensures.2)
+returns c = let g = moved_goes (form_of c.args.newer) (form_of (not c.args.newer)) c.args.card.now (record { card = c.args.to.now; length = c.args.told.now }) _ _ c.read-read.ensures.0 c.in-Card.head c.in-Card.is _ (few_enough c.args.newer c.in-Card.head.count (counts (form_of c.args.newer) (form_of (not c.args.newer)) c.args.card.now (record { card = c.args.to.now; length = c.args.told.now }) _ _ c.read-read.ensures.0 c.in-Card.head c.in-Card.is).most c.if-newer-n.false) c.value_count-total.ensures in (rw g c.store.ensures.0, rw g c.store.ensures.1, rw g c.store.ensures.2)
