@@ -10,6 +10,7 @@ import re
 import sys
 
 HUMP = re.compile(r"^[a-z][^-]*[a-z0-9₀-₉][A-Z][^-]*$")
+HUMPS = re.compile(r"(?<=[a-z0-9₀-₉])(?=[A-Z])|(?<=[A-Z])(?=[A-Z][a-z])")
 NAME = re.compile(r'[^\s(){}.;,@"«»]+')
 DECL = re.compile(r"(?m)^[ \t]*(?:(?:abbrev|unfoldable|pub|data|record|infixl|infixr) )*([^\s(){}.;,@\"«»:]+)(?: [\{\(][^\n]*?[\}\)])* :(?=\s)[ \t]*(tie\.Need-)?")
 LIBRARY = re.compile(r"(?m)^ *(?:ghost )?use (?!Rattle\.(?!std\b|core\b))([\w.']+)\.\{([^}]*)\}")
@@ -48,7 +49,8 @@ def is_told_apart(name):
 def snake(name):
     if name in OTHER:
         return OTHER[name]
-    return re.sub(r"(?<=[a-z0-9₀-₉])([A-Z])", lambda m: "_" + m[1].lower(), name).replace("-", "_")
+    first, *rest = HUMPS.split(name)
+    return "_".join([first] + [re.sub("^[A-Z]+", lambda m: m[0].lower(), w) for w in rest]).replace("-", "_")
 
 
 def texts():

@@ -152,17 +152,17 @@ mie_lengths_told x p =
     }
 
 -- ---- the quantum card
-module _ (x : Quantum.Lists) (l : CardRoom) (a : ParameterAnswer) (p : a ≡ verdict (passed (Quantum.saft_vRQMie_pars x))) where
+module _ (x : Quantum.Lists) (l : CardRoom) (a : ParameterAnswer) (p : a ≡ verdict (passed (Quantum.saft_vrq_mie_pars x))) where
   pub vrq_stops : (n : ℕ) → a ≡ Refused n → refused n ≡ vrq_card x l
   unfolding vrq_card ◌>>=◌
-  vrq_stops n e = rw (verdict_refused (passed (Quantum.saft_vRQMie_pars x)) a n p e)
+  vrq_stops n e = rw (verdict_refused (passed (Quantum.saft_vrq_mie_pars x)) a n p e)
 
   module _ (e : a ≡ Held) where
-    held_true : (b : Bool) × (passed (Quantum.saft_vRQMie_pars x) ≡ held b)
-    held_true = verdict_held (passed (Quantum.saft_vRQMie_pars x)) a p e
+    held_true : (b : Bool) × (passed (Quantum.saft_vrq_mie_pars x) ≡ held b)
+    held_true = verdict_held (passed (Quantum.saft_vrq_mie_pars x)) a p e
 
     pub vrq_lengths : QuantumLengths x
-    unfolding Quantum.saft_vRQMie_pars
+    unfolding Quantum.saft_vrq_mie_pars
     vrq_lengths = quantum_lengths x (passes 1 (Quantum.right_lengths x) _ held_true.0 refl held_true.1).test
 
     pub vrq_many : 8 < x.count → refused 10 ≡ vrq_card x l
@@ -179,17 +179,17 @@ module _ (x : Quantum.Lists) (l : CardRoom) (a : ParameterAnswer) (p : a ≡ ver
         rw (held_true.1, le-leb x.count 8 h, z, t, d, c)
 
 -- ---- the card of SAFT-VR Mie
-module _ (x : Mie.Lists) (l : CardRoom) (a : ParameterAnswer) (p : a ≡ verdict (passed (Mie.saft_vRMie_pars x))) where
+module _ (x : Mie.Lists) (l : CardRoom) (a : ParameterAnswer) (p : a ≡ verdict (passed (Mie.saft_vr_mie_pars x))) where
   pub vr_stops : (n : ℕ) → a ≡ Refused n → refused n ≡ vr_card x l
   unfolding vr_card ◌>>=◌
-  vr_stops n e = rw (verdict_refused (passed (Mie.saft_vRMie_pars x)) a n p e)
+  vr_stops n e = rw (verdict_refused (passed (Mie.saft_vr_mie_pars x)) a n p e)
 
   module _ (e : a ≡ Held) where
-    mie_true : (b : Bool) × (passed (Mie.saft_vRMie_pars x) ≡ held b)
-    mie_true = verdict_held (passed (Mie.saft_vRMie_pars x)) a p e
+    mie_true : (b : Bool) × (passed (Mie.saft_vr_mie_pars x) ≡ held b)
+    mie_true = verdict_held (passed (Mie.saft_vr_mie_pars x)) a p e
 
     pub vr_lengths : MieLengths x
-    unfolding Mie.saft_vRMie_pars
+    unfolding Mie.saft_vr_mie_pars
     vr_lengths = mie_lengths_told x (passes 1 (Mie.right_lengths x) _ mie_true.0 refl mie_true.1).test
 
     pub vr_many : 8 < x.count → refused 10 ≡ vr_card x l

@@ -62,12 +62,12 @@ passed_answer (Refused n) = cond (eqb n 6) Held (Refused n)
 -- Slip 8: 'The fuel card of Slip 2 still holds at most eight, and its writer gives 10 for more, directly after those tests for 1 to 5.' 12 after them
 unfoldable pub vrq_card : Quantum.Lists → CardRoom → Ans CardRoom
 vrq_card x l =
-    passed (Quantum.saft_vRQMie_pars x) >>= λ _.
+    passed (Quantum.saft_vrq_mie_pars x) >>= λ _.
     demand 10 (leb x.count older.most) >>= λ _.
     card_stored (card_bytes older (quantum_card x)) l
 
 unfoldable pub vr_card : Mie.Lists → CardRoom → Ans CardRoom
 vr_card x l =
-    passed (Mie.saft_vRMie_pars x) >>= λ _.
+    passed (Mie.saft_vr_mie_pars x) >>= λ _.
     demand 10 (leb x.count older.most) >>= λ _.
     card_stored (card_bytes older (mie_card x)) l

@@ -46,22 +46,22 @@ unfolding stored
 held_stored l x q p = rw p
 
 module _ (c : Card) (l : QuantumLent) (g : QuantumGiven.ParameterSet) where
-  pub quantum_stored_refused : (n : ℕ) → g ≡ Quantum.given (Quantum.saft_vRQMie_pars (quantum_lists c)) → g.answer ≡ Refused n → quantum_stored c l ≡ refused n
+  pub quantum_stored_refused : (n : ℕ) → g ≡ Quantum.given (Quantum.saft_vrq_mie_pars (quantum_lists c)) → g.answer ≡ Refused n → quantum_stored c l ≡ refused n
   unfolding quantum_stored ◌>>=◌
-  quantum_stored_refused n p e = rw (quantum_refused (Quantum.saft_vRQMie_pars (quantum_lists c)) g n p e)
+  quantum_stored_refused n p e = rw (quantum_refused (Quantum.saft_vrq_mie_pars (quantum_lists c)) g n p e)
 
-  pub quantum_stored_held : g ≡ Quantum.given (Quantum.saft_vRQMie_pars (quantum_lists c)) → g.answer ≡ Held → quantum_stored c l ≡ held (set_written g.set l)
+  pub quantum_stored_held : g ≡ Quantum.given (Quantum.saft_vrq_mie_pars (quantum_lists c)) → g.answer ≡ Held → quantum_stored c l ≡ held (set_written g.set l)
   unfolding quantum_stored ◌>>=◌
-  quantum_stored_held p e = rw (quantum_held (Quantum.saft_vRQMie_pars (quantum_lists c)) g p e)
+  quantum_stored_held p e = rw (quantum_held (Quantum.saft_vrq_mie_pars (quantum_lists c)) g p e)
 
 module _ (c : Card) (l : MieLent) (g : MieGiven.ParameterSet) where
-  pub mie_stored_refused : (n : ℕ) → g ≡ Mie.given (Mie.saft_vRMie_pars (mie_lists c)) → g.answer ≡ Refused n → mie_stored c l ≡ refused n
+  pub mie_stored_refused : (n : ℕ) → g ≡ Mie.given (Mie.saft_vr_mie_pars (mie_lists c)) → g.answer ≡ Refused n → mie_stored c l ≡ refused n
   unfolding mie_stored ◌>>=◌
-  mie_stored_refused n p e = rw (mie_refused (Mie.saft_vRMie_pars (mie_lists c)) g n p e)
+  mie_stored_refused n p e = rw (mie_refused (Mie.saft_vr_mie_pars (mie_lists c)) g n p e)
 
-  pub mie_stored_held : g ≡ Mie.given (Mie.saft_vRMie_pars (mie_lists c)) → g.answer ≡ Held → mie_stored c l ≡ held (mie_written g.set l)
+  pub mie_stored_held : g ≡ Mie.given (Mie.saft_vr_mie_pars (mie_lists c)) → g.answer ≡ Held → mie_stored c l ≡ held (mie_written g.set l)
   unfolding mie_stored ◌>>=◌
-  mie_stored_held p e = rw (mie_held (Mie.saft_vRMie_pars (mie_lists c)) g p e)
+  mie_stored_held p e = rw (mie_held (Mie.saft_vr_mie_pars (mie_lists c)) g p e)
 
 -- what goes on with a part that was accepted
 bind_held : {S T : Type 0} (q : Ans S) (l : S) (g : S → T) → q ≡ held (stored l q) → (q >>= λ w. held (g w)) ≡ held (g (stored l q))

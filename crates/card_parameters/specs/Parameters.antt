@@ -22,10 +22,10 @@ unfoldable pub card_lengths : List Float → List Float → List Float → List 
 card_lengths m lists sheets orders = quantum_lengths m sheets orders && mie_lengths lists sheets
 
 unfoldable pub quantum_stored : Card → QuantumLent → Ans QuantumLent
-quantum_stored c l = Quantum.saft_vRQMie_pars (quantum_lists c) >>= λ s. held (set_written s l)
+quantum_stored c l = Quantum.saft_vrq_mie_pars (quantum_lists c) >>= λ s. held (set_written s l)
 
 unfoldable pub mie_stored : Card → MieLent → Ans MieLent
-mie_stored c l = Mie.saft_vRMie_pars (mie_lists c) >>= λ s. held (mie_written s l)
+mie_stored c l = Mie.saft_vr_mie_pars (mie_lists c) >>= λ s. held (mie_written s l)
 
 -- the set in the lists of its model; those of the other keep their bits
 unfoldable pub card_stored : Card → CardLent → Ans CardLent

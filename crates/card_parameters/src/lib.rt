@@ -19,7 +19,7 @@ use mie_parameters::ParameterAnswer;
 fn quantum_set(values: &[u64], n: usize) -> saftvrqmie_parameters::ParameterSet
     requires { (n ≤ side) × (length values.now ≡ n * 6 + n * (n - 1)) }
     ensures { let c : Card = record { kind = 0; count = n; values = values.now } in
-        result ≡ Quantum.given (Quantum.saft_vRQMie_pars (quantum_lists c)) }
+        result ≡ Quantum.given (Quantum.saft_vrq_mie_pars (quantum_lists c)) }
 {
     let square = n * n;
     let start = n * 6;
@@ -50,7 +50,7 @@ fn quantum_set(values: &[u64], n: usize) -> saftvrqmie_parameters::ParameterSet
 fn mie_set(values: &[u64], kind: usize, n: usize) -> saftvrmie_parameters::ParameterSet
     requires { (n ≤ side) × (length values.now ≡ n * 5 + n * (n - 1)) }
     ensures { let c : Card = record { kind = kind; count = n; values = values.now } in
-        result ≡ Mie.given (Mie.saft_vRMie_pars (mie_lists c)) }
+        result ≡ Mie.given (Mie.saft_vr_mie_pars (mie_lists c)) }
 {
     let square = n * n;
     let start = n * 5;

@@ -170,7 +170,7 @@ pub record VrWritten (x : Mie.Lists) (room after : CardRoom) : Type 0 where
 pub vr_written : (x : Mie.Lists) (room after : CardRoom) → MieFloats x → vr_card x room ≡ held after → VrWritten x room after
 unfolding vr_card
 vr_written x room after f p =
-    let a = then_held (passed (Mie.saft_vRMie_pars x)) _ after p in
+    let a = then_held (passed (Mie.saft_vr_mie_pars x)) _ after p in
     let b = then_held (demand 10 (leb x.count older.most)) _ after a.2 in
     let t = mie_tested x a.0 a.1 in
     let few = leb-true x.count 8 (demanded 10 (leb x.count 8) b.0 b.1) in
@@ -184,12 +184,12 @@ vr_written x room after f p =
       same_length = s.same_length;
     }
 
-vr_goes : (x : Mie.Lists) (b : Bool) (room : CardRoom) → passed (Mie.saft_vRMie_pars x) ≡ held b → x.count ≤ 8 → vr_card x room ≡ card_stored (card_bytes older (mie_card x)) room
+vr_goes : (x : Mie.Lists) (b : Bool) (room : CardRoom) → passed (Mie.saft_vr_mie_pars x) ≡ held b → x.count ≤ 8 → vr_card x room ≡ card_stored (card_bytes older (mie_card x)) room
 unfolding vr_card demand ◌>>=◌
 vr_goes x b room q h = rw (q, le-leb x.count 8 h)
 
 -- ---- 'every card that reads well and whose lists pass those tests is written back unchanged'
-pub vr_unchanged : (l : List ℕ) (c : Card) (b : Bool) (room : CardRoom) → Bytes l → read_card older l ≡ held c → c.kind ≡ 1 → passed (Mie.saft_vRMie_pars (mie_lists c)) ≡ held b → length l ≤ length room.card
+pub vr_unchanged : (l : List ℕ) (c : Card) (b : Bool) (room : CardRoom) → Bytes l → read_card older l ≡ held c → c.kind ≡ 1 → passed (Mie.saft_vr_mie_pars (mie_lists c)) ≡ held b → length l ≤ length room.card
     → vr_card (mie_lists c) room ≡ held (record { card = l ++ drop (length l) room.card; length = length l })
 vr_unchanged l c b room w p z q h =
     let e = reads_well older l c p in

@@ -200,7 +200,7 @@ pub record VrqWritten (x : Quantum.Lists) (room after : CardRoom) : Type 0 where
 pub vrq_written : (x : Quantum.Lists) (room after : CardRoom) → QuantumFloats x → vrq_card x room ≡ held after → VrqWritten x room after
 unfolding vrq_card
 vrq_written x room after f p =
-    let a = then_held (passed (Quantum.saft_vRQMie_pars x)) _ after p in
+    let a = then_held (passed (Quantum.saft_vrq_mie_pars x)) _ after p in
     let b = then_held (demand 10 (leb x.count older.most)) _ after a.2 in
     let t = quantum_tested x a.0 a.1 in
     let few = leb-true x.count 8 (demanded 10 (leb x.count 8) b.0 b.1) in
@@ -214,12 +214,12 @@ vrq_written x room after f p =
       same_length = s.same_length;
     }
 
-vrq_goes : (x : Quantum.Lists) (b : Bool) (room : CardRoom) → passed (Quantum.saft_vRQMie_pars x) ≡ held b → x.count ≤ 8 → vrq_card x room ≡ card_stored (card_bytes older (quantum_card x)) room
+vrq_goes : (x : Quantum.Lists) (b : Bool) (room : CardRoom) → passed (Quantum.saft_vrq_mie_pars x) ≡ held b → x.count ≤ 8 → vrq_card x room ≡ card_stored (card_bytes older (quantum_card x)) room
 unfolding vrq_card demand ◌>>=◌
 vrq_goes x b room q h = rw (q, le-leb x.count 8 h)
 
 -- ---- 'every card that reads well and whose lists pass those tests is written back unchanged'
-pub vrq_unchanged : (l : List ℕ) (c : Card) (b : Bool) (room : CardRoom) → Bytes l → read_card older l ≡ held c → c.kind ≡ 0 → passed (Quantum.saft_vRQMie_pars (quantum_lists c)) ≡ held b → length l ≤ length room.card
+pub vrq_unchanged : (l : List ℕ) (c : Card) (b : Bool) (room : CardRoom) → Bytes l → read_card older l ≡ held c → c.kind ≡ 0 → passed (Quantum.saft_vrq_mie_pars (quantum_lists c)) ≡ held b → length l ≤ length room.card
     → vrq_card (quantum_lists c) room ≡ held (record { card = l ++ drop (length l) room.card; length = length l })
 vrq_unchanged l c b room w p z q h =
     let e = reads_well older l c p in

@@ -211,8 +211,8 @@ unfolding passed ◌>>=◌
 passed_walk (held y) f b h p = (y, refl)
 passed_walk (refused m) f b h p = let q = rw (h m refl) at p in let z : ◌≡◌ {A = ℕ} 0 1 = cc in absurd (omega arith)
 
-pub quantum_tested : (x : Quantum.Lists) (b : Bool) → passed (Quantum.saft_vRQMie_pars x) ≡ held b → QuantumTested x
-unfolding Quantum.saft_vRQMie_pars Quantum.within_limits
+pub quantum_tested : (x : Quantum.Lists) (b : Bool) → passed (Quantum.saft_vrq_mie_pars x) ≡ held b → QuantumTested x
+unfolding Quantum.saft_vrq_mie_pars Quantum.within_limits
 quantum_tested x b p =
     let n = x.count in
     let c = components x.sigma x.epsilon_k x.lr x.la in
@@ -241,8 +241,8 @@ pub record MieTested (x : Mie.Lists) : Type 0 where
   pub k_ij : Pairs x.count (square x.count x.k_ij)
   pub gamma_ij : Pairs x.count (square x.count x.gamma_ij)
 
-pub mie_tested : (x : Mie.Lists) (b : Bool) → passed (Mie.saft_vRMie_pars x) ≡ held b → MieTested x
-unfolding Mie.saft_vRMie_pars Mie.within_limits
+pub mie_tested : (x : Mie.Lists) (b : Bool) → passed (Mie.saft_vr_mie_pars x) ≡ held b → MieTested x
+unfolding Mie.saft_vr_mie_pars Mie.within_limits
 mie_tested x b p =
     let n = x.count in
     let c = components x.sigma x.epsilon_k x.lr x.la in

@@ -19,9 +19,9 @@ use Rattle.dual.specs.Dual.{plain_d, add_d, sub_d, neg_d, mul_d, div_d, pow_d, d
 use Rattle.mie_parameters.specs.Places.{in_places}
 use Rattle.mie_parameters.specs.Sums.{weighted, orders_sum, f_from}
 use Rattle.saftvrmie_parameters.specs.declared.SaftVRMiePars.{SaftVRMiePars}
-use Rattle.saftvrmie_dispersion.specs.Sutherland.{k_hs, fluid_of, c_row, zeta_eff, a1s, i_of, j_of, b_of, a1s_bOf, a1s_b}
+use Rattle.saftvrmie_dispersion.specs.Sutherland.{k_hs, fluid_of, c_row, zeta_eff, a1s, i_of, j_of, b_of, a1s_b_of, a1s_b}
 use Rattle.saftvrmie_dispersion.specs.Terms.{f, bar_of, xi_of, a3_of, x0_of, add_pure, five, pref_of, a1_of, a2_of, term_orders_of}
-use Rattle.saftvrmie_dispersion.specs.Chain.{k_of, rho_dual, zeta_dual, fluid_dual, g1_of, g2_of, link_pref, add_link, g_hs, gamma_of, ln_gMie, link_of, chain_pure}
+use Rattle.saftvrmie_dispersion.specs.Chain.{k_of, rho_dual, zeta_dual, fluid_dual, g1_of, g2_of, link_pref, add_link, g_hs, gamma_of, ln_g_mie, link_of, chain_pure}
 use Rattle.saftvrmie_energies.specs.Properties.{total, xs_of, d_ij, d3_ij, s3_ij, zeta_turn, zeta_row, zeta_sum, after_lower, properties}
 use Rattle.saftvrmie_energies.specs.Dispersion.{pair_row, chain_row, chain_rows, dispersion_chain}
 use Rattle.saftvrmie_energies.specs.Energies.{energy_run}
@@ -52,7 +52,7 @@ alone = one ∷ []
 
 -- at temperature 1, alone, with density and diameter 1; the constants are the Rust's floats
 pub example : Example
-unfolding energy_run dispersion_chain properties total weighted turns xs_of in_places d_ij d3_ij s3_ij zeta_sum zeta_row zeta_turn after_lower k_of chain_rows chain_row pair_row walk chain_pure add_pure add_link link_of g_hs gamma_of ln_gMie g1_of g2_of link_pref a3_of f f_from xi_of bar_of orders_sum term_orders_of five a1s_b ◌>>=◌ answered answered₂ x0_of k_hs fluid_of c_row zeta_eff a1s i_of j_of b_of a1s_bOf pref_of a1_of a2_of rho_dual zeta_dual fluid_dual plain_d add_d sub_d neg_d mul_d div_d pow_d down_d exactly chosen add_x sub_x mul_x div_x neg_x after_x pow_x down_x digits pow_digits pow_up decimal Ieee.of_int Ieee.neg Ieee.of_bits Ieee.eq Ieee.add Ieee.mul
+unfolding energy_run dispersion_chain properties total weighted turns xs_of in_places d_ij d3_ij s3_ij zeta_sum zeta_row zeta_turn after_lower k_of chain_rows chain_row pair_row walk chain_pure add_pure add_link link_of g_hs gamma_of ln_g_mie g1_of g2_of link_pref a3_of f f_from xi_of bar_of orders_sum term_orders_of five a1s_b ◌>>=◌ answered answered₂ x0_of k_hs fluid_of c_row zeta_eff a1s i_of j_of b_of a1s_b_of pref_of a1_of a2_of rho_dual zeta_dual fluid_dual plain_d add_d sub_d neg_d mul_d div_d pow_d down_d exactly chosen add_x sub_x mul_x div_x neg_x after_x pow_x down_x digits pow_digits pow_up decimal Ieee.of_int Ieee.neg Ieee.of_bits Ieee.eq Ieee.add Ieee.mul
 example =
     record {
       C = λ c. val_f (nearest c);

@@ -6,7 +6,7 @@ use Rattle.number.specs.Arith.{Arith, zero64}
 use Rattle.number.specs.Functions.{Functions}
 use Rattle.enclosure.specs.Exact.{Exact}
 use Rattle.dual.specs.Dual.{DualOf, duals, plain_d, pow_d, down_d}
-use Rattle.saftvrmie_dispersion.specs.Sutherland.{FluidIn, k_hs, fluid_of, zeta_eff, a1s, i_of, j_of, b_of, a1s_bOf, a1s_b}
+use Rattle.saftvrmie_dispersion.specs.Sutherland.{FluidIn, k_hs, fluid_of, zeta_eff, a1s, i_of, j_of, b_of, a1s_b_of, a1s_b}
 use Rattle.saftvrmie_dispersion.specs.Terms.{PairIn, five, pref_of, a1_of, a2_of, term_orders_of}
 
 abbrev pub no_result : Exact
@@ -56,5 +56,5 @@ module _ (A : Arith) (ended : A.Num) where
 
   pub same_orders : (F : Functions A.Num) (w : FluidIn (DualOf A.Num)) (p : PairIn A.Num) (d : A.Num)
       → term_orders_of A guarded (plain_d A) F w p d ≡ term_orders_of A (duals A) (plain_d A) F w p d
-  unfolding zeta_eff a1s i_of j_of b_of a1s_bOf a1s_b five pref_of a1_of a2_of term_orders_of
+  unfolding zeta_eff a1s i_of j_of b_of a1s_b_of a1s_b five pref_of a1_of a2_of term_orders_of
   same_orders F w p d = refl

@@ -22,7 +22,7 @@ use Rattle.dual.specs.Dual.{DualOf, duals, plain_d, mul_d, sub_d, div_d, pow_d}
 use Rattle.saftvrmie_parameters.specs.declared.SaftVRMiePars.{SaftVRMiePars}
 use Rattle.saftvrmie_dispersion.specs.Sutherland.{FluidIn, k_hs, fluid_of}
 use Rattle.saftvrmie_dispersion.specs.Terms.{PairIn, BarIn, OrdersIn, TermsIn, SumsIn, add_pure, add_pair, a2_of, term_orders_of}
-use Rattle.saftvrmie_dispersion.specs.Chain.{KIn, LinkIn, rho_dual, zeta_dual, fluid_dual, g1_of, g2_of, add_link, ln_gMie, link_of, chain_pure}
+use Rattle.saftvrmie_dispersion.specs.Chain.{KIn, LinkIn, rho_dual, zeta_dual, fluid_dual, g1_of, g2_of, add_link, ln_g_mie, link_of, chain_pure}
 use Rattle.mie_parameters.specs.Sums.{orders_sum}
 use Rattle.saftvrmie_energies.specs.Properties.{PropertiesIn}
 use Rattle.saftvrmie_energies.specs.Dispersion.{StateIn, properties_at, pair_turn, pair_row, chain_row, chain_rows, dispersion_chain}
@@ -95,7 +95,7 @@ from_g2 C o p x k h = (from_mul _ _ (from_div _ _ (from_div _ _ (from_sub _ _ h)
 module _ (C : Choice) (F : Functions Exact) where
   from_link : (k : KIn Exact) (z : Exact) (o : OrdersIn (DualOf Exact)) (h : Exact) (p : PairIn Exact) (d : Exact) (l : LinkIn Exact) (y : Exact)
       → link_of (exacts C) F k z o h p d l ≡ held y → Some y → Some o.a1.eps × Some o.a2.eps
-  unfolding link_of ln_gMie
+  unfolding link_of ln_g_mie
   from_link k z o h p d l y e s =
       let g = before _ _ y e in
       let c = before _ _ y g.2 in

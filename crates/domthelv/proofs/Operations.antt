@@ -88,11 +88,11 @@ module _ (x : Quantum.Lists) (l : QuantumLent) where
   unfolding vrq_parameters demand ◌>>=◌
   parameters_1 p = rw p
 
-  pub parameters_refused : (n : ℕ) → quantum_lengths l.m l.sheets l.orders ≡ true → Quantum.saft_vRQMie_pars x ≡ refused n → vrq_parameters x l ≡ refused n
+  pub parameters_refused : (n : ℕ) → quantum_lengths l.m l.sheets l.orders ≡ true → Quantum.saft_vrq_mie_pars x ≡ refused n → vrq_parameters x l ≡ refused n
   unfolding vrq_parameters demand ◌>>=◌
   parameters_refused n p q = rw (p, q)
 
-  pub parameters_held : (s : SaftVRQMiePars) → quantum_lengths l.m l.sheets l.orders ≡ true → Quantum.saft_vRQMie_pars x ≡ held s → vrq_parameters x l ≡ held (set_written s l)
+  pub parameters_held : (s : SaftVRQMiePars) → quantum_lengths l.m l.sheets l.orders ≡ true → Quantum.saft_vrq_mie_pars x ≡ held s → vrq_parameters x l ≡ held (set_written s l)
   unfolding vrq_parameters demand ◌>>=◌
   parameters_held s p q = rw (p, q)
 
@@ -215,11 +215,11 @@ module _ (x : Mie.Lists) (l : MieLent) where
   unfolding vr_parameters demand ◌>>=◌
   mie_parameters_1 p = rw p
 
-  pub mie_parameters_refused : (n : ℕ) → mie_lengths l.lists l.sheets ≡ true → Mie.saft_vRMie_pars x ≡ refused n → vr_parameters x l ≡ refused n
+  pub mie_parameters_refused : (n : ℕ) → mie_lengths l.lists l.sheets ≡ true → Mie.saft_vr_mie_pars x ≡ refused n → vr_parameters x l ≡ refused n
   unfolding vr_parameters demand ◌>>=◌
   mie_parameters_refused n p q = rw (p, q)
 
-  pub mie_parameters_held : (s : SaftVRMiePars) → mie_lengths l.lists l.sheets ≡ true → Mie.saft_vRMie_pars x ≡ held s → vr_parameters x l ≡ held (mie_written s l)
+  pub mie_parameters_held : (s : SaftVRMiePars) → mie_lengths l.lists l.sheets ≡ true → Mie.saft_vr_mie_pars x ≡ held s → vr_parameters x l ≡ held (mie_written s l)
   unfolding vr_parameters demand ◌>>=◌
   mie_parameters_held s p q = rw (p, q)
 

@@ -37,7 +37,7 @@ order_counts_out n l =
 unfoldable pub vrq_parameters : Quantum.Lists → QuantumLent → Ans QuantumLent
 vrq_parameters x l =
     demand 1 (quantum_lengths l.m l.sheets l.orders) >>= λ _.
-    Quantum.saft_vRQMie_pars x >>= λ s.
+    Quantum.saft_vrq_mie_pars x >>= λ s.
     held (set_written s l)
 
 unfoldable pub vrq_table : QuantumLists → Float → Lent → Ans Lent
@@ -112,7 +112,7 @@ vrq_stage x t fractions rho wanted l =
 unfoldable pub vr_parameters : Mie.Lists → MieLent → Ans MieLent
 vr_parameters x l =
     demand 1 (mie_lengths l.lists l.sheets) >>= λ _.
-    Mie.saft_vRMie_pars x >>= λ s.
+    Mie.saft_vr_mie_pars x >>= λ s.
     held (mie_written s l)
 
 unfoldable pub vr_diameters : MieLists → Float → List Float → Ans (List Float)

@@ -19,8 +19,8 @@ module _ (A : Arith) where
 
   module _ (F : Functions Num) where
     -- (1.0 - k_ij) * e_k_ij, where e_k_ij is (sigma[i]³ * sigma[j]³).sqrt() / sigma_ij³ * (epsilon_k[i] * epsilon_k[j]).sqrt()
-    unfoldable pub epsilon_kIj : Num → Num → Num → Num → Num → Num → Ans Num
-    epsilon_kIj si sj ei ej sigma k =
+    unfoldable pub epsilon_k_ij : Num → Num → Num → Num → Num → Num → Ans Num
+    epsilon_k_ij si sj ei ej sigma k =
         F.sqrt (pow si 3 ⊗ pow sj 3) >>= λ cubes.
         F.sqrt (ei ⊗ ej) >>= λ energies.
         held ((one ⊖ k) ⊗ (cubes ⊘ pow sigma 3 ⊗ energies))

@@ -8,7 +8,7 @@ ghost use Rattle.number.specs.Functions.{calls};
 ghost use Rattle.elementary.specs.Port.{port};
 ghost use Rattle.number.specs.Lists.{at};
 ghost use Rattle.sizes.specs.Sizes.{side};
-ghost use Rattle.mie_parameters.specs.Combine.{epsilon_kIj, lambda_ij, c_ij};
+ghost use Rattle.mie_parameters.specs.Combine.{epsilon_k_ij, lambda_ij, c_ij};
 ghost use Rattle.mie_parameters.specs.Answer.{number_of};
 ghost use Rattle.mie_parameters.specs.Places.{in_places};
 
@@ -69,7 +69,7 @@ pub fn number(a: ParameterAnswer) -> u8
 }
 
 pub fn epsilon_k_ij(si: f64, sj: f64, ei: f64, ej: f64, sigma: f64, k: f64) -> FloatAnswer
-    ensures { answer result ≡ epsilon_kIj floats (calls floats port) si sj ei ej sigma k }
+    ensures { answer result ≡ epsilon_k_ij floats (calls floats port) si sj ei ej sigma k }
 {
     let FloatAnswer::Value(cubes) = elementary::sqrt(number::pow_up(si, 3) * number::pow_up(sj, 3))
     else {

@@ -26,7 +26,7 @@ use Rattle.limits.specs.Limits.{square, same_bits, pair_within, pairs_within, co
 use Rattle.mie_parameters.specs.Combine.{lambda_ij, c_ij}
 use Rattle.mie_parameters.proofs.Laws.{and_left, and_right}
 use Rattle.saftvrmie_parameters.specs.Combine.{lr_ij}
-use Rattle.saftvrmie_parameters.specs.Parameters.{Lists, right_lengths, component_of, within_limits, pair_parameters, store_pair, sheets_turn, sheets_row, sheets_of, saft_vRMie_pars}
+use Rattle.saftvrmie_parameters.specs.Parameters.{Lists, right_lengths, component_of, within_limits, pair_parameters, store_pair, sheets_turn, sheets_row, sheets_of, saft_vr_mie_pars}
 use Rattle.saftvrmie_parameters.specs.declared.PairParameters.{PairParameters}
 use Rattle.saftvrmie_parameters.specs.declared.SaftVRMiePars.{SaftVRMiePars}
 use Rattle.saftvrmie_parameters.proofs.Laws.{lengths, Within, sheets_in}
@@ -109,8 +109,8 @@ module _ (l : Lists) where
     count : l.count ≡ s.count
     sheets : sheets_in l ≡ held s.sheets
 
-  made : (s : SaftVRMiePars) → saft_vRMie_pars l ≡ held s → Made s
-  unfolding saft_vRMie_pars
+  made : (s : SaftVRMiePars) → saft_vr_mie_pars l ≡ held s → Made s
+  unfolding saft_vr_mie_pars
   made s h =
       let a = then_held (demand 1 (right_lengths l)) _ s h in
       let b = then_held (demand 2 (Within l)) _ s a.2 in
@@ -123,7 +123,7 @@ module _ (l : Lists) where
         sheets = e.1 ∙ ap (λ (q : SaftVRMiePars). held q.sheets) is;
       }
 
-  module _ (s : SaftVRMiePars) (h : saft_vRMie_pars l ≡ held s) (i j : ℕ) (row : i < s.count) (column : j < s.count) where
+  module _ (s : SaftVRMiePars) (h : saft_vr_mie_pars l ≡ held s) (i j : ℕ) (row : i < s.count) (column : j < s.count) where
     stands : Stands value entry s.sheets i j
     stands = let m = made s h in stand s.sheets m.high m.sheets i j (rw m.count row) (rw m.count column)
 
@@ -155,7 +155,7 @@ module _ (l : Lists) where
     six : ComponentsAt l.lr l.la i j → at s.sheets (3 * sheet + cell i j) ≡ decimal false 6 0
     six w = la_is ∙ held_inj _ _ (sym from.la ∙ ap (λ (x : Float). lambda_ij floats (calls floats port) x (at l.la j)) w.la_i ∙ ap (lambda_ij floats (calls floats port) (decimal false 6 0)) w.la_j ∙ lambda_6)
 
-  pub mie : (s : SaftVRMiePars) → saft_vRMie_pars l ≡ held s → MieSet l s
+  pub mie : (s : SaftVRMiePars) → saft_vr_mie_pars l ≡ held s → MieSet l s
   mie s h =
       record {
         four_at = four_at s h;

@@ -16,7 +16,7 @@ use Rattle.elementary.specs.Port.{port}
 use Rattle.limits.specs.declared.Component.{Component}
 use Rattle.limits.specs.Limits.{square, all_one}
 use Rattle.mie_parameters.specs.Combine.{lambda_ij, c_ij}
-use Rattle.saftvrqmie_parameters.specs.Parameters.{Lists, right_lengths, component_of, order_walk, pair_parameters, store_pair, sheets_turn, sheets_row, sheets_of, saft_vRQMie_pars}
+use Rattle.saftvrqmie_parameters.specs.Parameters.{Lists, right_lengths, component_of, order_walk, pair_parameters, store_pair, sheets_turn, sheets_row, sheets_of, saft_vrq_mie_pars}
 use Rattle.saftvrqmie_parameters.specs.declared.PairParameters.{PairParameters}
 use Rattle.saftvrqmie_parameters.specs.declared.SaftVRQMiePars.{SaftVRQMiePars}
 use Rattle.saftvrqmie_parameters.proofs.Laws.{lengths, Within, sheets_in}
@@ -69,8 +69,8 @@ module _ (l : Lists) where
     count : l.count ≡ s.count
     sheets : sheets_in l ≡ held s.sheets
 
-  made : (s : SaftVRQMiePars) → saft_vRQMie_pars l ≡ held s → Made s
-  unfolding saft_vRQMie_pars
+  made : (s : SaftVRQMiePars) → saft_vrq_mie_pars l ≡ held s → Made s
+  unfolding saft_vrq_mie_pars
   made s h =
       let a = then_held (demand 1 (right_lengths l)) _ s h in
       let b = then_held (demand 2 (Within l)) _ s a.2 in
@@ -84,7 +84,7 @@ module _ (l : Lists) where
         sheets = e.1 ∙ ap (λ (q : SaftVRQMiePars). held q.sheets) is;
       }
 
-  module _ (s : SaftVRQMiePars) (h : saft_vRQMie_pars l ≡ held s) (i j : ℕ) (row : i < s.count) (column : j < s.count) where
+  module _ (s : SaftVRQMiePars) (h : saft_vrq_mie_pars l ≡ held s) (i j : ℕ) (row : i < s.count) (column : j < s.count) where
     stands : Stands value entry s.sheets i j
     stands = let m = made s h in stand s.sheets m.high m.sheets i j (rw m.count row) (rw m.count column)
 
@@ -108,7 +108,7 @@ module _ (l : Lists) where
     six : ComponentsAt l.lr l.la i j → at s.sheets (4 * sheet + cell i j) ≡ decimal false 6 0
     six w = la_is ∙ held_inj _ _ (sym from.la ∙ ap (λ (x : Float). lambda_ij floats (calls floats port) x (at l.la j)) w.la_i ∙ ap (lambda_ij floats (calls floats port) (decimal false 6 0)) w.la_j ∙ lambda_6)
 
-  pub quantum : (s : SaftVRQMiePars) → saft_vRQMie_pars l ≡ held s → QuantumSet l s
+  pub quantum : (s : SaftVRQMiePars) → saft_vrq_mie_pars l ≡ held s → QuantumSet l s
   quantum s h =
       record {
         four_at = four_at s h;

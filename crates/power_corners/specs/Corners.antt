@@ -84,8 +84,8 @@ zero_at lambda = fin (lt three lambda) 0 (pos 0)
 
 pub record Slip3 : Type 0 where
   pub power : (x y : Float) → T (fits binary64 x) → T (fits binary64 y) → PowerAt x y (port.powf x y)
-  pub quantum : (l : Quantum.Lists) (s : SaftVRQMiePars) → Quantum.saft_vRQMie_pars l ≡ held s → QuantumSet l s
-  pub mie : (l : Mie.Lists) (s : SaftVRMiePars) → Mie.saft_vRMie_pars l ≡ held s → MieSet l s
+  pub quantum : (l : Quantum.Lists) (s : SaftVRQMiePars) → Quantum.saft_vrq_mie_pars l ≡ held s → QuantumSet l s
+  pub mie : (l : Mie.Lists) (s : SaftVRMiePars) → Mie.saft_vr_mie_pars l ≡ held s → MieSet l s
   -- either zero as gamma_ij leaves lr
   pub zero_leaves : (minus : Bool) → Leaves (fin minus 0 (pos 0))
   -- '`ilambda` at ratio 1 promises zero for every lambda but 3 whose power is accepted': of base 1 by 3 - lambda

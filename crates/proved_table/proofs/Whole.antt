@@ -17,7 +17,7 @@ use Rattle.logarithm.specs.Logarithm.{ln1p_of}
 use Rattle.power.proofs.Corners as PowerCorners
 use Rattle.interval.proofs.Example.{sum_of_one_and_zero}
 use Rattle.limits.specs.Limits.{in_limits, count_within, component_within, components_within, all_within, masses_within, same_bits, pair_within, pairs_within, all_one}
-use Rattle.mie_parameters.specs.Combine.{epsilon_kIj, lambda_ij, c_ij}
+use Rattle.mie_parameters.specs.Combine.{epsilon_k_ij, lambda_ij, c_ij}
 use Rattle.saftvrqmie_parameters.specs.Combine.{sigma_ij}
 use Rattle.number.specs.Functions.{answered, answered₂}
 use Rattle.number.specs.Domain.{base_inside, exponent_inside}
@@ -30,8 +30,8 @@ use Rattle.saftvrmie_parameters.specs.Parameters as Mie
 use Rattle.proved_table.specs.Table.{Accepted, Within, alike, Table}
 
 -- an order that the walk refuses, the operation refuses
-walked : (l : Quantum.Lists) (fh : List ℕ) (n : ℕ) → Within l → all_one l.count (at l.m) ≡ true → l.fh ≡ fh → Quantum.order_walk (length fh) fh ≡ refused n → Quantum.saft_vRQMie_pars l ≡ refused n
-unfolding Quantum.saft_vRQMie_pars demand ◌>>=◌
+walked : (l : Quantum.Lists) (fh : List ℕ) (n : ℕ) → Within l → all_one l.count (at l.m) ≡ true → l.fh ≡ fh → Quantum.order_walk (length fh) fh ≡ refused n → Quantum.saft_vrq_mie_pars l ≡ refused n
+unfolding Quantum.saft_vrq_mie_pars demand ◌>>=◌
 walked l fh n w m f o =
     let c : l.count ≡ length fh = sym (QuantumLaws.lengths l w.lengths).fh ∙ ap length f in
     let e : Quantum.order_walk l.count l.fh ≡ refused n = rw (c, f) o in
@@ -41,23 +41,23 @@ not_one : (m : List Ieee.Float) → m ≡ one64 ∷ decimal false 2 0 ∷ [] →
 unfolding all_one every turns decimal Ieee.of_bits Ieee.eq Ieee.is_nan Ieee.lt Ieee.le
 not_one m p = rw p
 
-m_row : (l : Quantum.Lists) → Within l → l.m ≡ one64 ∷ decimal false 2 0 ∷ [] → Quantum.saft_vRQMie_pars l ≡ refused 3
-unfolding Quantum.saft_vRQMie_pars demand ◌>>=◌
+m_row : (l : Quantum.Lists) → Within l → l.m ≡ one64 ∷ decimal false 2 0 ∷ [] → Quantum.saft_vrq_mie_pars l ≡ refused 3
+unfolding Quantum.saft_vrq_mie_pars demand ◌>>=◌
 m_row l w m =
     let c : l.count ≡ 2 = sym (QuantumLaws.lengths l w.lengths).m ∙ ap length m in
     let e : all_one l.count (at l.m) ≡ false = rw c (not_one l.m m) in
     rw (w.lengths, w.limits, e)
 
-mie_outside : (l : Mie.Lists) (n : ℕ) → l.count ≡ n → count_within n ≡ false → Mie.saft_vRMie_pars l ≡ refused 1
-unfolding Mie.saft_vRMie_pars Mie.right_lengths demand ◌>>=◌
+mie_outside : (l : Mie.Lists) (n : ℕ) → l.count ≡ n → count_within n ≡ false → Mie.saft_vr_mie_pars l ≡ refused 1
+unfolding Mie.saft_vr_mie_pars Mie.right_lengths demand ◌>>=◌
 mie_outside l n p q = rw (p, q)
 
 orders_1_2_walk : Quantum.order_walk 2 (1 ∷ 2 ∷ []) ≡ refused 5
 unfolding Quantum.order_walk Quantum.order_row walk Quantum.pair_orders demand ◌>>=◌
 orders_1_2_walk = refl
 
-accepted_0_1 : Accepted (Quantum.saft_vRQMie_pars (alike (0 ∷ 1 ∷ [])))
-unfolding Quantum.saft_vRQMie_pars Quantum.right_lengths count_within Quantum.within_limits components_within component_within in_limits masses_within all_within pairs_within pair_within same_bits all_one every turns Quantum.order_walk Quantum.order_row walk Quantum.pair_orders Quantum.sheets_of Quantum.sheets_row Quantum.sheets_turn Quantum.pair_parameters epsilon_kIj lambda_ij c_ij sigma_ij answered answered₂ root positive_root whole_root powf_of base_inside exponent_inside demand ◌>>=◌ decimal digits pow_digits pow_up Ieee.round Ieee.of_bits Ieee.le Ieee.lt Ieee.eq Ieee.is_nan Ieee.to_bits Ieee.neg Ieee.add Ieee.sub Ieee.mul Ieee.div Ieee.size
+accepted_0_1 : Accepted (Quantum.saft_vrq_mie_pars (alike (0 ∷ 1 ∷ [])))
+unfolding Quantum.saft_vrq_mie_pars Quantum.right_lengths count_within Quantum.within_limits components_within component_within in_limits masses_within all_within pairs_within pair_within same_bits all_one every turns Quantum.order_walk Quantum.order_row walk Quantum.pair_orders Quantum.sheets_of Quantum.sheets_row Quantum.sheets_turn Quantum.pair_parameters epsilon_k_ij lambda_ij c_ij sigma_ij answered answered₂ root positive_root whole_root powf_of base_inside exponent_inside demand ◌>>=◌ decimal digits pow_digits pow_up Ieee.round Ieee.of_bits Ieee.le Ieee.lt Ieee.eq Ieee.is_nan Ieee.to_bits Ieee.neg Ieee.add Ieee.sub Ieee.mul Ieee.div Ieee.size
 accepted_0_1 = record { result = _; is = refl }
 
 within_2 : (a b : ℕ) → Within (alike (a ∷ b ∷ []))

@@ -22,7 +22,7 @@ pub record Within (l : Quantum.Lists) : Type 0 where
 
 -- what the quantum parameters answer to any such lists, with each m equal to 1, whose orders are fh
 abbrev pub Orders : List ℕ → ℕ → Type 0
-Orders fh n = (l : Quantum.Lists) → Within l → all_one l.count (at l.m) ≡ true → l.fh ≡ fh → Quantum.saft_vRQMie_pars l ≡ refused n
+Orders fh n = (l : Quantum.Lists) → Within l → all_one l.count (at l.m) ≡ true → l.fh ≡ fh → Quantum.saft_vrq_mie_pars l ≡ refused n
 
 -- components alike, as many as there are orders, for the row that is accepted: sigma 3, epsilon_k 30, lr 12, la 6, mass 3e-27, pair values +0
 abbrev pub alike : List ℕ → Quantum.Lists
@@ -43,7 +43,7 @@ alike fh =
 
 pub record Table : Type 0 where
   -- 'orders (0,1) accepted'
-  pub orders_0_1 : Accepted (Quantum.saft_vRQMie_pars (alike (0 ∷ 1 ∷ [])))
+  pub orders_0_1 : Accepted (Quantum.saft_vrq_mie_pars (alike (0 ∷ 1 ∷ [])))
   -- such lists of two and of three components pass the tests 1 and 2 whatever their orders: the rows below speak of some
   pub within_2 : (a b : ℕ) → Within (alike (a ∷ b ∷ []))
   pub within_3 : (a b c : ℕ) → Within (alike (a ∷ b ∷ c ∷ []))
@@ -53,12 +53,12 @@ pub record Table : Type 0 where
   pub orders_1_3_2 : Orders (1 ∷ 3 ∷ 2 ∷ []) 4
   pub orders_0_3 : Orders (0 ∷ 3 ∷ []) 4
   -- 'm (1,2) with orders (3,0) 3'
-  pub m_1_2 : (l : Quantum.Lists) → Within l → l.m ≡ one64 ∷ decimal false 2 0 ∷ [] → l.fh ≡ 3 ∷ 0 ∷ [] → Quantum.saft_vRQMie_pars l ≡ refused 3
+  pub m_1_2 : (l : Quantum.Lists) → Within l → l.m ≡ one64 ∷ decimal false 2 0 ∷ [] → l.fh ≡ 3 ∷ 0 ∷ [] → Quantum.saft_vrq_mie_pars l ≡ refused 3
   -- Slip 8: 'The proved table then has 0 and 13 instead of 0 and 9.' They give 1, whatever the lists, in both models
-  pub count_0 : (l : Quantum.Lists) → l.count ≡ 0 → Quantum.saft_vRQMie_pars l ≡ refused 1
-  pub count_13 : (l : Quantum.Lists) → l.count ≡ 13 → Quantum.saft_vRQMie_pars l ≡ refused 1
-  pub mie_count_0 : (l : Mie.Lists) → l.count ≡ 0 → Mie.saft_vRMie_pars l ≡ refused 1
-  pub mie_count_13 : (l : Mie.Lists) → l.count ≡ 13 → Mie.saft_vRMie_pars l ≡ refused 1
+  pub count_0 : (l : Quantum.Lists) → l.count ≡ 0 → Quantum.saft_vrq_mie_pars l ≡ refused 1
+  pub count_13 : (l : Quantum.Lists) → l.count ≡ 13 → Quantum.saft_vrq_mie_pars l ≡ refused 1
+  pub mie_count_0 : (l : Mie.Lists) → l.count ≡ 0 → Mie.saft_vr_mie_pars l ≡ refused 1
+  pub mie_count_13 : (l : Mie.Lists) → l.count ≡ 13 → Mie.saft_vr_mie_pars l ≡ refused 1
   -- 'root of 2.25 is 1.5', 'root of −0 is −0'
   pub root : port.sqrt (decimal false 225 2) ≡ held (decimal false 15 1)
   pub root_zero : port.sqrt (bits 0x8000_0000_0000_0000) ≡ held (bits 0x8000_0000_0000_0000)

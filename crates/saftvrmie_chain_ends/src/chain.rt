@@ -5,7 +5,7 @@ ghost use Rattle.elementary.specs.Port.{port};
 ghost use Rattle.enclosure.specs.Answer.{answer};
 ghost use Rattle.enclosure.specs.Enclosure.{enclosures, point};
 ghost use Rattle.enclosure_dual.specs.Value.{dual_of};
-ghost use Rattle.saftvrmie_dispersion.specs.Chain.{rho_dual, zeta_dual, fluid_dual, g1_of, g2_of, link_pref, g_hs, gamma_of, ln_gMie, link_of, add_link, chain_pure};
+ghost use Rattle.saftvrmie_dispersion.specs.Chain.{rho_dual, zeta_dual, fluid_dual, g1_of, g2_of, link_pref, g_hs, gamma_of, ln_g_mie, link_of, add_link, chain_pure};
 ghost use Rattle.saftvrmie_dispersion.specs.Answer.{pair_in};
 ghost use Rattle.saftvrmie_dispersion_ends.specs.Answer.{bar_in, sums_in, sums_answer};
 ghost use Rattle.saftvrmie_properties_ends.specs.Answer.{k_in};
@@ -122,7 +122,7 @@ fn gamma(zeta_x_bar: Enclosure, beta_eps: Enclosure, alpha: Enclosure) -> Enclos
 }
 
 fn ln_g_mie(g_hs: Enclosure, beta_eps: Enclosure, g1: Enclosure, g2: Enclosure) -> EnclosureAnswer
-    ensures { answer result ≡ ln_gMie enclosures (calls enclosures port) g_hs beta_eps g1 g2 }
+    ensures { answer result ≡ ln_g_mie enclosures (calls enclosures port) g_hs beta_eps g1 g2 }
 {
     let EnclosureAnswer::Value(l) = elementary_ends::ln(g_hs) else {
         return EnclosureAnswer::Outside;

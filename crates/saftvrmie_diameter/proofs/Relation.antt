@@ -8,7 +8,7 @@ use Rattle.number.specs.Ans.{Ans}
 use Rattle.number.specs.Arith.{Arith, zero64}
 use Rattle.number.specs.Functions.{Functions, Decimal, entry}
 use Rattle.number.proofs.Rel.{Rel, FunRel, Both, both_held, then_both, cond_rel, walk_rel}
-use Rattle.saftvrmie_diameter.specs.Diameter.{Halley, c_eps_t, halley_step, halley, lower_limit, beta_uMie, node_turn, diameter_from, hs_diameter}
+use Rattle.saftvrmie_diameter.specs.Diameter.{Halley, c_eps_t, halley_step, halley, lower_limit, beta_u_mie, node_turn, diameter_from, hs_diameter}
 
 pub record Halleys {S T : Type 0} (R : S → T → Type 0) (x : Halley S) (u : Halley T) : Type 0 where
   pub f : R x.f u.f
@@ -55,9 +55,9 @@ module _ (A B : Arith) (K : Rel A B) (F : Functions A.Num) (G : Functions B.Num)
     lower_limit_rel =
         then_both (r_ln (r_lit _)) (λ l l' m. then_both (r_ln (r_mul (r_neg (r_div (r_lit _) pc)) m)) (λ k k' h. then_both (r_exp (r_div (r_neg h) pr)) (λ r s g. halley_rel 4 r s g)))
 
-    beta_uMie_rel : (r : A.Num) (s : B.Num) → R r s → Both R (beta_uMie A F la lr c r) (beta_uMie B G la' lr' c' s)
-    unfolding beta_uMie
-    beta_uMie_rel r s p =
+    beta_u_mie_rel : (r : A.Num) (s : B.Num) → R r s → Both R (beta_u_mie A F la lr c r) (beta_u_mie B G la' lr' c' s)
+    unfolding beta_u_mie
+    beta_u_mie_rel r s p =
         let i = r_mul (r_div (r_lit _) p) (r_lit _) in
         then_both (r_powf i pr) (λ x x' h. then_both (r_powf i pa) (λ y y' g. both_held (r_mul (r_sub h g) pc)))
 
@@ -65,7 +65,7 @@ module _ (A B : Arith) (K : Rel A B) (F : Functions A.Num) (G : Functions B.Num)
     unfolding node_turn
     node_turn_rel r0 s0 p k d e q =
         let w = r_mul (r_add (r_neg p) (r_lit _)) (r_lit _) in
-        then_both (beta_uMie_rel _ _ (r_add (r_add (r_mul w (entry_rel _ k)) w) p)) (λ u u' h. then_both (r_expm1 (r_neg h)) (λ x x' g.
+        then_both (beta_u_mie_rel _ _ (r_add (r_add (r_mul w (entry_rel _ k)) w) p)) (λ u u' h. then_both (r_expm1 (r_neg h)) (λ x x' g.
         both_held (r_add q (r_mul (r_mul w (r_neg g)) (entry_rel _ k)))))
 
     pub diameter_from_rel : (s r0 : A.Num) (t s0 : B.Num) → R s t → R r0 s0 → Both R (diameter_from A F la lr c s r0) (diameter_from B G la' lr' c' t s0)

@@ -25,8 +25,8 @@ use Rattle.logarithm.specs.Logarithm.{core, multiple, far, join, signed, reduced
 use Rattle.binary_log.specs.declared.Log.{Log}
 use Rattle.binary_log.specs.BinaryLog.{log_of}
 use Rattle.power.specs.Power.{exponent_of, power_of, powf_of}
-use Rattle.saftvrmie_diameter.specs.Diameter.{Halley, halley_step, halley, beta_uMie, node_turn, diameter_from}
-use Rattle.saftvrmie_diameter.specs.Staged.{exponents_inside, exponents_of, inverse_at, beta_uAt, no_log, beyond, logs_of, betas_of, node_at}
+use Rattle.saftvrmie_diameter.specs.Diameter.{Halley, halley_step, halley, beta_u_mie, node_turn, diameter_from}
+use Rattle.saftvrmie_diameter.specs.Staged.{exponents_inside, exponents_of, inverse_at, beta_u_at, no_log, beyond, logs_of, betas_of, node_at}
 use Rattle.saftvrmie_diameter.specs.declared.Exponents.{Exponents}
 
 -- ---- ln of f64::EPSILON
@@ -156,8 +156,8 @@ module _ (la lr : Float) where
     halley_refused r h = rw (step_refused r h)
 
     -- ---- a node
-    beta_refused : (r : Float) → exponents_inside la lr ≡ false → beta_uMie floats (calls floats port) la lr c r ≡ refused 6
-    unfolding beta_uMie
+    beta_refused : (r : Float) → exponents_inside la lr ≡ false → beta_u_mie floats (calls floats port) la lr c r ≡ refused 6
+    unfolding beta_u_mie
     beta_refused r h = both_refused _ _ h
 
     module _ (r0 : Float) where
@@ -166,11 +166,11 @@ module _ (la lr : Float) where
       node_refused k d h = rw (beta_refused _ h)
 
       node_is : (k : ℕ) (d : Float) → exponents_inside la lr ≡ true
-          → node_turn floats (calls floats port) la lr c r0 k d ≡ node_at r0 k (inverse_at r0 k) (beta_uAt (exponents_of la lr) c (log_of (inverse_at r0 k))) d
-      unfolding node_turn beta_uMie inverse_at beta_uAt node_at exponents_inside exponents_of demand ◌>>=◌
+          → node_turn floats (calls floats port) la lr c r0 k d ≡ node_at r0 k (inverse_at r0 k) (beta_u_at (exponents_of la lr) c (log_of (inverse_at r0 k))) d
+      unfolding node_turn beta_u_mie inverse_at beta_u_at node_at exponents_inside exponents_of demand ◌>>=◌
       node_is k d h = ways (base_inside (inverse_at r0 k)) refl
         where
-          ways : (b : Bool) → base_inside (inverse_at r0 k) ≡ b → node_turn floats (calls floats port) la lr c r0 k d ≡ node_at r0 k (inverse_at r0 k) (beta_uAt (exponents_of la lr) c (log_of (inverse_at r0 k))) d
+          ways : (b : Bool) → base_inside (inverse_at r0 k) ≡ b → node_turn floats (calls floats port) la lr c r0 k d ≡ node_at r0 k (inverse_at r0 k) (beta_u_at (exponents_of la lr) c (log_of (inverse_at r0 k))) d
           ways true p = rw (power_held _ lr p (and_left (exponent_inside lr) (exponent_inside la) h), power_held _ la p (and_right (exponent_inside lr) (exponent_inside la) h), once, p)
           ways false p = rw (no_base _ lr p, p)
 
@@ -186,8 +186,8 @@ module _ (la lr : Float) where
             ri : (get_or logs k beyond).base ≡ inverse_at r0 k
             ri = ap (λ (l : Log). l.base) log ∙ log_base _
 
-            u : get_or betas k nan ≡ beta_uAt (exponents_of la lr) c (log_of (inverse_at r0 k))
-            u = (let n : get_or betas k nan ≡ beta_uAt e c (get_or logs k beyond) = rw are-betas (filled (λ k. beta_uAt e c (get_or logs k beyond)) nan 10 k (replicate 10 zero64) q (omega arith)) in n ∙ rw (i, log))
+            u : get_or betas k nan ≡ beta_u_at (exponents_of la lr) c (log_of (inverse_at r0 k))
+            u = (let n : get_or betas k nan ≡ beta_u_at e c (get_or logs k beyond) = rw are-betas (filled (λ k. beta_u_at e c (get_or logs k beyond)) nan 10 k (replicate 10 zero64) q (omega arith)) in n ∙ rw (i, log))
 
       pub from_refused : (sigma : Float) → exponents_inside la lr ≡ false → refused 6 ≡ diameter_from floats (calls floats port) la lr c sigma r0
       unfolding diameter_from ◌>>=◌

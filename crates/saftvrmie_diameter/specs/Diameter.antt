@@ -46,8 +46,8 @@ module _ (A : Arith) where
   abbrev pub inverse_from : Num → Num
   inverse_from r = one ⊘ r ⊗ one
 
-  abbrev pub beta_uFrom : Num → Num → Num → Num
-  beta_uFrom plr pla c-eps-t = (plr ⊖ pla) ⊗ c-eps-t
+  abbrev pub beta_u_from : Num → Num → Num → Num
+  beta_u_from plr pla c-eps-t = (plr ⊖ pla) ⊗ c-eps-t
 
   abbrev pub added_from : Num → Num → Num → Num → Num
   added_from r0 weight e d = d ⊕ width_from r0 ⊗ (⊖ e) ⊗ weight
@@ -94,17 +94,17 @@ module _ (A : Arith) where
           halley 4 r
 
       -- `beta_u_mie` with sigma 1.0
-      unfoldable pub beta_uMie : Num → Ans Num
-      beta_uMie r =
+      unfoldable pub beta_u_mie : Num → Ans Num
+      beta_u_mie r =
           let ri = inverse_from r in
           F.powf ri lr >>= λ plr.
           F.powf ri la >>= λ pla.
-          held (beta_uFrom plr pla c-eps-t)
+          held (beta_u_from plr pla c-eps-t)
 
       -- one node of the rule, from the reduced r0
       unfoldable pub node_turn : Num → ℕ → Num → Ans Num
       node_turn r0 k d =
-          beta_uMie (radius_from r0 (entry F positions k)) >>= λ u.
+          beta_u_mie (radius_from r0 (entry F positions k)) >>= λ u.
           F.expm1 (⊖ u) >>= λ e.
           held (added_from r0 (entry F weights k) e d)
 

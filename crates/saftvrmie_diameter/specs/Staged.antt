@@ -10,7 +10,7 @@ use Rattle.elementary.specs.Port.{port}
 use Rattle.binary_log.specs.BinaryLog.{log_of}
 use Rattle.binary_log.specs.declared.Log.{Log}
 use Rattle.power.specs.Power.{exponent_of, power_of}
-use Rattle.saftvrmie_diameter.specs.Diameter.{positions, weights, radius_from, inverse_from, beta_uFrom, added_from}
+use Rattle.saftvrmie_diameter.specs.Diameter.{positions, weights, radius_from, inverse_from, beta_u_from, added_from}
 use Rattle.saftvrmie_diameter.specs.declared.Exponents.{Exponents}
 
 -- both exponents lie within the power's domain
@@ -25,8 +25,8 @@ unfoldable pub inverse_at : Float → ℕ → Float
 inverse_at r0 k = inverse_from floats (radius_from floats r0 (entry (calls floats port) positions k))
 
 -- `beta_u_mie` from the logarithm of the inverse radius
-unfoldable pub beta_uAt : Exponents → Float → Log → Float
-beta_uAt e c-eps-t log = beta_uFrom floats (power_of log e.lr) (power_of log e.la) c-eps-t
+unfoldable pub beta_u_at : Exponents → Float → Log → Float
+beta_u_at e c-eps-t log = beta_u_from floats (power_of log e.lr) (power_of log e.la) c-eps-t
 
 -- what stands in a place before it is filled
 abbrev pub no_log : Log
@@ -41,7 +41,7 @@ unfoldable pub logs_of : Float → List Log
 logs_of r0 = filled 10 (λ k. log_of (inverse_at r0 k)) (replicate 10 no_log)
 
 unfoldable pub betas_of : Exponents → Float → List Log → List Float
-betas_of e c-eps-t logs = filled 10 (λ k. beta_uAt e c-eps-t (get_or logs k beyond)) (replicate 10 zero64)
+betas_of e c-eps-t logs = filled 10 (λ k. beta_u_at e c-eps-t (get_or logs k beyond)) (replicate 10 zero64)
 
 -- a node from its inverse radius and its `beta_u_mie`
 unfoldable pub node_at : Float → ℕ → Float → Float → Float → Ans Float

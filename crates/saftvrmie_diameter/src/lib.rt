@@ -8,7 +8,7 @@ ghost use Rattle.number.specs.Functions.{calls, entry};
 ghost use Rattle.elementary.specs.Port.{port};
 ghost use Rattle.saftvrmie_diameter.specs.Answer.{halley_answer};
 ghost use Rattle.saftvrmie_diameter.specs.Diameter.{positions, weights, c_eps_t, halley_step, halley, lower_limit, diameter_from, hs_diameter};
-ghost use Rattle.saftvrmie_diameter.specs.Staged.{exponents_inside, exponents_of, inverse_at, beta_uAt, logs_of, betas_of, node_at};
+ghost use Rattle.saftvrmie_diameter.specs.Staged.{exponents_inside, exponents_of, inverse_at, beta_u_at, logs_of, betas_of, node_at};
 
 use binary_log::Log;
 use number::FloatAnswer;
@@ -177,7 +177,7 @@ fn inverse_at(r0: f64, k: usize) -> f64
 
 // `beta_u_mie`, from the logarithm of the inverse radius.
 fn beta_u_mie(e: Exponents, c_eps_t: f64, log: Log) -> f64
-    ensures { result ≡ beta_uAt e c_eps_t log }
+    ensures { result ≡ beta_u_at e c_eps_t log }
 {
     (power::raise(log, e.lr) - power::raise(log, e.la)) * c_eps_t
 }

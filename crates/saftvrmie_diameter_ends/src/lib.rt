@@ -8,7 +8,7 @@ ghost use Rattle.sizes.specs.Sizes.{sheet};
 ghost use Rattle.elementary.specs.Port.{port};
 ghost use Rattle.enclosure.specs.Answer.{answer, ends};
 ghost use Rattle.enclosure.specs.Enclosure.{enclosures, point};
-ghost use Rattle.saftvrmie_diameter.specs.Diameter.{c_eps_t, beta_uMie, node_turn, diameter_from};
+ghost use Rattle.saftvrmie_diameter.specs.Diameter.{c_eps_t, beta_u_mie, node_turn, diameter_from};
 ghost use Rattle.saftvrmie_diameter_ends.specs.Operations.{diameter_ends};
 
 mod rule;
@@ -29,7 +29,7 @@ pub fn c_eps_t(temperature: Enclosure, c: Enclosure, epsilon_k: Enclosure) -> En
 }
 
 fn beta_u_mie(la: Enclosure, lr: Enclosure, c_eps_t: Enclosure, r: Enclosure) -> EnclosureAnswer
-    ensures { answer result ≡ beta_uMie enclosures (calls enclosures port) la lr c_eps_t r }
+    ensures { answer result ≡ beta_u_mie enclosures (calls enclosures port) la lr c_eps_t r }
 {
     let one = enclosure::point(1.0);
     let ri = enclosure::mul(enclosure::div(one, r), one);

@@ -9,10 +9,10 @@ use Rattle.number.specs.Functions.{Functions}
 use Rattle.number.proofs.Rel.{Rel, FunRel, Both, both_held, then_both, cond_rel}
 use Rattle.dual.specs.Dual.{DualOf, duals, plain_d}
 use Rattle.dual.proofs.Relation.{Duals, plain_rel, mul_rel, duals_rel}
-use Rattle.saftvrmie_dispersion.specs.Sutherland.{FluidIn, k_hs, fluid_of, c_row, zeta_eff, a1s, i_of, j_of, b_of, a1s_bOf, a1s_b}
+use Rattle.saftvrmie_dispersion.specs.Sutherland.{FluidIn, k_hs, fluid_of, c_row, zeta_eff, a1s, i_of, j_of, b_of, a1s_b_of, a1s_b}
 use Rattle.mie_parameters.specs.Sums.{orders_sum, f_from}
 use Rattle.saftvrmie_dispersion.specs.Terms.{PairIn, BarIn, FiveIn, OrdersIn, TermsIn, SumsIn, f, bar_of, xi_of, a3_of, x0_of, add_pure, add_pair, five, pref_of, a1_of, a2_of, term_orders_of, terms_of}
-use Rattle.saftvrmie_dispersion.specs.Chain.{KIn, LinkIn, k_of, rho_dual, zeta_dual, fluid_dual, g1_of, g2_of, link_pref, add_link, g_hs, gamma_of, ln_gMie, link_of, chain_pure}
+use Rattle.saftvrmie_dispersion.specs.Chain.{KIn, LinkIn, k_of, rho_dual, zeta_dual, fluid_dual, g1_of, g2_of, link_pref, add_link, g_hs, gamma_of, ln_g_mie, link_of, chain_pure}
 
 -- ---- records, part by part
 module _ {S T : Type 0} (R : S → T → Type 0) where
@@ -135,9 +135,9 @@ module _ (A B : Arith) (K : Rel A B) (D D' : Arith) (L : Rel D D') (plain : A.Nu
   unfolding b_of
   b_of_rel p q s = r_mul (r_sub (r_mul p.b1 q) (r_mul p.b2 s)) p.b3
 
-  a1s_bOf_rel : {z : FluidIn D.Num} {w : FluidIn D'.Num} {l p q s : A.Num} {m u v x : B.Num} → Fluids R z w → P l m → P p u → P q v → P s x → R (a1s_bOf A D plain z l p q s) (a1s_bOf B D' plain' w m u v x)
-  unfolding a1s_bOf
-  a1s_bOf_rel w l p q s = r_mul (r-plain _ _ p) (r_add (a1s_rel w.zeta_x l) (b_of_rel w (i_of_rel (r-plain _ _ q) l) (j_of_rel (r-plain _ _ s) (r-plain _ _ q) l)))
+  a1s_b_of_rel : {z : FluidIn D.Num} {w : FluidIn D'.Num} {l p q s : A.Num} {m u v x : B.Num} → Fluids R z w → P l m → P p u → P q v → P s x → R (a1s_b_of A D plain z l p q s) (a1s_b_of B D' plain' w m u v x)
+  unfolding a1s_b_of
+  a1s_b_of_rel w l p q s = r_mul (r-plain _ _ p) (r_add (a1s_rel w.zeta_x l) (b_of_rel w (i_of_rel (r-plain _ _ q) l) (j_of_rel (r-plain _ _ s) (r-plain _ _ q) l)))
 
   -- the powers of x0 are related too
   module _ (g : A.Num → Ans A.Num) (h : B.Num → Ans B.Num) (r-g : (x : A.Num) (u : B.Num) → P x u → Both P (g x) (h u)) where
@@ -145,7 +145,7 @@ module _ (A B : Arith) (K : Rel A B) (D D' : Arith) (L : Rel D D') (plain : A.Nu
     unfolding a1s_b
     a1s_b_rel p q =
         then_both (r-g _ _ q) (λ _ _ s. then_both (r-g _ _ (p-sub (p_lit _) q)) (λ _ _ t. then_both (r-g _ _ (p-sub (p_lit _) q)) (λ _ _ v.
-        both_held (a1s_bOf_rel p q s t v))))
+        both_held (a1s_b_of_rel p q s t v))))
 
     five_rel : {z : FluidIn D.Num} {w : FluidIn D'.Num} {l k : A.Num} {m n : B.Num} → Fluids R z w → P l m → P k n → Both (Fives R) (five A D plain g z l k) (five B D' plain' h w m n)
     unfolding five
@@ -312,9 +312,9 @@ module _ (A B : Arith) (K : Rel A B) where
         then_both (r_exp (r_sub (r_mul (r_neg p) (r_lit _)) (r_mul (r_pow 2 p) (r_lit _)))) (λ _ _ g.
         both_held (r_mul (r_mul (r_mul (r_mul p e) (r_lit _)) (r_add (r_neg t) (r_lit _))) g))))
 
-    ln_gMie_rel : {g x y z : A.Num} {g' u v w : B.Num} → R g g' → R x u → R y v → R z w → Both R (ln_gMie A F g x y z) (ln_gMie B G g' u v w)
-    unfolding ln_gMie
-    ln_gMie_rel g p q s = then_both (r_ln g) (λ _ _ l. both_held (r_add l (r_div (r_add (r_mul p q) (r_mul (r_pow 2 p) s)) g)))
+    ln_g_mie_rel : {g x y z : A.Num} {g' u v w : B.Num} → R g g' → R x u → R y v → R z w → Both R (ln_g_mie A F g x y z) (ln_g_mie B G g' u v w)
+    unfolding ln_g_mie
+    ln_g_mie_rel g p q s = then_both (r_ln g) (λ _ _ l. both_held (r_add l (r_div (r_add (r_mul p q) (r_mul (r_pow 2 p) s)) g)))
 
     link_of_rel : {k : KIn A.Num} {k' : KIn B.Num} {z h d : A.Num} {z' h' d' : B.Num} {o : OrdersIn (DualOf A.Num)} {o' : OrdersIn (DualOf B.Num)}
         {p : PairIn A.Num} {p' : PairIn B.Num} {l : LinkIn A.Num} {l' : LinkIn B.Num}
@@ -324,7 +324,7 @@ module _ (A B : Arith) (K : Rel A B) where
         let pref = link_pref_rel r_pi (r_pow 3 d) p.epsilon_k in
         let beta = r_mul l.t_inv p.epsilon_k in
         then_both (g_hs_rel k (x0_of_rel d p.sigma)) (λ _ _ g. then_both (gamma_of_rel z beta p.alpha) (λ _ _ y.
-        then_both (ln_gMie_rel g beta (g1_of_rel o p pref) (r_mul (g2_of_rel o p pref h) (r_add y (r_lit _)))) (λ _ _ e.
+        then_both (ln_g_mie_rel g beta (g1_of_rel o p pref) (r_mul (g2_of_rel o p pref h) (r_add y (r_lit _)))) (λ _ _ e.
         both_held (r_mul (r_mul (r_neg l.fraction) (r_sub l.m (r_lit _))) e))))
 
     pub chain_pure_rel : {w : FluidIn (DualOf A.Num)} {w' : FluidIn (DualOf B.Num)} {b : BarIn A.Num} {b' : BarIn B.Num} {k : KIn A.Num} {k' : KIn B.Num}

@@ -15,10 +15,10 @@ use Rattle.elementary.specs.Port.{port}
 use Rattle.binary_log.specs.declared.Log.{Log}
 use Rattle.binary_log.specs.BinaryLog.{log_of}
 use Rattle.power.specs.Power.{powf_of}
-use Rattle.saftvrmie_dispersion.specs.Sutherland.{FluidIn, a1s_bOf, a1s_b}
+use Rattle.saftvrmie_dispersion.specs.Sutherland.{FluidIn, a1s_b_of, a1s_b}
 use Rattle.saftvrmie_dispersion.specs.Terms.{FiveIn, five}
 use Rattle.saftvrmie_dispersion.specs.Chain.{k_of}
-use Rattle.saftvrmie_dispersion.specs.Staged.{power_by, three_less, four_less, twice, lambda_inside, five_inside, a1s_bAt, five_at, lambdas, five_tested, k_tested}
+use Rattle.saftvrmie_dispersion.specs.Staged.{power_by, three_less, four_less, twice, lambda_inside, five_inside, a1s_b_at, five_at, lambdas, five_tested, k_tested}
 
 -- a call of the float run is the answer itself
 pub once : (a : Ans Float) (x : Float) → answered floats a x ≡ a
@@ -68,15 +68,15 @@ module _ (x : Float) where
   outside e y = rw (once₂, e)
 
   module _ (D : Arith) (plain : Float → D.Num) (w : FluidIn D.Num) where
-    one_sum : base_inside x ≡ true → (y : Float) → a1s_b floats D plain ((calls floats port).powf x) w y ≡ tested (lambda_inside y) (a1s_bAt D plain (log_of x) w y)
-    unfolding a1s_b lambda_inside a1s_bAt
-    one_sum e y = rw (inside e y, inside e (three_less y), inside e (four_less y)) (three (exponent_inside y) (exponent_inside (three_less y)) (exponent_inside (four_less y)) (power_by (log_of x) y) (power_by (log_of x) (three_less y)) (power_by (log_of x) (four_less y)) (a1s_bOf floats D plain w y))
+    one_sum : base_inside x ≡ true → (y : Float) → a1s_b floats D plain ((calls floats port).powf x) w y ≡ tested (lambda_inside y) (a1s_b_at D plain (log_of x) w y)
+    unfolding a1s_b lambda_inside a1s_b_at
+    one_sum e y = rw (inside e y, inside e (three_less y), inside e (four_less y)) (three (exponent_inside y) (exponent_inside (three_less y)) (exponent_inside (four_less y)) (power_by (log_of x) y) (power_by (log_of x) (three_less y)) (power_by (log_of x) (four_less y)) (a1s_b_of floats D plain w y))
 
     module _ (la lr : Float) where
       five_is : base_inside x ≡ true → five floats D plain ((calls floats port).powf x) w la lr ≡ tested (five_inside la lr) (five_at D plain (log_of x) w la lr)
       unfolding five five_inside five_at
       five_is e =
-          let at : Float → D.Num = a1s_bAt D plain (log_of x) w in
+          let at : Float → D.Num = a1s_b_at D plain (log_of x) w in
           rw (one_sum e la, one_sum e lr, one_sum e (twice la), one_sum e (floats.add la lr), one_sum e (twice lr))
           (all_five (lambda_inside la) (lambda_inside lr) (lambda_inside (twice la)) (lambda_inside (floats.add la lr)) (lambda_inside (twice lr)) (at la) (at lr) (at (twice la)) (at (floats.add la lr)) (at (twice lr)) (λ p q r s t. record { at_la = p; at_lr = q; at_2la = r; at_lalr = s; at_2lr = t }))
 
@@ -98,7 +98,7 @@ five_tested_is x w la lr e = five_is x floats (λ x. x) w la lr e
 module _ (l : Log) (w : FluidIn Float) (la lr : Float) where
   -- the sum at exponent k, in its place
   unfoldable pub sum_turn : ℕ → List Float → Ans (List Float)
-  sum_turn k s = demand 6 (lambda_inside (at (lambdas la lr) k)) >>= λ _. held (set s k (a1s_bAt floats (λ x. x) l w (at (lambdas la lr) k)))
+  sum_turn k s = demand 6 (lambda_inside (at (lambdas la lr) k)) >>= λ _. held (set s k (a1s_b_at floats (λ x. x) l w (at (lambdas la lr) k)))
 
   abbrev five_in : List Float → FiveIn Float
   five_in s = record { at_la = at s 0; at_lr = at s 1; at_2la = at s 2; at_lalr = at s 3; at_2lr = at s 4 }
@@ -117,7 +117,7 @@ module _ (l : Log) (w : FluidIn Float) (la lr : Float) where
   five_walked : (walk 5 sum_turn (replicate 5 zero64) >>= λ s. held (five_in s)) ≡ five_tested l w la lr
   unfolding walk sum_turn lambdas five_tested five_inside five_at ◌>>=◌
   five_walked =
-      let at : Float → Float = a1s_bAt floats (λ x. x) l w in
+      let at : Float → Float = a1s_b_at floats (λ x. x) l w in
       in_turn (lambda_inside la) (lambda_inside lr) (lambda_inside (twice la)) (lambda_inside (floats.add la lr)) (lambda_inside (twice lr)) (at la) (at lr) (at (twice la)) (at (floats.add la lr)) (at (twice lr))
 
   module _ (k : ℕ) (s ys : List Float) (t : Bool) (are-ys : ys ≡ lambdas la lr) (is-t : t ≡ lambda_inside (at ys k)) where
@@ -125,7 +125,7 @@ module _ (l : Log) (w : FluidIn Float) (la lr : Float) where
     unfolding sum_turn demand ◌>>=◌
     turn_refused h = rw (← are-ys, ← is-t, h)
 
-    pub turn_held : (x : Float) → t ≡ true → x ≡ a1s_bAt floats (λ x. x) l w (at ys k) → sum_turn k s ≡ held (set s k x)
+    pub turn_held : (x : Float) → t ≡ true → x ≡ a1s_b_at floats (λ x. x) l w (at ys k) → sum_turn k s ≡ held (set s k x)
     unfolding sum_turn demand ◌>>=◌
     turn_held x h q = rw (← are-ys, ← is-t, h, q)
 

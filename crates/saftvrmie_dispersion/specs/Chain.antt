@@ -90,8 +90,8 @@ module _ (A : Arith) where
         held (zeta_x_bar ⊗ e ⊗ whole A 10 ⊗ (⊖ t ⊕ whole A 1) ⊗ g)
 
     -- `ln_g_mie`
-    unfoldable pub ln_gMie : Num → Num → Num → Num → Ans Num
-    ln_gMie g-hs beta-eps g1 g2 = F.ln g-hs >>= λ l. held (l ⊕ (beta-eps ⊗ g1 ⊕ pow beta-eps 2 ⊗ g2) ⊘ g-hs)
+    unfoldable pub ln_g_mie : Num → Num → Num → Num → Ans Num
+    ln_g_mie g-hs beta-eps g1 g2 = F.ln g-hs >>= λ l. held (l ⊕ (beta-eps ⊗ g1 ⊕ pow beta-eps 2 ⊗ g2) ⊘ g-hs)
 
     -- what a component adds to a_chain: -x_i * (m - 1.0) * ln_g_mie
     unfoldable pub link_of : KIn Num → Num → OrdersIn (DualOf Num) → Num → PairIn Num → Num → LinkIn Num → Ans Num
@@ -100,7 +100,7 @@ module _ (A : Arith) where
         let beta-eps = link.t_inv ⊗ p.epsilon_k in
         g_hs k (x0_of A d p.sigma) >>= λ g-hs.
         gamma_of zeta_x_bar beta-eps p.alpha >>= λ gamma.
-        ln_gMie g-hs beta-eps (g1_of o p pref) (g2_of o p pref k_hs ⊗ (gamma ⊕ whole A 1)) >>= λ ln-g.
+        ln_g_mie g-hs beta-eps (g1_of o p pref) (g2_of o p pref k_hs ⊗ (gamma ⊕ whole A 1)) >>= λ ln-g.
         held (⊖ link.fraction ⊗ (link.m ⊖ whole A 1) ⊗ ln-g)
 
     -- a component of the chain: its orders with slopes, the third order, and its link; added to the sums

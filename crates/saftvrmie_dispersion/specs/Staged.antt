@@ -7,7 +7,7 @@ use Rattle.number.specs.Domain.{exponent_inside}
 use Rattle.elementary.specs.Port.{port}
 use Rattle.binary_log.specs.declared.Log.{Log}
 use Rattle.power.specs.Power.{exponent_of, power_of}
-use Rattle.saftvrmie_dispersion.specs.Sutherland.{FluidIn, a1s_bOf}
+use Rattle.saftvrmie_dispersion.specs.Sutherland.{FluidIn, a1s_b_of}
 use Rattle.saftvrmie_dispersion.specs.Terms.{FiveIn}
 use Rattle.saftvrmie_dispersion.specs.Chain.{k_of}
 
@@ -33,11 +33,11 @@ unfoldable pub five_inside : Float → Float → Bool
 five_inside la lr = lambda_inside la && (lambda_inside lr && (lambda_inside (twice la) && (lambda_inside (floats.add la lr) && lambda_inside (twice lr))))
 
 module _ (D : Arith) (plain : Float → D.Num) (l : Log) (w : FluidIn D.Num) where
-  unfoldable pub a1s_bAt : Float → D.Num
-  a1s_bAt y = a1s_bOf floats D plain w y (power_by l y) (power_by l (three_less y)) (power_by l (four_less y))
+  unfoldable pub a1s_b_at : Float → D.Num
+  a1s_b_at y = a1s_b_of floats D plain w y (power_by l y) (power_by l (three_less y)) (power_by l (four_less y))
 
   unfoldable pub five_at : Float → Float → FiveIn D.Num
-  five_at la lr = record { at_la = a1s_bAt la; at_lr = a1s_bAt lr; at_2la = a1s_bAt (twice la); at_lalr = a1s_bAt (floats.add la lr); at_2lr = a1s_bAt (twice lr) }
+  five_at la lr = record { at_la = a1s_b_at la; at_lr = a1s_b_at lr; at_2la = a1s_b_at (twice la); at_lalr = a1s_b_at (floats.add la lr); at_2lr = a1s_b_at (twice lr) }
 
 -- la, lr, 2 la, la + lr, 2 lr
 unfoldable pub lambdas : Float → Float → List Float

@@ -114,8 +114,8 @@ module _ (A D : Arith) (plain : A.Num → D.Num) where
   b_of w i j = (w.b1 ⊗ i ⊖ w.b2 ⊗ j) ⊗ w.b3
 
   -- `a1s_b_ij` from its powers of x0, p to lambda, p3 to 3 - lambda, p4 to 4 - lambda: p (a1s_ij + b_ij), without the prefactor C; `b_ij` is eq. A12, divided as a1s_ij is
-  unfoldable pub a1s_bOf : FluidIn Num → A.Num → A.Num → A.Num → A.Num → Num
-  a1s_bOf w lambda p p3 p4 = plain p ⊗ (a1s w.zeta_x lambda ⊕ b_of w (i_of (plain p3) lambda) (j_of (plain p4) (plain p3) lambda))
+  unfoldable pub a1s_b_of : FluidIn Num → A.Num → A.Num → A.Num → A.Num → Num
+  a1s_b_of w lambda p p3 p4 = plain p ⊗ (a1s w.zeta_x lambda ⊕ b_of w (i_of (plain p3) lambda) (j_of (plain p4) (plain p3) lambda))
 
   -- `a1s_b_ij`. x0 is a plain number in either run (01: 'x0 has slope 0'). Its real powers, `x0-powf`, are worked plain and enter by `plain` (01: 'a plain number, and a real power of x0, has slope +0').
   unfoldable pub a1s_b : (A.Num → Ans A.Num) → FluidIn Num → A.Num → Ans Num
@@ -123,4 +123,4 @@ module _ (A D : Arith) (plain : A.Num → D.Num) where
       x0-powf lambda >>= λ p.
       x0-powf (three -' lambda) >>= λ p3.
       x0-powf (four -' lambda) >>= λ p4.
-      held (a1s_bOf w lambda p p3 p4)
+      held (a1s_b_of w lambda p p3 p4)

@@ -6,7 +6,7 @@ ghost use Rattle.number.specs.Arith.{floats};
 ghost use Rattle.number.specs.Functions.{calls};
 ghost use Rattle.elementary.specs.Port.{port};
 ghost use Rattle.dual.specs.Value.{dual_of};
-ghost use Rattle.saftvrmie_dispersion.specs.Chain.{k_of, rho_dual, zeta_dual, fluid_dual, g1_of, g2_of, link_pref, g_hs, gamma_of, ln_gMie, link_of, add_link, chain_pure};
+ghost use Rattle.saftvrmie_dispersion.specs.Chain.{k_of, rho_dual, zeta_dual, fluid_dual, g1_of, g2_of, link_pref, g_hs, gamma_of, ln_g_mie, link_of, add_link, chain_pure};
 ghost use Rattle.saftvrmie_dispersion.specs.Answer.{pair_of, fluid_dual_in, bar_in, orders_dual_in, sums_in, k_in, link_in, sums_answer, k_answer};
 ghost use Rattle.saftvrmie_dispersion.specs.Staged.{k_tested};
 
@@ -124,7 +124,7 @@ fn gamma(zeta_x_bar: f64, beta_eps: f64, alpha: f64) -> FloatAnswer
 }
 
 fn ln_g_mie(g_hs: f64, beta_eps: f64, g1: f64, g2: f64) -> FloatAnswer
-    ensures { answer result ≡ ln_gMie floats (calls floats port) g_hs beta_eps g1 g2 }
+    ensures { answer result ≡ ln_g_mie floats (calls floats port) g_hs beta_eps g1 g2 }
 {
     let FloatAnswer::Value(l) = elementary::ln(g_hs) else {
         return FloatAnswer::Outside;

@@ -8,7 +8,7 @@ ghost use Rattle.dual.specs.Value.{dual_of};
 ghost use Rattle.saftvrmie_dispersion.specs.Sutherland.{k_hs, zeta_eff, a1s, i_of, j_of, b_of};
 ghost use Rattle.saftvrmie_dispersion.specs.Terms.{pref_of, a1_of, a2_of, term_orders_of};
 ghost use Rattle.saftvrmie_dispersion.specs.Answer.{pair_of, fluid_dual_in, five_dual_in, orders_dual_answer};
-ghost use Rattle.saftvrmie_dispersion.specs.Staged.{a1s_bAt, five_at};
+ghost use Rattle.saftvrmie_dispersion.specs.Staged.{a1s_b_at, five_at};
 
 use crate::{FiveDual, FluidDual, OrdersDual, OrdersDualAnswer, orders, sutherland};
 use binary_log::Log;
@@ -86,7 +86,7 @@ fn b_dual(w: FluidDual, i: Dual, j: Dual) -> Dual
 }
 
 fn a1s_b_ij_dual(l: Log, w: FluidDual, lambda: f64) -> Dual
-    ensures { dual_of result ≡ a1s_bAt (duals floats) (plain_d floats) l (fluid_dual_in w) lambda }
+    ensures { dual_of result ≡ a1s_b_at (duals floats) (plain_d floats) l (fluid_dual_in w) lambda }
 {
     let p = dual::plain(power::raise(l, power::exponent(lambda)));
     let p3 = dual::plain(power::raise(l, power::exponent(3.0 - lambda)));

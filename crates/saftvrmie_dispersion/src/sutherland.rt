@@ -3,7 +3,7 @@ ghost use Rattle.std.specs.Prelude.{◌≡◌};
 ghost use Rattle.number.specs.Arith.{floats};
 ghost use Rattle.saftvrmie_dispersion.specs.Sutherland.{k_hs, fluid_of, c_row, zeta_eff, a1s, i_of, j_of, b_of};
 ghost use Rattle.saftvrmie_dispersion.specs.Answer.{fluid_in, five_answer};
-ghost use Rattle.saftvrmie_dispersion.specs.Staged.{lambda_inside, five_inside, a1s_bAt, lambdas, five_tested};
+ghost use Rattle.saftvrmie_dispersion.specs.Staged.{lambda_inside, five_inside, a1s_b_at, lambdas, five_tested};
 
 use crate::{Five, FiveAnswer, Fluid};
 use binary_log::Log;
@@ -92,7 +92,7 @@ pub fn five_inside(la: f64, lr: f64) -> bool
 }
 
 fn a1s_b_ij(l: Log, w: Fluid, lambda: f64) -> f64
-    ensures { result ≡ a1s_bAt floats (λ x. x) l (fluid_in w) lambda }
+    ensures { result ≡ a1s_b_at floats (λ x. x) l (fluid_in w) lambda }
 {
     let p = power::raise(l, power::exponent(lambda));
     let p3 = power::raise(l, power::exponent(3.0 - lambda));

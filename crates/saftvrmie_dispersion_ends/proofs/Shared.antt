@@ -16,9 +16,9 @@ use Rattle.interval.specs.Interval.{pow_i}
 use Rattle.enclosure.specs.declared.Enclosure.{Enclosure}
 use Rattle.enclosure.specs.Enclosure.{enclosures, point, add_e, sub_e, mul_e, div_e, pow_e}
 use Rattle.mie_parameters.specs.Sums.{f_from}
-use Rattle.saftvrmie_dispersion.specs.Sutherland.{FluidIn, zeta_eff, a1s, i_of, j_of, a1s_bOf, a1s_b}
+use Rattle.saftvrmie_dispersion.specs.Sutherland.{FluidIn, zeta_eff, a1s, i_of, j_of, a1s_b_of, a1s_b}
 use Rattle.saftvrmie_dispersion.specs.Terms.{BarIn, xi_of, a3_of, five}
-use Rattle.saftvrmie_dispersion_ends.specs.Shared.{lambda_of, zeta_eff_by, a1s_by, i_by, j_by, a1s_bBy, power_at, six_of, xi_by, a3_by}
+use Rattle.saftvrmie_dispersion_ends.specs.Shared.{lambda_of, zeta_eff_by, a1s_by, i_by, j_by, a1s_b_by, power_at, six_of, xi_by, a3_by}
 
 pub square_is : (x : Enclosure) → pow_e x 2 ≡ mul_e (point (decimal false 1 0)) (mul_e x x)
 unfolding pow_e pow_i pow_up digits pow_digits mul_e point decimal of_bits
@@ -74,8 +74,8 @@ module _ (x0 : Enclosure) where
   outside e y = rw e
 
 module _ (D : Arith) (plain : Enclosure → D.Num) (w : FluidIn D.Num) where
-  pub a1s_b_is : (lambda p p3 p4 : Enclosure) → a1s_bOf enclosures D plain w lambda p p3 p4 ≡ a1s_bBy D plain w (lambda_of lambda) p p3 p4
-  unfolding a1s_bOf a1s zeta_eff i_of j_of a1s_bBy a1s_by zeta_eff_by i_by j_by lambda_of
+  pub a1s_b_is : (lambda p p3 p4 : Enclosure) → a1s_b_of enclosures D plain w lambda p p3 p4 ≡ a1s_b_by D plain w (lambda_of lambda) p p3 p4
+  unfolding a1s_b_of a1s zeta_eff i_of j_of a1s_b_by a1s_by zeta_eff_by i_by j_by lambda_of
   a1s_b_is lambda p p3 p4 = refl
 
   module _ (x0 : Enclosure) where

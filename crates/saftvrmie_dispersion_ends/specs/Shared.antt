@@ -45,8 +45,8 @@ module _ (D : Arith) (plain : Enclosure → D.Num) where
   unfoldable pub j_by : Num → Num → Enclosure → Enclosure → Num
   j_by x0-4ml x0-3ml l3 l4 = j_from enclosures D plain x0-4ml x0-3ml l3 l4
 
-  unfoldable pub a1s_bBy : FluidIn Num → LambdaEnclosures → Enclosure → Enclosure → Enclosure → Num
-  a1s_bBy w of p p3 p4 =
+  unfoldable pub a1s_b_by : FluidIn Num → LambdaEnclosures → Enclosure → Enclosure → Enclosure → Num
+  a1s_b_by w of p p3 p4 =
       plain p ⊗ (a1s_by w.zeta_x of ⊕ b_of enclosures D plain w (i_by (plain p3) of.l3) (j_by (plain p4) (plain p3) of.l3 of.l4))
 
 -- the power y of x0 by the logarithm of its value

@@ -11,7 +11,7 @@ ghost use Rattle.mie_parameters.specs.Tables.{phi0, phi1, phi2, phi3, phi4, phi5
 ghost use Rattle.mie_parameters.specs.Sums.{orders_sum, f_from};
 ghost use Rattle.saftvrmie_dispersion.specs.Terms.{bar_of, x0_of, five, pref_of, a1_of, a2_of, terms_of, add_pure, add_pair};
 ghost use Rattle.saftvrmie_dispersion.specs.Answer.{pair_in};
-ghost use Rattle.saftvrmie_dispersion_ends.specs.Shared.{lambda_of, zeta_eff_by, a1s_by, i_by, j_by, a1s_bBy, power_at, six_of, xi_by, a3_by};
+ghost use Rattle.saftvrmie_dispersion_ends.specs.Shared.{lambda_of, zeta_eff_by, a1s_by, i_by, j_by, a1s_b_by, power_at, six_of, xi_by, a3_by};
 ghost use Rattle.saftvrmie_dispersion_ends.specs.Answer.{fluid_in, bar_in, five_in, five_answer, terms_in, terms_answer, sums_in};
 
 use binary_log::Log;
@@ -252,7 +252,7 @@ fn a1s_b_of(
     p3: Enclosure,
     p4: Enclosure,
 ) -> Enclosure
-    ensures { result ≡ a1s_bBy enclosures (λ x. x) (fluid_in w) of p p3 p4 }
+    ensures { result ≡ a1s_b_by enclosures (λ x. x) (fluid_in w) of p p3 p4 }
 {
     let b = b_of(w, i_of(p3, of.l3), j_of(p4, p3, of.l3, of.l4));
     enclosure::mul(p, enclosure::add(a1s_ij(w.zeta_x, of), b))

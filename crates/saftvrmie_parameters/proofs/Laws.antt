@@ -22,7 +22,7 @@ use Rattle.saftvrmie_parameters.specs.declared.PairAnswer.TheVariants.{At, Outsi
 use Rattle.mie_parameters.specs.declared.ParameterAnswer.TheVariants.{Held}
 use Rattle.mie_parameters.specs.Places.{in_places}
 use Rattle.mie_parameters.proofs.Laws.{and_left, and_right, count_low, count_high}
-use Rattle.saftvrmie_parameters.specs.Parameters.{Lists, pair_answer, pair_parameters, store_pair, sheets_turn, sheets_of, right_lengths, within_limits, component_of, saft_vRMie_pars, given}
+use Rattle.saftvrmie_parameters.specs.Parameters.{Lists, pair_answer, pair_parameters, store_pair, sheets_turn, sheets_of, right_lengths, within_limits, component_of, saft_vr_mie_pars, given}
 
 -- a turn of the sheets, over plain values
 module _ (n : ℕ) (c : ℕ → Component) (k l : ℕ → ℕ → Float) (i j : ℕ) (x : List Float) (a b : Component) (r : PairAnswer) where
@@ -95,20 +95,20 @@ abbrev pub sheets_in : Lists → Ans (List Float)
 sheets_in l = sheets_of l.count (component_of l) (square l.count l.k_ij) (square l.count l.gamma_ij)
 
 module _ (l : Lists) where
-  pub refuses_1 : right_lengths l ≡ false → saft_vRMie_pars l ≡ refused 1
-  unfolding saft_vRMie_pars demand ◌>>=◌
+  pub refuses_1 : right_lengths l ≡ false → saft_vr_mie_pars l ≡ refused 1
+  unfolding saft_vr_mie_pars demand ◌>>=◌
   refuses_1 p = rw p
 
-  pub refuses_2 : right_lengths l ≡ true → Within l ≡ false → saft_vRMie_pars l ≡ refused 2
-  unfolding saft_vRMie_pars demand ◌>>=◌
+  pub refuses_2 : right_lengths l ≡ true → Within l ≡ false → saft_vr_mie_pars l ≡ refused 2
+  unfolding saft_vr_mie_pars demand ◌>>=◌
   refuses_2 p q = rw (p, q)
 
-  pub refuses_6 : (k : ℕ) → right_lengths l ≡ true → Within l ≡ true → sheets_in l ≡ refused k → saft_vRMie_pars l ≡ refused k
-  unfolding saft_vRMie_pars demand ◌>>=◌
+  pub refuses_6 : (k : ℕ) → right_lengths l ≡ true → Within l ≡ true → sheets_in l ≡ refused k → saft_vr_mie_pars l ≡ refused k
+  unfolding saft_vr_mie_pars demand ◌>>=◌
   refuses_6 k p q t = rw (p, q, t)
 
   pub holds : (x m s e r a : List Float) → right_lengths l ≡ true → Within l ≡ true → sheets_in l ≡ held x
       → m ≡ in_places floats l.count (at l.m) → s ≡ in_places floats l.count (at l.sigma) → e ≡ in_places floats l.count (at l.epsilon_k) → r ≡ in_places floats l.count (at l.lr) → a ≡ in_places floats l.count (at l.la)
-      → record { answer = Held; set = record { count = l.count; m = m; sigma = s; epsilon_k = e; lr = r; la = a; sheets = x } } ≡ given (saft_vRMie_pars l)
-  unfolding saft_vRMie_pars demand ◌>>=◌ given
+      → record { answer = Held; set = record { count = l.count; m = m; sigma = s; epsilon_k = e; lr = r; la = a; sheets = x } } ≡ given (saft_vr_mie_pars l)
+  unfolding saft_vr_mie_pars demand ◌>>=◌ given
   holds x m s e r a p q t u v w y z = rw (p, q, t, u, v, w, y, z)

@@ -7,7 +7,7 @@ use Rattle.number.specs.Lists.{at}
 use Rattle.sizes.specs.Sizes.{side, sheet, cell}
 use Rattle.number.specs.Walk.{walk}
 use Rattle.elementary.specs.Port.{port}
-use Rattle.mie_parameters.specs.Combine.{epsilon_kIj, lambda_ij, c_ij}
+use Rattle.mie_parameters.specs.Combine.{epsilon_k_ij, lambda_ij, c_ij}
 use Rattle.limits.specs.declared.Component.{Component}
 use Rattle.limits.specs.Limits.{square, components, count_within, components_within, segments_within, pairs_within}
 use Rattle.saftvrmie_parameters.specs.Combine.{sigma_ij, alpha_ij, lr_ij}
@@ -63,7 +63,7 @@ within_limits n c m k gamma = components_within n c && segments_within n m && pa
 unfoldable pub pair_parameters : Component → Component → Float → Float → Ans PairParameters
 pair_parameters a b k gamma =
     let sigma = sigma_ij floats a.sigma b.sigma in
-    epsilon_kIj floats (calls floats port) a.sigma b.sigma a.epsilon_k b.epsilon_k sigma k >>= λ epsilon_k.
+    epsilon_k_ij floats (calls floats port) a.sigma b.sigma a.epsilon_k b.epsilon_k sigma k >>= λ epsilon_k.
     lr_ij floats (calls floats port) a.lr b.lr gamma >>= λ lr.
     lambda_ij floats (calls floats port) a.la b.la >>= λ la.
     c_ij floats (calls floats port) lr la >>= λ c.
@@ -99,8 +99,8 @@ module _ (n : ℕ) (c : ℕ → Component) (k gamma : ℕ → ℕ → Float) whe
   sheets_of = walk n sheets_row (replicate (6 * sheet) zero64)
 
 -- ---- the operation: the first that applies is given
-unfoldable pub saft_vRMie_pars : Lists → Ans SaftVRMiePars
-saft_vRMie_pars l =
+unfoldable pub saft_vr_mie_pars : Lists → Ans SaftVRMiePars
+saft_vr_mie_pars l =
     demand 1 (right_lengths l) >>= λ _.
     demand 2 (within_limits l.count (component_of l) (at l.m) (square l.count l.k_ij) (square l.count l.gamma_ij)) >>= λ _.
     sheets_of l.count (component_of l) (square l.count l.k_ij) (square l.count l.gamma_ij) >>= λ s.

@@ -12,7 +12,7 @@ ghost use Rattle.sizes.specs.Sizes.{side, sheet};
 ghost use Rattle.number.specs.Walk.{walk};
 ghost use Rattle.limits.specs.Limits.{square, components};
 ghost use Rattle.saftvrmie_parameters.specs.Combine.{sigma_ij, alpha_ij, lr_ij};
-ghost use Rattle.saftvrmie_parameters.specs.Parameters.{Lists, pair_answer, right_lengths, within_limits, pair_parameters, store_pair, sheets_row, saft_vRMie_pars, given};
+ghost use Rattle.saftvrmie_parameters.specs.Parameters.{Lists, pair_answer, right_lengths, within_limits, pair_parameters, store_pair, sheets_row, saft_vr_mie_pars, given};
 ghost use Rattle.mie_parameters.specs.Answer.{outcome};
 
 use limits::Component;
@@ -282,7 +282,7 @@ pub fn parameters(
       k_ij = k_ij.now;
       gamma_ij = gamma_ij.now;
     } in
-        result ≡ given (saft_vRMie_pars l) }
+        result ≡ given (saft_vr_mie_pars l) }
 {
     if !right_lengths(count, m, sigma, epsilon_k, lr, la, k_ij, gamma_ij) {
         return refused_with(1);

@@ -9,7 +9,7 @@ use Rattle.elementary.specs.Port.{port}
 use Rattle.limits.specs.Limits.{index_within, temperature_within}
 use Rattle.saftvrqmie_parameters.specs.declared.SaftVRQMiePars.{SaftVRQMiePars}
 use Rattle.saftvrqmie_potential.specs.Potential.{PairIn, points_of, pair_in, pair_at_entry}
-use Rattle.saftvrqmie_searches.specs.Searches.{Counted, search_in, sigma_eff, zero_integrand, epsilon_kEff}
+use Rattle.saftvrqmie_searches.specs.Searches.{Counted, search_in, sigma_eff, zero_integrand, epsilon_k_eff}
 use Rattle.saftvrqmie_searches.specs.Diameter.{diameter}
 use Rattle.saftvrqmie_properties.specs.Properties.{radius_of}
 use Rattle.saftvrqmie.specs.declared.PairSearches.{PairSearches}
@@ -40,7 +40,7 @@ unfoldable pub pair_searches : (A : Arith) → Functions A.Num → PairIn A.Num 
 pair_searches A F p =
     sigma_eff A F p >>= λ s.
     zero_integrand A F p (radius_of s.search) >>= λ z.
-    epsilon_kEff A F p >>= λ d.
+    epsilon_k_eff A F p >>= λ d.
     held (record { sigma = s; zero = z; depth = d })
 
 -- 1; 2 for the temperature; 6

@@ -13,7 +13,7 @@ use Rattle.slopes.specs.Mixed.{Mixed, plain, sloped, mixed_one}
 use Rattle.slopes.specs.Rules.{exp_d, mixed_functions}
 use Rattle.saftvrqmie_potential.specs.declared.Pair.{Pair}
 use Rattle.saftvrqmie_potential.specs.Potential.{quantum_d, prefactor}
-use Rattle.saftvrqmie_potential_slopes.specs.Potential.{mixed_pair, quantum_dSlope}
+use Rattle.saftvrqmie_potential_slopes.specs.Potential.{mixed_pair, quantum_d_slope}
 use Rattle.saftvrqmie_dispersion_terms_slopes.specs.Staged.{sloped_at}
 use Rattle.saftvrqmie_dispersion_terms_slopes.proofs.Staged.{powf_outside, powf_inside}
 use Rattle.mie_parameters.specs.Tables.{phi3, phi4, phi5}
@@ -23,8 +23,8 @@ abbrev D : Type 0
 D = DualOf Float
 
 -- ---- quantum_d is a D
-pub d_sloped : (m : Float) (t : D) → quantum_d mixed_one (mixed_functions port) (plain m) (sloped t) ≡ sloped (quantum_dSlope port m t)
-unfolding quantum_dSlope quantum_d prefactor
+pub d_sloped : (m : Float) (t : D) → quantum_d mixed_one (mixed_functions port) (plain m) (sloped t) ≡ sloped (quantum_d_slope port m t)
+unfolding quantum_d_slope quantum_d prefactor
 d_sloped m t = refl
 
 -- ---- alpha

@@ -25,7 +25,7 @@ use Rattle.saftvrqmie_parameters.specs.declared.PairAnswer.TheVariants.{At, Outs
 use Rattle.mie_parameters.specs.declared.ParameterAnswer.TheVariants.{Held}
 use Rattle.mie_parameters.specs.Places.{in_places}
 use Rattle.mie_parameters.proofs.Laws.{and_left, and_right, count_low, count_high}
-use Rattle.saftvrqmie_parameters.specs.Parameters.{Lists, pair_orders, pair_answer, pair_parameters, store_pair, sheets_turn, sheets_of, right_lengths, within_limits, component_of, order_walk, orders_of, saft_vRQMie_pars, given}
+use Rattle.saftvrqmie_parameters.specs.Parameters.{Lists, pair_orders, pair_answer, pair_parameters, store_pair, sheets_turn, sheets_of, right_lengths, within_limits, component_of, order_walk, orders_of, saft_vrq_mie_pars, given}
 
 module _ (a b : ℕ) where
   pub above : 2 < max a b → refused 4 ≡ pair_orders a b
@@ -125,31 +125,31 @@ abbrev pub sheets_in : Lists → Ans (List Float)
 sheets_in l = sheets_of l.count (component_of l) (at l.mass) (square l.count l.k_ij) (square l.count l.l_ij)
 
 module _ (l : Lists) where
-  pub refuses_1 : right_lengths l ≡ false → saft_vRQMie_pars l ≡ refused 1
-  unfolding saft_vRQMie_pars demand ◌>>=◌
+  pub refuses_1 : right_lengths l ≡ false → saft_vrq_mie_pars l ≡ refused 1
+  unfolding saft_vrq_mie_pars demand ◌>>=◌
   refuses_1 p = rw p
 
-  pub refuses_2 : right_lengths l ≡ true → Within l ≡ false → saft_vRQMie_pars l ≡ refused 2
-  unfolding saft_vRQMie_pars demand ◌>>=◌
+  pub refuses_2 : right_lengths l ≡ true → Within l ≡ false → saft_vrq_mie_pars l ≡ refused 2
+  unfolding saft_vrq_mie_pars demand ◌>>=◌
   refuses_2 p q = rw (p, q)
 
-  pub refuses_3 : right_lengths l ≡ true → Within l ≡ true → all_one l.count (at l.m) ≡ false → saft_vRQMie_pars l ≡ refused 3
-  unfolding saft_vRQMie_pars demand ◌>>=◌
+  pub refuses_3 : right_lengths l ≡ true → Within l ≡ true → all_one l.count (at l.m) ≡ false → saft_vrq_mie_pars l ≡ refused 3
+  unfolding saft_vrq_mie_pars demand ◌>>=◌
   refuses_3 p q r = rw (p, q, r)
 
   pub refuses_4_5 : (k : ℕ) → right_lengths l ≡ true → Within l ≡ true → all_one l.count (at l.m) ≡ true
-      → order_walk l.count l.fh ≡ refused k → saft_vRQMie_pars l ≡ refused k
-  unfolding saft_vRQMie_pars demand ◌>>=◌
+      → order_walk l.count l.fh ≡ refused k → saft_vrq_mie_pars l ≡ refused k
+  unfolding saft_vrq_mie_pars demand ◌>>=◌
   refuses_4_5 k p q r s = rw (p, q, r, s)
 
   pub refuses_6 : (k : ℕ) → right_lengths l ≡ true → Within l ≡ true → all_one l.count (at l.m) ≡ true
-      → order_walk l.count l.fh ≡ held true → sheets_in l ≡ refused k → saft_vRQMie_pars l ≡ refused k
-  unfolding saft_vRQMie_pars demand ◌>>=◌
+      → order_walk l.count l.fh ≡ held true → sheets_in l ≡ refused k → saft_vrq_mie_pars l ≡ refused k
+  unfolding saft_vrq_mie_pars demand ◌>>=◌
   refuses_6 k p q r s t = rw (p, q, r, s, t)
 
   pub holds : (x y : List Float) (o : List OrderRecord) → right_lengths l ≡ true → Within l ≡ true → all_one l.count (at l.m) ≡ true
       → order_walk l.count l.fh ≡ held true → sheets_in l ≡ held x
       → y ≡ in_places floats l.count (at l.m) → o ≡ orders_of l.count l.fh
-      → record { answer = Held; set = record { count = l.count; m = y; sheets = x; orders = o } } ≡ given (saft_vRQMie_pars l)
-  unfolding saft_vRQMie_pars demand ◌>>=◌ given
+      → record { answer = Held; set = record { count = l.count; m = y; sheets = x; orders = o } } ≡ given (saft_vrq_mie_pars l)
+  unfolding saft_vrq_mie_pars demand ◌>>=◌ given
   holds x y o p q r s t d e = rw (p, q, r, s, t, d, e)

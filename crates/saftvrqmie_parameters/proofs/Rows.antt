@@ -10,7 +10,7 @@ use Rattle.number.specs.Arith.{decimal, zero64, one64}
 use Rattle.number.specs.Ans.{held, refused, ◌>>=◌, demand}
 use Rattle.number.specs.Walk.{turns, every, walk}
 use Rattle.limits.specs.Limits.{in_limits, count_within, component_within, components_within, all_within, masses_within, same_bits, pair_within, pairs_within, all_one}
-use Rattle.saftvrqmie_parameters.specs.Parameters.{Lists, right_lengths, within_limits, pair_orders, order_row, order_walk, saft_vRQMie_pars}
+use Rattle.saftvrqmie_parameters.specs.Parameters.{Lists, right_lengths, within_limits, pair_orders, order_row, order_walk, saft_vrq_mie_pars}
 
 abbrev pub lists : ℕ → List Float → List ℕ → Lists
 lists n m fh =
@@ -45,20 +45,20 @@ unfolding order_walk order_row walk pair_orders demand ◌>>=◌
 orders_0_3 = refl
 
 -- through the whole operation: (1,2) 5
-pub orders_1_2 : saft_vRQMie_pars (lists 2 (one64 ∷ one64 ∷ []) (1 ∷ 2 ∷ [])) ≡ refused 5
-unfolding saft_vRQMie_pars right_lengths count_within within_limits components_within component_within in_limits masses_within all_within pairs_within pair_within same_bits all_one every turns order_walk order_row walk pair_orders demand ◌>>=◌ decimal Ieee.of_bits Ieee.le Ieee.lt Ieee.eq Ieee.is_nan Ieee.to_bits Ieee.neg
+pub orders_1_2 : saft_vrq_mie_pars (lists 2 (one64 ∷ one64 ∷ []) (1 ∷ 2 ∷ [])) ≡ refused 5
+unfolding saft_vrq_mie_pars right_lengths count_within within_limits components_within component_within in_limits masses_within all_within pairs_within pair_within same_bits all_one every turns order_walk order_row walk pair_orders demand ◌>>=◌ decimal Ieee.of_bits Ieee.le Ieee.lt Ieee.eq Ieee.is_nan Ieee.to_bits Ieee.neg
 orders_1_2 = refl
 
 -- m (1,2) with orders (3,0): 3
-pub m_1_2 : saft_vRQMie_pars (lists 2 (one64 ∷ decimal false 2 0 ∷ []) (3 ∷ 0 ∷ [])) ≡ refused 3
-unfolding saft_vRQMie_pars right_lengths count_within within_limits components_within component_within in_limits masses_within all_within pairs_within pair_within same_bits all_one every turns demand ◌>>=◌ decimal Ieee.of_bits Ieee.le Ieee.lt Ieee.eq Ieee.is_nan Ieee.to_bits Ieee.neg
+pub m_1_2 : saft_vrq_mie_pars (lists 2 (one64 ∷ decimal false 2 0 ∷ []) (3 ∷ 0 ∷ [])) ≡ refused 3
+unfolding saft_vrq_mie_pars right_lengths count_within within_limits components_within component_within in_limits masses_within all_within pairs_within pair_within same_bits all_one every turns demand ◌>>=◌ decimal Ieee.of_bits Ieee.le Ieee.lt Ieee.eq Ieee.is_nan Ieee.to_bits Ieee.neg
 m_1_2 = refl
 
 -- counts 0 and 13 give 1, whatever the lists
-pub count_0 : (l : Lists) → l.count ≡ 0 → saft_vRQMie_pars l ≡ refused 1
-unfolding saft_vRQMie_pars right_lengths count_within demand ◌>>=◌
+pub count_0 : (l : Lists) → l.count ≡ 0 → saft_vrq_mie_pars l ≡ refused 1
+unfolding saft_vrq_mie_pars right_lengths count_within demand ◌>>=◌
 count_0 l p = rw p
 
-pub count_13 : (l : Lists) → l.count ≡ 13 → saft_vRQMie_pars l ≡ refused 1
-unfolding saft_vRQMie_pars right_lengths count_within demand ◌>>=◌
+pub count_13 : (l : Lists) → l.count ≡ 13 → saft_vrq_mie_pars l ≡ refused 1
+unfolding saft_vrq_mie_pars right_lengths count_within demand ◌>>=◌
 count_13 l p = rw p

@@ -7,7 +7,7 @@ use Rattle.number.specs.Lists.{at}
 use Rattle.sizes.specs.Sizes.{side, sheet, cell}
 use Rattle.number.specs.Walk.{turns, walk}
 use Rattle.elementary.specs.Port.{port}
-use Rattle.mie_parameters.specs.Combine.{epsilon_kIj, lambda_ij, c_ij}
+use Rattle.mie_parameters.specs.Combine.{epsilon_k_ij, lambda_ij, c_ij}
 use Rattle.limits.specs.declared.Component.{Component}
 use Rattle.limits.specs.Limits.{square, components, count_within, components_within, masses_within, pairs_within, is_one, all_one}
 use Rattle.saftvrqmie_parameters.specs.Combine.{sigma_ij, mass_ij}
@@ -85,7 +85,7 @@ order_walk n fh = walk n (λ i _. order_row n fh i) true
 unfoldable pub pair_parameters : Component → Component → Float → Float → Float → Float → Ans PairParameters
 pair_parameters a b ma mb k l =
     let sigma = sigma_ij floats a.sigma b.sigma l in
-    epsilon_kIj floats (calls floats port) a.sigma b.sigma a.epsilon_k b.epsilon_k sigma k >>= λ epsilon_k.
+    epsilon_k_ij floats (calls floats port) a.sigma b.sigma a.epsilon_k b.epsilon_k sigma k >>= λ epsilon_k.
     lambda_ij floats (calls floats port) a.lr b.lr >>= λ lr.
     lambda_ij floats (calls floats port) a.la b.la >>= λ la.
     c_ij floats (calls floats port) lr la >>= λ c.
@@ -127,8 +127,8 @@ unfoldable pub orders_of : ℕ → List ℕ → List OrderRecord
 orders_of n fh = turns n (orders_row n fh) (replicate sheet unused)
 
 -- ---- the operation: the first that applies is given
-unfoldable pub saft_vRQMie_pars : Lists → Ans SaftVRQMiePars
-saft_vRQMie_pars l =
+unfoldable pub saft_vrq_mie_pars : Lists → Ans SaftVRQMiePars
+saft_vrq_mie_pars l =
     demand 1 (right_lengths l) >>= λ _.
     demand 2 (within_limits l.count (component_of l) (at l.mass) (square l.count l.k_ij) (square l.count l.l_ij)) >>= λ _.
     demand 3 (all_one l.count (at l.m)) >>= λ _.

@@ -9,7 +9,7 @@ ghost use Rattle.sizes.specs.Sizes.{side, sheet};
 ghost use Rattle.number.specs.Walk.{walk};
 ghost use Rattle.limits.specs.Limits.{square, components};
 ghost use Rattle.saftvrqmie_parameters.specs.Combine.{sigma_ij, mass_ij};
-ghost use Rattle.saftvrqmie_parameters.specs.Parameters.{Lists, pair_answer, right_lengths, within_limits, record_m, pair_orders, order_row, order_walk, pair_parameters, store_pair, sheets_row, order_of, orders_row, orders_of, saft_vRQMie_pars, given};
+ghost use Rattle.saftvrqmie_parameters.specs.Parameters.{Lists, pair_answer, right_lengths, within_limits, record_m, pair_orders, order_row, order_walk, pair_parameters, store_pair, sheets_row, order_of, orders_row, orders_of, saft_vrq_mie_pars, given};
 ghost use Rattle.mie_parameters.specs.Answer.{outcome};
 
 use limits::Component;
@@ -397,7 +397,7 @@ pub fn parameters(
       k_ij = k_ij.now;
       l_ij = l_ij.now;
     } in
-        result ≡ given (saft_vRQMie_pars l) }
+        result ≡ given (saft_vrq_mie_pars l) }
 {
     if !right_lengths(count, m, sigma, epsilon_k, lr, la, mass, fh, k_ij, l_ij) {
         return refused_with(1);

@@ -23,7 +23,7 @@ use Rattle.saftvrqmie_parameters.specs.declared.FeynmanHibbsOrder.{FeynmanHibbsO
 use Rattle.saftvrqmie_parameters.specs.declared.FeynmanHibbsOrder.TheVariants.{FH0, FH1, FH2}
 use Rattle.saftvrqmie_potential.specs.declared.Pair.{Pair}
 use Rattle.saftvrqmie_potential.specs.Potential.{PotentialIn, first_order, second_order, q1, q2, quantum_d, prefactor, u_mie, corrected, scaled, line, mie, add_first, add_second, after_shared, potential, u_quantum}
-use Rattle.saftvrqmie_potential_slopes.specs.Potential.{mixed_pair, quantum_dSlope, potential_slope}
+use Rattle.saftvrqmie_potential_slopes.specs.Potential.{mixed_pair, quantum_d_slope, potential_slope}
 use Rattle.saftvrqmie_potential_slopes.specs.Staged.{struct_of, both_inside, both_at, exponents_inside, term_of, shared_values, shared_of, at, mie_at, first_at, second_at, values_at, potential_at}
 use Rattle.saftvrqmie_potential_slopes.specs.declared.SlopeShared.{SlopeShared}
 
@@ -110,8 +110,8 @@ pub struct_is : (x : Dual) (y : DualOf Float) → dual_of x ≡ y → x ≡ stru
 unfolding dual_of
 struct_is x y p = rw (← p)
 
-d_sloped : (m : Float) (t : DualOf Float) → quantum_d mixed F (plain m) (sloped t) ≡ sloped (quantum_dSlope port m t)
-unfolding quantum_dSlope quantum_d prefactor
+d_sloped : (m : Float) (t : DualOf Float) → quantum_d mixed F (plain m) (sloped t) ≡ sloped (quantum_d_slope port m t)
+unfolding quantum_d_slope quantum_d prefactor
 d_sloped m t = refl
 
 pub prefactor_plain : prefactor mixed F ≡ plain (bits 0x3a80_9e96_28fe_8caa)
@@ -181,11 +181,11 @@ module _ (p : Pair) (t r : DualOf Float) where
     module _ (in_e : both_inside p.lr p.la ≡ true) where
       first_tested : (v : PotentialIn (DualOf Float)) → Tested (both_at p.lr p.la 2 && (both_at p.lr p.la 3 && both_at p.lr p.la 4)) (sloped_parts (first_at w l r.eps r2 a2 r4 a4 v)) (add_first mixed F (mixed_pair p t) (sloped r) (sloped_parts v))
       unfolding add_first first_at term_of
-      first_tested v = rw (q1_plain p.lr, q1_plain p.la, d_sloped p.mass t, struct_back (quantum_dSlope port p.mass t)) (lines_tested _ _ _ _ _ _ _ _ _ (corrected mixed (sloped (quantum_dSlope port p.mass t)) (sloped_parts v)) (λ _. and_left (slope_inside p.lr) (slope_inside p.la) in_e) (λ _. and_right (slope_inside p.lr) (slope_inside p.la) in_e))
+      first_tested v = rw (q1_plain p.lr, q1_plain p.la, d_sloped p.mass t, struct_back (quantum_d_slope port p.mass t)) (lines_tested _ _ _ _ _ _ _ _ _ (corrected mixed (sloped (quantum_d_slope port p.mass t)) (sloped_parts v)) (λ _. and_left (slope_inside p.lr) (slope_inside p.la) in_e) (λ _. and_right (slope_inside p.lr) (slope_inside p.la) in_e))
 
       second_tested : (v : PotentialIn (DualOf Float)) → Tested (both_at p.lr p.la 4 && (both_at p.lr p.la 5 && both_at p.lr p.la 6)) (sloped_parts (second_at w l r.eps r4 a4 v)) (add_second mixed F (mixed_pair p t) (sloped r) (sloped_parts v))
       unfolding add_second second_at term_of
-      second_tested v = rw (q2_plain p.lr, q2_plain p.la, d_sloped p.mass t, struct_back (pow_d floats (quantum_dSlope port p.mass t) 2)) (lines_tested _ _ _ _ _ _ _ _ _ (corrected mixed (sloped (pow_d floats (quantum_dSlope port p.mass t) 2)) (sloped_parts v)) (λ _. and_left (slope_inside p.lr) (slope_inside p.la) in_e) (λ _. and_right (slope_inside p.lr) (slope_inside p.la) in_e))
+      second_tested v = rw (q2_plain p.lr, q2_plain p.la, d_sloped p.mass t, struct_back (pow_d floats (quantum_d_slope port p.mass t) 2)) (lines_tested _ _ _ _ _ _ _ _ _ (corrected mixed (sloped (pow_d floats (quantum_d_slope port p.mass t) 2)) (sloped_parts v)) (λ _. and_left (slope_inside p.lr) (slope_inside p.la) in_e) (λ _. and_right (slope_inside p.lr) (slope_inside p.la) in_e))
 
     -- an order has the second correction only if it has the first
     tests_nested : (o : FeynmanHibbsOrder) (m x y : Bool) → (m && (cond (first_order o) x true && cond (second_order o) y true)) ≡ (m && cond (first_order o) (x && cond (second_order o) y true) true)

@@ -40,8 +40,8 @@ as_duals v = record { u = as_dual v.u; u_r = as_dual v.u_r; u_rr = as_dual v.u_r
 
 module _ (E : Answers) where
   -- `quantum_d_mass` at D, by mass and temperature
-  unfoldable pub quantum_dSlope : Float → DualOf Float → DualOf Float
-  quantum_dSlope mass t = as_dual (quantum_d mixed (mixed_functions E) (plain mass) (sloped t))
+  unfoldable pub quantum_d_slope : Float → DualOf Float → DualOf Float
+  quantum_d_slope mass t = as_dual (quantum_d mixed (mixed_functions E) (plain mass) (sloped t))
 
   -- the potential of a pair at a temperature and a radius
   unfoldable pub potential_slope : Pair → DualOf Float → DualOf Float → Ans (PotentialIn (DualOf Float))

@@ -15,7 +15,7 @@ use Rattle.slopes.specs.Staged.{slope_inside, slope_exponent_of, raised_of}
 use Rattle.slopes.specs.declared.SlopeExponent.{SlopeExponent}
 use Rattle.saftvrqmie_potential.specs.declared.Pair.{Pair}
 use Rattle.saftvrqmie_potential.specs.Potential.{PotentialIn, first_order, second_order, q1, q2, u_mie, ur_mie, urr_mie, ur_first, urr_first, ur_second, urr_second, corrected, scaled, u_quantum}
-use Rattle.saftvrqmie_potential_slopes.specs.Potential.{quantum_dSlope}
+use Rattle.saftvrqmie_potential_slopes.specs.Potential.{quantum_d_slope}
 use Rattle.saftvrqmie_potential_slopes.specs.declared.SlopeTerm.{SlopeTerm}
 use Rattle.saftvrqmie_potential_slopes.specs.declared.SlopeShared.{SlopeShared}
 use Rattle.saftvrqmie_potential_slopes.specs.declared.SlopeSharedAnswer.{SlopeSharedAnswer}
@@ -97,8 +97,8 @@ shared_values p t =
     record {
       r = term_of (log_of p.sigma) p.lr;
       a = term_of (log_of p.sigma) p.la;
-      d = struct_of (quantum_dSlope port p.mass t);
-      d2 = struct_of (pow_d floats (quantum_dSlope port p.mass t) 2);
+      d = struct_of (quantum_d_slope port p.mass t);
+      d2 = struct_of (pow_d floats (quantum_d_slope port p.mass t) 2);
       ce = floats.mul p.c p.epsilon_k;
       first = first_order p.order;
       second = second_order p.order;

@@ -9,7 +9,7 @@ ghost use Rattle.dual.specs.Dual.{plain_d, duals};
 ghost use Rattle.dual.specs.Value.{dual_of};
 ghost use Rattle.slopes.specs.Answer.{dual_answer};
 ghost use Rattle.saftvrqmie_potential.specs.Potential.{corrected, scaled};
-ghost use Rattle.saftvrqmie_potential_slopes.specs.Potential.{dual_potential_in, dual_potential_answer, quantum_dSlope, potential_slope};
+ghost use Rattle.saftvrqmie_potential_slopes.specs.Potential.{dual_potential_in, dual_potential_answer, quantum_d_slope, potential_slope};
 ghost use Rattle.saftvrqmie_potential_slopes.specs.Staged.{shared_answer, over1, over2, over3, over4, under2, under3, exponents_inside, term_of, shared_of, mie_at, first_at, second_at, values_at, potential_at, u_at, both_inside};
 
 use binary_log::Log;
@@ -155,7 +155,7 @@ fn under_3(p: Dual, a: f64, b: f64, c: f64) -> Dual
 
 // `quantum_d_mass`.
 pub fn quantum_d(mass: f64, temperature: Dual) -> Dual
-    ensures { dual_of result ≡ quantum_dSlope port mass (dual_of temperature) }
+    ensures { dual_of result ≡ quantum_d_slope port mass (dual_of temperature) }
 {
     let inverse = slopes::recip(temperature);
     slopes::times(slopes::over(inverse, mass), D_QM_PREFACTOR)

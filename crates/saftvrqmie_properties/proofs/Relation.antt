@@ -5,9 +5,9 @@ use Rattle.number.specs.Functions.{Functions}
 use Rattle.number.proofs.Rel.{Rel, FunRel, Both, both_held, then_both}
 use Rattle.saftvrqmie_potential.specs.Potential.{PairIn}
 use Rattle.saftvrqmie_potential.proofs.Relation.{PairR, quantum_d_rel}
-use Rattle.saftvrqmie_searches.specs.Searches.{SearchIn, sigma_eff, zero_integrand, epsilon_kEff}
+use Rattle.saftvrqmie_searches.specs.Searches.{SearchIn, sigma_eff, zero_integrand, epsilon_k_eff}
 use Rattle.saftvrqmie_searches.specs.Diameter.{diameter}
-use Rattle.saftvrqmie_searches.proofs.Relation.{SearchR, found_both, spent_both, sigma_eff_rel, zero_integrand_rel, epsilon_kEff_rel, diameter_rel}
+use Rattle.saftvrqmie_searches.proofs.Relation.{SearchR, found_both, spent_both, sigma_eff_rel, zero_integrand_rel, epsilon_k_eff_rel, diameter_rel}
 use Rattle.saftvrqmie_properties.specs.Properties.{PairPropertiesIn, radius_of, last_of, properties_by, pair_properties}
 
 -- part by part; the counts are one
@@ -30,13 +30,13 @@ last_rel R (spent_both p q) = q
 
 module _ (A B : Arith) (K : Rel A B) (F : Functions A.Num) (G : Functions B.Num) (H : FunRel K.R F G) {p : PairIn A.Num} {q : PairIn B.Num} (P : PairR K.R p q) where
   pub pair_properties_rel : Both (PropertiesR K.R) (pair_properties A F p) (pair_properties B G q)
-  unfolding pair_properties properties_by sigma_eff zero_integrand epsilon_kEff diameter
+  unfolding pair_properties properties_by sigma_eff zero_integrand epsilon_k_eff diameter
   pair_properties_rel =
       then_both (sigma_eff_rel A B K F G H P) (λ _ _ s.
       let sigma = radius_rel K.R s.search in
       then_both (zero_integrand_rel A B K F G H P sigma) (λ _ _ z.
       then_both (diameter_rel A B K F G H P sigma (radius_rel K.R z.search)) (λ _ _ d.
-      then_both (epsilon_kEff_rel A B K F G H P) (λ _ _ e.
+      then_both (epsilon_k_eff_rel A B K F G H P) (λ _ _ e.
       both_held
       (record {
         sigma_eff = sigma;

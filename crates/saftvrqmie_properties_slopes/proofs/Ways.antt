@@ -11,7 +11,7 @@ use Rattle.dual.specs.Dual.{DualOf, plain_d, mul_d, div_d, neg_d, duals}
 use Rattle.slopes.specs.Rules.{dual_functions}
 use Rattle.saftvrqmie_potential.specs.Potential.{quantum_d, prefactor}
 use Rattle.saftvrqmie_potential.specs.declared.Pair.{Pair}
-use Rattle.saftvrqmie_potential_slopes.specs.Potential.{quantum_dSlope}
+use Rattle.saftvrqmie_potential_slopes.specs.Potential.{quantum_d_slope}
 use Rattle.saftvrqmie_potential_slopes.specs.Staged.{shared_of, potential_at}
 use Rattle.saftvrqmie_potential_slopes.specs.declared.SlopeShared.{SlopeShared}
 use Rattle.saftvrqmie_potential_slopes.proofs.Staged.{shared_held, shared_refused, prefactor_plain}
@@ -29,8 +29,8 @@ prefactor_dual : prefactor (duals floats) (dual_functions port) ≡ plain_d floa
 unfolding prefactor decimal mul_d div_d plain_d Ieee.add Ieee.sub Ieee.mul Ieee.div Ieee.of_bits
 prefactor_dual = refl
 
-quantum_is : (m : Float) (t : D) → quantum_d (duals floats) (dual_functions port) (plain_d floats m) t ≡ quantum_dSlope port m t
-unfolding quantum_d quantum_dSlope
+quantum_is : (m : Float) (t : D) → quantum_d (duals floats) (dual_functions port) (plain_d floats m) t ≡ quantum_d_slope port m t
+unfolding quantum_d quantum_d_slope
 quantum_is m t = rw (prefactor_dual, prefactor_plain)
 
 module _ (p : Pair) (t : D) where
@@ -68,7 +68,7 @@ module _ (p : Pair) (t : D) where
           unfolding properties_by ◌>>=◌
           no_depth n e = sym (by ∙ rw (← is_x, is-s, ← is-sigma, is-z, ← is-r0, is-d, e))
 
-          pub properties_are : (e : Counted D) (v u q : D) → depth_search (duals floats) (potential_at w) x ≡ held e → v ≡ neg_d floats u → u ≡ last_of e.search → q ≡ quantum_dSlope port p.mass t
+          pub properties_are : (e : Counted D) (v u q : D) → depth_search (duals floats) (potential_at w) x ≡ held e → v ≡ neg_d floats u → u ≡ last_of e.search → q ≡ quantum_d_slope port p.mass t
               → held (record { sigma_eff = sigma_eff; hs_diameter = d; epsilon_k_eff = v; quantum_d = q; sigma_count = s.count; zero_count = z.count; depth_count = e.count }) ≡ result
           unfolding properties_by ◌>>=◌
           properties_are e v u q is-e is-v is-u is-q = sym (by ∙ rw (← is_x, is-s, ← is-sigma, is-z, ← is-r0, is-d, is-e, after_is (radius_of e.search) (last_of e.search), quantum_is p.mass t, ← is-u, ← is-v, ← is-q))

@@ -12,7 +12,7 @@ use Rattle.number.specs.Neighbour.{absolute}
 use Rattle.number.proofs.Rel.{Rel, FunRel, Both, both_held, then_both, cond_rel, walk_rel}
 use Rattle.saftvrqmie_potential.specs.Potential.{PairIn, PotentialIn, potential}
 use Rattle.saftvrqmie_potential.proofs.Relation.{PairR, PotentialR, potential_rel}
-use Rattle.saftvrqmie_searches.specs.Searches.{SearchIn, Counted, found, spent, clamped, evaluated, search_from, searched, zero_tested, sigma_search, depth_search, zero_search, sigma_eff, zero_integrand, epsilon_kEff}
+use Rattle.saftvrqmie_searches.specs.Searches.{SearchIn, Counted, found, spent, clamped, evaluated, search_from, searched, zero_tested, sigma_search, depth_search, zero_search, sigma_eff, zero_integrand, epsilon_k_eff}
 use Rattle.saftvrqmie_searches.specs.Diameter.{abscissas, weights, node_turn, diameter_by, diameter}
 
 pub data SearchR {S T : Type 0} (R : S → T → Type 0) : SearchIn S → SearchIn T → Type 0 where
@@ -98,9 +98,9 @@ module _ (A B : Arith) (K : Rel A B) where
     unfolding sigma_eff
     sigma_eff_rel = sigma_search_rel _ _ at (r_mul (r_lit _) P.sigma)
 
-    pub epsilon_kEff_rel : Both (CountedR R) (epsilon_kEff A F p) (epsilon_kEff B G q)
-    unfolding epsilon_kEff
-    epsilon_kEff_rel = depth_search_rel _ _ at (r_mul (r_lit _) P.sigma)
+    pub epsilon_k_eff_rel : Both (CountedR R) (epsilon_k_eff A F p) (epsilon_k_eff B G q)
+    unfolding epsilon_k_eff
+    epsilon_k_eff_rel = depth_search_rel _ _ at (r_mul (r_lit _) P.sigma)
 
     pub zero_integrand_rel : {s : A.Num} {s' : B.Num} → R s s' → Both (CountedR R) (zero_integrand A F p s) (zero_integrand B G q s')
     unfolding zero_integrand

@@ -123,5 +123,5 @@ module _ (A : Arith) where
     zero_integrand sigma_eff = zero_search (potential A F p) F p.temperature sigma_eff
 
     -- `calc_epsilon_k_eff_ij`: from sigma_ij to where u_r is zero; epsilon_k_eff is minus the last potential
-    unfoldable pub epsilon_kEff : Ans (Counted Num)
-    epsilon_kEff = depth_search (potential A F p) (whole A 1 ⊗ p.sigma)
+    unfoldable pub epsilon_k_eff : Ans (Counted Num)
+    epsilon_k_eff = depth_search (potential A F p) (whole A 1 ⊗ p.sigma)

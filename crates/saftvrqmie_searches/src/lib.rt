@@ -8,7 +8,7 @@ ghost use Rattle.number.specs.Functions.{calls, entry};
 ghost use Rattle.elementary.specs.Port.{port};
 ghost use Rattle.saftvrqmie_potential.specs.Potential.{pair_in, potential_in};
 ghost use Rattle.saftvrqmie_potential.specs.Staged.{potential_at};
-ghost use Rattle.saftvrqmie_searches.specs.Searches.{search_answer, small, clamped, tested_by, step_by, search_by, sigma_search, zero_search, depth_search, sigma_eff, zero_integrand, epsilon_kEff};
+ghost use Rattle.saftvrqmie_searches.specs.Searches.{search_answer, small, clamped, tested_by, step_by, search_by, sigma_search, zero_search, depth_search, sigma_eff, zero_integrand, epsilon_k_eff};
 ghost use Rattle.saftvrqmie_searches.specs.Diameter.{abscissas, weights, node_turn, diameter_by, diameter};
 
 use number::FloatAnswer;
@@ -193,7 +193,7 @@ pub fn zero_integrand(pair: Pair, sigma_eff: f64) -> SearchAnswer
 
 // `calc_epsilon_k_eff_ij`; epsilon_k_eff is minus the last potential.
 pub fn calc_epsilon_k_eff(pair: Pair) -> SearchAnswer
-    ensures { search_answer result ≡ epsilon_kEff floats (calls floats port) (pair_in pair) }
+    ensures { search_answer result ≡ epsilon_k_eff floats (calls floats port) (pair_in pair) }
 {
     let SharedAnswer::At(w) = saftvrqmie_potential::share(pair) else {
         return SearchAnswer::Outside;

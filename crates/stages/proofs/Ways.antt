@@ -21,11 +21,11 @@ use Rattle.saftvrmie_energies.specs.Energies.{energy}
 use Rattle.stages.specs.Stages.{quantum_stage, own_diameters, mie_energy, mie_stage}
 
 module _ (l : Quantum.Lists) (t : Float) (x rho : List Float) (wanted : Bool) where
-  pub quantum_parameters : (a : Ans (EnergiesIn Float)) (k : ℕ) → Quantum.saft_vRQMie_pars l ≡ refused k → a ≡ refused k → a ≡ quantum_stage l t x rho wanted
+  pub quantum_parameters : (a : Ans (EnergiesIn Float)) (k : ℕ) → Quantum.saft_vrq_mie_pars l ≡ refused k → a ≡ refused k → a ≡ quantum_stage l t x rho wanted
   unfolding quantum_stage ◌>>=◌
   quantum_parameters a k p q = rw (p, q)
 
-  module _ (s : SaftVRQMiePars) (p : Quantum.saft_vRQMie_pars l ≡ held s) where
+  module _ (s : SaftVRQMiePars) (p : Quantum.saft_vrq_mie_pars l ≡ held s) where
     pub quantum_table : (a : Ans (EnergiesIn Float)) (k : ℕ) → temperature_table s t blank ≡ refused k → a ≡ refused k → a ≡ quantum_stage l t x rho wanted
     unfolding quantum_stage ◌>>=◌
     quantum_table a k q r = rw (p, q, r)
@@ -52,11 +52,11 @@ demand_true n false z p = absurd (never p)
     never p = let z : ◌≡◌ {A = ℕ} 0 1 = cc in omega arith
 
 module _ (l : Mie.Lists) (t : Float) (x rho : List Float) (chain : Bool) where
-  pub mie_parameters : (a : Ans Float) (k : ℕ) → Mie.saft_vRMie_pars l ≡ refused k → a ≡ refused k → a ≡ mie_stage l t x rho chain
+  pub mie_parameters : (a : Ans Float) (k : ℕ) → Mie.saft_vr_mie_pars l ≡ refused k → a ≡ refused k → a ≡ mie_stage l t x rho chain
   unfolding mie_stage ◌>>=◌
   mie_parameters a k p q = rw (p, q)
 
-  pub mie_energy_is : (s : SaftVRMiePars) (a : Ans Float) (own : List Float) → Mie.saft_vRMie_pars l ≡ held s → own ≡ own_diameters s.count → a ≡ mie_energy s t x rho own chain → a ≡ mie_stage l t x rho chain
+  pub mie_energy_is : (s : SaftVRMiePars) (a : Ans Float) (own : List Float) → Mie.saft_vr_mie_pars l ≡ held s → own ≡ own_diameters s.count → a ≡ mie_energy s t x rho own chain → a ≡ mie_stage l t x rho chain
   unfolding mie_stage ◌>>=◌
   mie_energy_is s a own p q r = rw (p, ← q) r
 
@@ -65,8 +65,8 @@ pub first_part : {X : Type 0} (n : ℕ) (l : List X) → take (n - 0) (drop 0 l)
 first_part n l = let d : n - 0 ≡ n = omega arith in rw d
 
 -- a set that is held has a count within the limit
-pub mie_count : (l : Mie.Lists) (s : SaftVRMiePars) → Mie.saft_vRMie_pars l ≡ held s → s.count ≤ side
-unfolding Mie.saft_vRMie_pars
+pub mie_count : (l : Mie.Lists) (s : SaftVRMiePars) → Mie.saft_vr_mie_pars l ≡ held s → s.count ≤ side
+unfolding Mie.saft_vr_mie_pars
 mie_count l s p =
     let a = then_held (demand 1 (Mie.right_lengths l)) _ s p in
     let b = then_held (demand 2 (MieLaws.Within l)) _ s a.2 in

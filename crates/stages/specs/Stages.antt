@@ -14,7 +14,7 @@ use Rattle.saftvrmie_energies.specs.Energies.{energy}
 -- parameters (1 to 6), a table of its own (2, 6, 7), energies (1, 2, 6, 7)
 unfoldable pub quantum_stage : Quantum.Lists → Float → List Float → List Float → Bool → Ans (EnergiesIn Float)
 quantum_stage l t x rho wanted =
-    Quantum.saft_vRQMie_pars l >>= λ s.
+    Quantum.saft_vrq_mie_pars l >>= λ s.
     temperature_table s t blank >>= λ w.
     energies s t x rho w.values wanted
 
@@ -28,4 +28,4 @@ mie_energy s t x rho own chain = diameters s.count s.sheets t own >>= λ d. ener
 
 -- parameters (1, 2, 6), then these
 unfoldable pub mie_stage : Mie.Lists → Float → List Float → List Float → Bool → Ans Float
-mie_stage l t x rho chain = Mie.saft_vRMie_pars l >>= λ s. mie_energy s t x rho (own_diameters s.count) chain
+mie_stage l t x rho chain = Mie.saft_vr_mie_pars l >>= λ s. mie_energy s t x rho (own_diameters s.count) chain

@@ -1,8 +1,8 @@
 -- `saftvrmie_diameter::beta_u_mie` meets its contract. Assumes nothing.
-use Rattle.saftvrmie_diameter.specs.Staged.{beta_uAt}
+use Rattle.saftvrmie_diameter.specs.Staged.{beta_u_at}
 use borrow.Author.Rules.{rules}
 use Rattle.saftvrmie_diameter.proofs.beta_u_mie.Goals as goal
 
 pub returns : goal.returns
-unfolding beta_uAt
+unfolding beta_u_at
 returns c = rw (c.raise-2.ensures, c.raise.ensures)

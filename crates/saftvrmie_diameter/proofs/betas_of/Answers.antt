@@ -5,7 +5,7 @@ use Prim.Native.Nat.{◌≤◌, ◌-◌}
 use Rattle.number.specs.Walk.{turns}
 use lib.ListN.{get_or, set, replicate}
 use Rattle.number.specs.Arith.{zero64}
-use Rattle.saftvrmie_diameter.specs.Staged.{beta_uAt, beyond, betas_of}
+use Rattle.saftvrmie_diameter.specs.Staged.{beta_u_at, beyond, betas_of}
 use borrow.Author.Rules.{rules}
 use Rattle.saftvrmie_diameter.proofs.betas_of.Goals as goal
 

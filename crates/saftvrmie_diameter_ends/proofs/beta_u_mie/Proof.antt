@@ -1,5 +1,5 @@
 -- `saftvrmie_diameter_ends::beta_u_mie` meets its contract. Assumes nothing.
-use Rattle.saftvrmie_diameter.specs.Diameter.{beta_uMie}
+use Rattle.saftvrmie_diameter.specs.Diameter.{beta_u_mie}
 use Rattle.enclosure.specs.Answer.{answer}
 use Rattle.number.proofs.Walk.{via}
 use Rattle.number.specs.Ans.{◌>>=◌}
@@ -28,7 +28,7 @@ enum_told : tie.Need-enum-told
 enum_told c = search rules
 
 returns : tie.Need-returns
-unfolding beta_uMie ◌>>=◌ decimal of_bits neg
+unfolding beta_u_mie ◌>>=◌ decimal of_bits neg
 returns c =
     rw (
       ← c.before.before.before.before.before.point.ensures,
@@ -47,7 +47,7 @@ enum-told-2 : tie.Need-enum-told-2
 enum-told-2 c = search rules
 
 returns-2 : tie.Need-returns-2
-unfolding beta_uMie ◌>>=◌ decimal of_bits neg
+unfolding beta_u_mie ◌>>=◌ decimal of_bits neg
 returns-2 c =
     rw (
       ← c.before.before.before.before.before.before.before.before.before.point.ensures,
@@ -64,7 +64,7 @@ mul-requires-2 : tie.Need-mul-requires-2
 mul-requires-2 c κs = search rules
 
 returns-3 : tie.Need-returns-3
-unfolding beta_uMie ◌>>=◌ decimal of_bits neg
+unfolding beta_u_mie ◌>>=◌ decimal of_bits neg
 returns-3 c =
     rw (
       ← c.before.before.before.before.before.before.before.before.before.before.before.before.point.ensures,

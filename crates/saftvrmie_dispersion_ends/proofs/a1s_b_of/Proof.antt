@@ -1,5 +1,5 @@
 -- `saftvrmie_dispersion_ends::a1s_b_of` meets its contract. Assumes nothing.
-use Rattle.saftvrmie_dispersion_ends.specs.Shared.{a1s_bBy}
+use Rattle.saftvrmie_dispersion_ends.specs.Shared.{a1s_b_by}
 use borrow.Author.Rules.{rules}
 use Rattle.saftvrmie_dispersion_ends.proofs.a1s_b_of.Statement.{statement}
 use Rattle.saftvrmie_dispersion_ends.proofs.a1s_b_of.Tie as tie
@@ -23,7 +23,7 @@ mul-requires : tie.Need-mul-requires
 mul-requires c κs = search rules
 
 returns : tie.Need-returns
-unfolding a1s_bBy
+unfolding a1s_b_by
 returns c =
     rw (
       c.mul.ensures,

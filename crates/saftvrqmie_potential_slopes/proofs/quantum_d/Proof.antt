@@ -1,5 +1,5 @@
 -- `saftvrqmie_potential_slopes::quantum_d` meets its contract. Assumes nothing.
-use Rattle.saftvrqmie_potential_slopes.specs.Potential.{quantum_dSlope}
+use Rattle.saftvrqmie_potential_slopes.specs.Potential.{quantum_d_slope}
 use Rattle.saftvrqmie_potential.specs.Potential.{quantum_d}
 use Rattle.saftvrqmie_potential_slopes.proofs.Staged.{prefactor_plain}
 use lib.Ieee.{of_bits}
@@ -18,7 +18,7 @@ times-requires : tie.Need-times-requires
 times-requires c κs = search rules
 
 returns : tie.Need-returns
-unfolding quantum_dSlope quantum_d decimal of_bits
+unfolding quantum_d_slope quantum_d decimal of_bits
 returns c = rw (c.times.ensures, c.before.over.ensures, c.before.before.recip.ensures, prefactor_plain)
 
 pub quantum_d_spec : {M : Type 1} → statement M

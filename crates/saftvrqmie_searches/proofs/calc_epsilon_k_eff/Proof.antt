@@ -1,6 +1,6 @@
 -- `saftvrqmie_searches::calc_epsilon_k_eff` meets its contract. Assumes nothing.
 use Rattle.saftvrqmie_searches.proofs.Loops.{depth_none}
-use Rattle.saftvrqmie_searches.specs.Searches.{epsilon_kEff}
+use Rattle.saftvrqmie_searches.specs.Searches.{epsilon_k_eff}
 use lib.Ieee.{of_bits}
 use Rattle.number.specs.Arith.{decimal}
 use Rattle.saftvrqmie_potential.proofs.Staged.{shared_held, shared_refused}
@@ -20,14 +20,14 @@ enum_told : tie.Need-enum-told
 enum_told c = search rules
 
 returns : tie.Need-returns
-unfolding epsilon_kEff
+unfolding epsilon_k_eff
 returns c = rw (shared_refused _ _ (via shared_answer c.before.before.share.ensures c.enum_told.given.1)) (depth_none _ _)
 
 depth-search-requires : tie.Need-depth-search-requires
 depth-search-requires c κs = search rules
 
 returns-2 : tie.Need-returns-2
-unfolding epsilon_kEff decimal of_bits
+unfolding epsilon_k_eff decimal of_bits
 returns-2 c = rw (shared_held _ _ (via shared_answer c.before.before.before.before.before.share.ensures c.before.before.before.w.given.1)) c.depth-search.ensures
 
 pub calc_epsilon_k_eff_spec : {M : Type 1} → statement M

@@ -1,5 +1,5 @@
 -- `saftvrmie_chain_ends::chain::ln_g_mie` meets its contract. Assumes nothing.
-use Rattle.saftvrmie_dispersion.specs.Chain.{ln_gMie}
+use Rattle.saftvrmie_dispersion.specs.Chain.{ln_g_mie}
 use Rattle.enclosure.specs.Answer.{answer}
 use Rattle.number.specs.Ans.{◌>>=◌}
 use Rattle.number.proofs.Walk.{via}
@@ -17,7 +17,7 @@ enum_told : tie.Need-enum-told
 enum_told c = search rules
 
 returns : tie.Need-returns
-unfolding ln_gMie ◌>>=◌
+unfolding ln_g_mie ◌>>=◌
 returns c =
     rw
     (via answer c.before.before.ln.ensures c.enum_told.given.1)
@@ -41,7 +41,7 @@ add-requires-2 : tie.Need-add-requires-2
 add-requires-2 c κs = search rules
 
 returns-2 : tie.Need-returns-2
-unfolding ln_gMie ◌>>=◌
+unfolding ln_g_mie ◌>>=◌
 returns-2 c =
     rw (
       via answer c.before.before.before.before.before.before.before.before.before.ln.ensures c.before.before.before.before.before.before.before.l.given.1,

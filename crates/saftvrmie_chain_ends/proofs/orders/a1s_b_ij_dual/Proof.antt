@@ -7,7 +7,7 @@ use Rattle.enclosure.specs.Enclosure.{enclosures}
 use Rattle.dual.specs.Dual.{duals, plain_d}
 use mathlib.Core.Path.{ap}
 use Rattle.number.specs.Ans.{held, ◌>>=◌}
-use Rattle.saftvrmie_dispersion_ends.specs.Shared.{a1s_bBy}
+use Rattle.saftvrmie_dispersion_ends.specs.Shared.{a1s_b_by}
 use Rattle.saftvrmie_chain_ends.proofs.Sums.{plain_times_sum}
 use Rattle.number.proofs.Walk.{via}
 use Rattle.enclosure.specs.Answer.{answer}
@@ -100,7 +100,7 @@ add-requires-3 : tie.Need-add-requires-3
 add-requires-3 c κs = search rules
 
 returns-4 : tie.Need-returns-4
-unfolding a1s_b a1s_bBy b_of ◌>>=◌ decimal of_bits
+unfolding a1s_b a1s_b_by b_of ◌>>=◌ decimal of_bits
 returns-4 c = rw (← c.before.before.before.before.before.before.before.before.before.before.before.before.before.before.before.before.before.before.before.before.before.before.before.before.before.before.point.ensures, ← c.before.before.before.before.before.before.before.before.before.before.before.before.before.before.before.before.before.before.before.before.before.before.before.before.before.sub.ensures, ← c.before.before.before.before.before.before.before.before.before.before.before.before.before.before.before.before.before.before.before.before.before.before.before.before.point2.ensures, ← c.before.before.before.before.before.before.before.before.before.before.before.before.before.before.before.before.before.before.before.before.before.before.before.sub2.ensures, via answer c.before.before.before.before.before.before.before.before.before.before.before.before.before.before.before.before.before.before.before.before.before.before.power_of.ensures c.before.before.before.before.before.before.before.before.before.before.before.before.before.before.before.before.before.before.before.before.p.given.1, via answer c.before.before.before.before.before.before.before.before.before.before.before.before.before.before.before.before.before.before.power-of2.ensures c.before.before.before.before.before.before.before.before.before.before.before.before.before.before.before.before.p3.given.1, via answer c.before.before.before.before.before.before.before.before.before.before.before.before.before.before.power-of3.ensures c.before.before.before.before.before.before.before.before.before.before.before.before.p4.given.1, a1s_b_is (duals enclosures) (plain_d enclosures), ← c.before.before.before.before.before.before.before.before.before.before.lambda-of.ensures, ← c.before.before.before.before.before.before.before.before.before.times-i.ensures, ← c.before.before.before.before.before.before.before.before.times-j.ensures, ← c.before.before.before.before.before.before.before.b-dual.ensures, ← c.before.before.before.before.before.before.a1s-ij-dual.ensures) (ap (λ x. held x) (plain_times_sum _ _ _ c.before.before.before.before.before.add.ensures c.before.before.before.before.add2.ensures c.before.before.before.mul.ensures c.before.before.mul2.ensures c.before.zero_times.ensures c.add3.ensures))
 
 pub a1s_b_ij_dual_spec : {M : Type 1} → statement M

@@ -1,8 +1,8 @@
 -- `saftvrmie_dispersion::slopes::a1s_b_ij_dual` meets its contract. Assumes nothing.
 use lib.Ieee.{of_bits}
 use Rattle.number.specs.Arith.{decimal}
-use Rattle.saftvrmie_dispersion.specs.Staged.{a1s_bAt}
-use Rattle.saftvrmie_dispersion.specs.Sutherland.{a1s_bOf}
+use Rattle.saftvrmie_dispersion.specs.Staged.{a1s_b_at}
+use Rattle.saftvrmie_dispersion.specs.Sutherland.{a1s_b_of}
 use borrow.Author.Rules.{rules}
 use Rattle.saftvrmie_dispersion.proofs.slopes.a1s_b_ij_dual.Statement.{statement}
 use Rattle.saftvrmie_dispersion.proofs.slopes.a1s_b_ij_dual.Tie as tie
@@ -53,7 +53,7 @@ mul-requires : tie.Need-mul-requires
 mul-requires c κs = search rules
 
 returns : tie.Need-returns
-unfolding a1s_bAt a1s_bOf decimal of_bits
+unfolding a1s_b_at a1s_b_of decimal of_bits
 returns c = rw (
   c.mul.ensures,
   c.before.add.ensures,

@@ -1,8 +1,8 @@
 -- `saftvrmie_dispersion::sutherland::a1s_b_ij` meets its contract. Assumes nothing.
 use lib.Ieee.{of_bits}
 use Rattle.number.specs.Arith.{decimal}
-use Rattle.saftvrmie_dispersion.specs.Staged.{a1s_bAt}
-use Rattle.saftvrmie_dispersion.specs.Sutherland.{a1s_bOf}
+use Rattle.saftvrmie_dispersion.specs.Staged.{a1s_b_at}
+use Rattle.saftvrmie_dispersion.specs.Sutherland.{a1s_b_of}
 use borrow.Author.Rules.{rules}
 use Rattle.saftvrmie_dispersion.proofs.sutherland.a1s_b_ij.Statement.{statement}
 use Rattle.saftvrmie_dispersion.proofs.sutherland.a1s_b_ij.Tie as tie
@@ -38,7 +38,7 @@ b-of-requires : tie.Need-b-of-requires
 b-of-requires c κs = search rules
 
 returns : tie.Need-returns
-unfolding a1s_bAt a1s_bOf decimal of_bits
+unfolding a1s_b_at a1s_b_of decimal of_bits
 returns c = rw (
   c.b-of.ensures,
   c.before.j-of.ensures,
