@@ -4,7 +4,7 @@
 ghost use Rattle.std.specs.Prelude.{◌≡◌, ◌+◌, ◌*◌, ◌-◌, ◌^◌, ◌<◌, ◌≤◌, length, get_or, drop};
 ghost use Rattle.bit_fields.specs.Bits.{bits_of};
 ghost use Rattle.card.specs.Fields.{read_plain, read_spared, read_field, read_fields};
-ghost use Rattle.card.specs.Card.{most_components, form_of, float, layout, value_count, read_card, field_answer, refusal_of, end_of, end_answer, end_refusal_of, reach_of, card_answer, card_refusal_of, known, filling};
+ghost use Rattle.card.specs.Card.{form_of, float, layout, value_count, read_card, field_answer, refusal_of, end_of, end_answer, end_refusal_of, reach_of, card_answer, card_refusal_of, known, filling};
 
 // The most components on a card: its own limit, whatever the side of a sheet.
 pub const MOST: usize = 8;
@@ -109,7 +109,7 @@ fn read_field(card: &[u8], at: usize, field: Field) -> FieldAnswer
 
 // Field k behind a heading.
 pub fn field_at(kind: usize, count: usize, newer: bool, k: usize) -> Field
-    requires { (count ≤ most_components) × (k < value_count kind count) }
+    requires { (count ≤ 12) × (k < value_count kind count) }
     ensures { (result ≡ get_or (layout (form_of newer) kind count) k float) × (0 < result.width) × (result.width ≤ 64) }
 {
     if kind == 0 {
