@@ -27,7 +27,7 @@ most_components = 12
 
 -- Slip 11: 'model 2 for quantum and 3 for VR Mie', 'before each of a pair's two values one bit'
 abbrev pub newer_form : Form
-newer_form = record { first = 2; most = most_components; spared = true }
+newer_form = record { first = 2; most = 12; spared = true }
 
 abbrev pub form_of : Bool → Form
 form_of newer = cond newer newer_form older

@@ -4,7 +4,7 @@
 ghost use Rattle.std.specs.Prelude.{◌≡◌, ◌+◌, ◌*◌, ◌-◌, ◌^◌, ◌<◌, ◌≤◌, length, get_or, drop};
 ghost use Rattle.bit_fields.specs.Bits.{bits_of};
 ghost use Rattle.card.specs.Fields.{read_plain, read_spared, read_field, read_fields};
-ghost use Rattle.card.specs.Card.{most_components, most_values, form_of, float, layout, value_count, read_card, field_answer, refusal_of, end_of, end_answer, end_refusal_of, reach_of, card_answer, card_refusal_of, known, filling};
+ghost use Rattle.card.specs.Card.{form_of, float, layout, value_count, read_card, field_answer, refusal_of, end_of, end_answer, end_refusal_of, reach_of, card_answer, card_refusal_of, known, filling};
 
 // The most components on a card: its own limit, whatever the side of a sheet.
 pub const MOST: usize = 8;
@@ -109,7 +109,7 @@ fn read_field(card: &[u8], at: usize, field: Field) -> FieldAnswer
 
 // Field k behind a heading.
 pub fn field_at(kind: usize, count: usize, newer: bool, k: usize) -> Field
-    requires { (count ≤ most_components) × (k < value_count kind count) }
+    requires { (count ≤ 12) × (k < value_count kind count) }
     ensures { (result ≡ get_or (layout (form_of newer) kind count) k float) × (0 < result.width) × (result.width ≤ 64) }
 {
     if kind == 0 {
@@ -141,7 +141,7 @@ pub fn field_at(kind: usize, count: usize, newer: bool, k: usize) -> Field
 
 // How many numbers a card has behind its heading, of a count within the limits.
 pub fn value_count(kind: usize, count: usize) -> usize
-    requires { (1 ≤ count) × (count ≤ most_components) }
+    requires { (1 ≤ count) × (count ≤ 12) }
     ensures { result ≡ value_count kind count }
 {
     if kind == 0 {
@@ -159,10 +159,10 @@ fn read_values(
     newer: bool,
     values: &mut [u64],
 ) -> EndAnswer
-    requires { (at ≤ 6) × (1 ≤ count) × (count ≤ most_components) × (length values.old ≡ most_values) }
+    requires { (at ≤ 6) × (1 ≤ count) × (count ≤ 12) × (length values.old ≡ 204) }
     ensures { let l = card.now in
         (end_answer l (value_count kind count) values.new result ≡ read_fields (layout (form_of newer) kind count) (drop at (bits_of l)))
-        × (reach_of result < 2 ^ 16) × (length values.new ≡ most_values) }
+        × (reach_of result < 2 ^ 16) × (length values.new ≡ 204) }
 {
     let total = value_count(kind, count);
     let mut end = at;
@@ -224,8 +224,8 @@ fn kind_of(newer: bool, model: u64) -> usize
 
 // A card's heading, its numbers in a list that is lent; of a card that is refused the list holds what was read before.
 pub fn read(card: &[u8], newer: bool, values: &mut [u64]) -> CardAnswer
-    requires { length values.old ≡ most_values }
-    ensures { (card_answer values.new result ≡ read_card (form_of newer) card.now) × (length values.new ≡ most_values) }
+    requires { length values.old ≡ 204 }
+    ensures { (card_answer values.new result ≡ read_card (form_of newer) card.now) × (length values.new ≡ 204) }
 {
     let FieldAnswer::Value(model) = plain(card, 0, 2) else {
         return CardAnswer::Refused(9);

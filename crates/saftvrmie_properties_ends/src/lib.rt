@@ -312,7 +312,7 @@ fn zeta_bar_sum(n: usize, xs: [Enclosure; SIDE], sheets: &[f64; SHEETS]) -> Encl
 // d_ij and d3_ij of the pairs (i, j) with j < i: worked, and nothing uses them.
 fn after_row(d: &[f64], i: usize, start: Enclosure) -> Enclosure
     requires { (i ≤ side) × (i < length d.now) }
-    ensures* { λ r. ⌜ r ≡ turns i (λ j r. after_e (d3_ij enclosures (points d.now) i j) r) start ⌝ }
+    ensures { result ≡ turns i (λ j r. after_e (d3_ij enclosures (points d.now) i j) r) start }
 {
     let mut s = start;
     for j in 0usize..i {

@@ -6,7 +6,7 @@ ghost use Rattle.number.specs.Arith.{floats};
 ghost use Rattle.elementary.specs.Port.{port};
 ghost use Rattle.dual.specs.Dual.{pow_d};
 ghost use Rattle.dual.specs.Value.{dual_of};
-ghost use Rattle.slopes.specs.Mixed.{plain, mixed_one};
+ghost use Rattle.slopes.specs.Mixed.{plain, mixed};
 ghost use Rattle.slopes.specs.Rules.{mixed_functions};
 ghost use Rattle.saftvrqmie_potential_slopes.specs.Potential.{mixed_pair};
 ghost use Rattle.saftvrqmie_dispersion_terms_slopes.specs.Staged.{mixed_of, sloped_answer};
@@ -52,26 +52,26 @@ fn eighth(x: Dual) -> Dual
 }
 
 fn alpha_mie(la: f64, lr: f64, ra: Dual, rr: Dual) -> Dual
-    ensures { mixed_of result ≡ alpha_mie mixed_one (plain la) (plain lr) (mixed_of ra) (mixed_of rr) }
+    ensures { mixed_of result ≡ alpha_mie mixed (plain la) (plain lr) (mixed_of ra) (mixed_of rr) }
 {
     dual::sub(slopes::over(ra, la - 3.0), slopes::over(rr, lr - 3.0))
 }
 
 fn alpha_q1(l: f64, s: Dual, r: Dual) -> Dual
-    ensures { mixed_of result ≡ alpha_q1 mixed_one (plain l) (mixed_of s) (mixed_of r) }
+    ensures { mixed_of result ≡ alpha_q1 mixed (plain l) (mixed_of s) (mixed_of r) }
 {
     slopes::times(dual::mul(r, square(s)), l)
 }
 
 fn alpha_q2(l: f64, s: Dual, r: Dual) -> Dual
-    ensures { mixed_of result ≡ alpha_q2 mixed_one (plain l) (mixed_of s) (mixed_of r) }
+    ensures { mixed_of result ≡ alpha_q2 mixed (plain l) (mixed_of s) (mixed_of r) }
 {
     let a = slopes::times(dual::mul(r, fourth(s)), l + 2.0);
     slopes::times(slopes::times(slopes::times(a, l), l - 1.0), 0.5)
 }
 
 fn dmt_of(p: Pair, temperature: Dual) -> Dual
-    ensures { mixed_of result ≡ dmt_of mixed_one (mixed_functions port) (mixed_pair p (dual_of temperature)) }
+    ensures { mixed_of result ≡ dmt_of mixed (mixed_functions port) (mixed_pair p (dual_of temperature)) }
 {
     let d = saftvrqmie_potential_slopes::quantum_d(p.mass, temperature);
     slopes::over(d, 1.0 * (p.sigma * p.sigma))
@@ -79,7 +79,7 @@ fn dmt_of(p: Pair, temperature: Dual) -> Dual
 
 // Alpha before its last factor.
 fn alpha_of(p: Pair, temperature: Dual, dmt: Dual, s: Dual, ra: Dual, rr: Dual) -> Dual
-    ensures { mixed_of result ≡ alpha_of mixed_one (mixed_pair p (dual_of temperature)) (mixed_of dmt) (mixed_of s) (mixed_of ra) (mixed_of rr) }
+    ensures { mixed_of result ≡ alpha_of mixed (mixed_pair p (dual_of temperature)) (mixed_of dmt) (mixed_of s) (mixed_of ra) (mixed_of rr) }
 {
     let order = p.order;
     let v = alpha_mie(p.la, p.lr, ra, rr);
@@ -97,7 +97,7 @@ fn alpha_of(p: Pair, temperature: Dual, dmt: Dual, s: Dual, ra: Dual, rr: Dual) 
 
 // Alpha of a pair, at its effective diameter and depth. The pair's own temperature is not read.
 pub fn alpha_ij(p: Pair, temperature: Dual, sigma_eff: Dual, epsilon_k_eff: Dual) -> DualAnswer
-    ensures { sloped_answer result ≡ alpha mixed_one (mixed_functions port) (mixed_pair p (dual_of temperature)) (mixed_of sigma_eff) (mixed_of epsilon_k_eff) }
+    ensures { sloped_answer result ≡ alpha mixed (mixed_functions port) (mixed_pair p (dual_of temperature)) (mixed_of sigma_eff) (mixed_of epsilon_k_eff) }
 {
     let s = dual::div(dual::plain(1.0 * p.sigma), sigma_eff);
     if !binary_log::base_inside(s.re) {
@@ -117,7 +117,7 @@ pub fn alpha_ij(p: Pair, temperature: Dual, sigma_eff: Dual, epsilon_k_eff: Dual
 
 // `f` of a row of PHI.
 fn f(phi: [f64; 7], a: Dual) -> Dual
-    ensures { mixed_of result ≡ f mixed_one phi (mixed_of a) }
+    ensures { mixed_of result ≡ f mixed phi (mixed_of a) }
 {
     let a2 = square(a);
     let a3 = cube(a);
@@ -129,7 +129,7 @@ fn f(phi: [f64; 7], a: Dual) -> Dual
 }
 
 pub fn chi(a: Dual, zeta_bar: Dual) -> Dual
-    ensures { mixed_of result ≡ chi mixed_one (mixed_of a) (mixed_of zeta_bar) }
+    ensures { mixed_of result ≡ chi mixed (mixed_of a) (mixed_of zeta_bar) }
 {
     let f0 = f(PHI[0], a);
     let f1 = f(PHI[1], a);
@@ -139,7 +139,7 @@ pub fn chi(a: Dual, zeta_bar: Dual) -> Dual
 }
 
 pub fn third_order_perturbation_ij(epsilon_k_eff: Dual, a: Dual, zeta_bar: Dual) -> DualAnswer
-    ensures { sloped_answer result ≡ third_order_ij mixed_one (mixed_functions port) (mixed_of epsilon_k_eff) (mixed_of a) (mixed_of zeta_bar) }
+    ensures { sloped_answer result ≡ third_order_ij mixed (mixed_functions port) (mixed_of epsilon_k_eff) (mixed_of a) (mixed_of zeta_bar) }
 {
     let f3 = f(PHI[3], a);
     let f4 = f(PHI[4], a);
@@ -154,7 +154,7 @@ pub fn third_order_perturbation_ij(epsilon_k_eff: Dual, a: Dual, zeta_bar: Dual)
 
 // The isothermal hard sphere compressibility factor of the second order.
 pub fn k(zeta: Dual) -> Dual
-    ensures { mixed_of result ≡ k_factor mixed_one (mixed_of zeta) }
+    ensures { mixed_of result ≡ k_factor mixed (mixed_of zeta) }
 {
     let top = fourth(slopes::plus(dual::neg(zeta), 1.0));
     let two = dual::add(slopes::times(zeta, 4.0), slopes::times(square(zeta), 4.0));

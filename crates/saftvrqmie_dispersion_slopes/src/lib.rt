@@ -4,7 +4,7 @@
 ghost use Rattle.std.specs.Prelude.{◌≡◌, ◌+◌, ◌*◌};
 ghost use Rattle.elementary.specs.Port.{port};
 ghost use Rattle.dual.specs.Value.{dual_of};
-ghost use Rattle.slopes.specs.Mixed.{plain, mixed_one};
+ghost use Rattle.slopes.specs.Mixed.{plain, mixed};
 ghost use Rattle.slopes.specs.Rules.{mixed_functions};
 ghost use Rattle.saftvrqmie_potential.specs.Potential.{order_number};
 ghost use Rattle.saftvrqmie_potential_slopes.specs.Potential.{mixed_pair};
@@ -60,7 +60,7 @@ pub fn dispersion_pair(
     dq: Dual,
     zeta: Dual,
 ) -> DualDispersionPair
-    ensures { dispersion_in result ≡ dispersion_pair mixed_one (mixed_pair p (dual_of temperature)) (mixed_of d_hs) (mixed_of s_eff) (mixed_of dq) (mixed_of zeta) }
+    ensures { dispersion_in result ≡ dispersion_pair mixed (mixed_pair p (dual_of temperature)) (mixed_of d_hs) (mixed_of s_eff) (mixed_of dq) (mixed_of zeta) }
 {
     let order = p.order;
     DualDispersionPair {
@@ -77,19 +77,19 @@ pub fn dispersion_pair(
 }
 
 fn quantum_1(dq: Dual, l: f64) -> Dual
-    ensures { mixed_of result ≡ quantum1 mixed_one (mixed_of dq) (plain l) }
+    ensures { mixed_of result ≡ quantum1 mixed (mixed_of dq) (plain l) }
 {
     slopes::times(dq, saftvrqmie_potential::q1_of(l))
 }
 
 fn quantum_2(dq: Dual, l: f64) -> Dual
-    ensures { mixed_of result ≡ quantum2 mixed_one (mixed_of dq) (plain l) }
+    ensures { mixed_of result ≡ quantum2 mixed (mixed_of dq) (plain l) }
 {
     slopes::times(square(dq), saftvrqmie_potential::q2_of(l))
 }
 
 fn quantum_of(p: DualDispersionPair) -> DualQuantum
-    ensures { quantum_in result ≡ quantum_of mixed_one (dispersion_in p) }
+    ensures { quantum_in result ≡ quantum_of mixed (dispersion_in p) }
 {
     let dq = p.dq_div_sigma_2;
     DualQuantum {
@@ -101,7 +101,7 @@ fn quantum_of(p: DualDispersionPair) -> DualQuantum
 }
 
 fn first_mie(p: DualDispersionPair, w: PairSlopes) -> DualAnswer
-    ensures { sloped_answer result ≡ first_mie mixed_one (dispersion_in p) (combine_at w) }
+    ensures { sloped_answer result ≡ first_mie mixed (dispersion_in p) (combine_at w) }
 {
     let DualAnswer::Value(int_a) = combine_at(w, p.la) else {
         return DualAnswer::Outside;
@@ -113,7 +113,7 @@ fn first_mie(p: DualDispersionPair, w: PairSlopes) -> DualAnswer
 }
 
 fn first_q1(p: DualDispersionPair, w: PairSlopes, v: Dual) -> DualAnswer
-    ensures { sloped_answer result ≡ first_q1 mixed_one (dispersion_in p) (combine_at w) (mixed_of v) }
+    ensures { sloped_answer result ≡ first_q1 mixed (dispersion_in p) (combine_at w) (mixed_of v) }
 {
     let DualAnswer::Value(int_qa) = combine_at(w, p.la + 2.0) else {
         return DualAnswer::Outside;
@@ -128,7 +128,7 @@ fn first_q1(p: DualDispersionPair, w: PairSlopes, v: Dual) -> DualAnswer
 }
 
 fn first_q2(p: DualDispersionPair, w: PairSlopes, v: Dual) -> DualAnswer
-    ensures { sloped_answer result ≡ first_q2 mixed_one (dispersion_in p) (combine_at w) (mixed_of v) }
+    ensures { sloped_answer result ≡ first_q2 mixed (dispersion_in p) (combine_at w) (mixed_of v) }
 {
     let DualAnswer::Value(int_qa) = combine_at(w, p.la + 4.0) else {
         return DualAnswer::Outside;
@@ -143,7 +143,7 @@ fn first_q2(p: DualDispersionPair, w: PairSlopes, v: Dual) -> DualAnswer
 }
 
 fn first_order_at(p: DualDispersionPair, w: PairSlopes) -> DualAnswer
-    ensures { sloped_answer result ≡ first_order_by mixed_one (dispersion_in p) (combine_at w) }
+    ensures { sloped_answer result ≡ first_order_by mixed (dispersion_in p) (combine_at w) }
 {
     let order = p.order;
     let DualAnswer::Value(v) = first_mie(p, w) else {
@@ -165,7 +165,7 @@ fn first_order_at(p: DualDispersionPair, w: PairSlopes) -> DualAnswer
 }
 
 pub fn first_order_perturbation_ij(p: DualDispersionPair) -> DualAnswer
-    ensures { sloped_answer result ≡ first_order_ij mixed_one (mixed_functions port) (dispersion_in p) }
+    ensures { sloped_answer result ≡ first_order_ij mixed (mixed_functions port) (dispersion_in p) }
 {
     let zeta = p.zeta;
     let x0 = p.x0;
@@ -177,17 +177,17 @@ pub fn first_order_perturbation_ij(p: DualDispersionPair) -> DualAnswer
 }
 
 fn factors_0() -> DualFactors
-    ensures { factors_in result ≡ as_factors (factors0 mixed_one) }
+    ensures { factors_in result ≡ as_factors (factors0 mixed) }
 {
     DualFactors {
         afac: dual::plain(1.0),
         rfac: dual::plain(1.0),
-        arfac: slopes::times(dual::neg(dual::plain(1.0)), 2.0),
+        arfac: dual::plain(-1.0 * 2.0),
     }
 }
 
 fn factors_1(g: DualQuantum) -> DualFactors
-    ensures { mixed_factors result ≡ factors1 mixed_one (quantum_in g) }
+    ensures { mixed_factors result ≡ factors1 mixed (quantum_in g) }
 {
     let rfac = slopes::times(g.qr1, 2.0);
     let afac = slopes::times(g.qa1, 2.0);
@@ -199,7 +199,7 @@ fn factors_1(g: DualQuantum) -> DualFactors
 }
 
 fn factors_2(g: DualQuantum) -> DualFactors
-    ensures { mixed_factors result ≡ factors2 mixed_one (quantum_in g) }
+    ensures { mixed_factors result ≡ factors2 mixed (quantum_in g) }
 {
     DualFactors {
         afac: dual::mul(g.qa1, g.qa1),
@@ -210,7 +210,7 @@ fn factors_2(g: DualQuantum) -> DualFactors
 
 // What order 2 adds to them.
 fn factors_2_more(g: DualQuantum, h: DualFactors) -> DualFactors
-    ensures { mixed_factors result ≡ factors2_more mixed_one (quantum_in g) (mixed_factors h) }
+    ensures { mixed_factors result ≡ factors2_more mixed (quantum_in g) (mixed_factors h) }
 {
     let both = dual::neg(dual::add(g.qr2, g.qa2));
     DualFactors {
@@ -221,7 +221,7 @@ fn factors_2_more(g: DualQuantum, h: DualFactors) -> DualFactors
 }
 
 fn factors_3(g: DualQuantum) -> DualFactors
-    ensures { mixed_factors result ≡ factors3 mixed_one (quantum_in g) }
+    ensures { mixed_factors result ≡ factors3 mixed (quantum_in g) }
 {
     let both = dual::add(dual::mul(g.qr2, g.qa1), dual::mul(g.qa2, g.qr1));
     DualFactors {
@@ -232,7 +232,7 @@ fn factors_3(g: DualQuantum) -> DualFactors
 }
 
 fn factors_4(g: DualQuantum) -> DualFactors
-    ensures { mixed_factors result ≡ factors4 mixed_one (quantum_in g) }
+    ensures { mixed_factors result ≡ factors4 mixed (quantum_in g) }
 {
     DualFactors {
         afac: dual::mul(g.qa2, g.qa2),
@@ -242,7 +242,7 @@ fn factors_4(g: DualQuantum) -> DualFactors
 }
 
 fn factors_of(g: DualQuantum, order: FeynmanHibbsOrder, q: u32) -> DualFactors
-    ensures { factors_in result ≡ as_factors (factors mixed_one (quantum_in g) order q) }
+    ensures { factors_in result ≡ as_factors (factors mixed (quantum_in g) order q) }
 {
     if q == 0 {
         return factors_0();
@@ -265,7 +265,7 @@ fn factors_of(g: DualQuantum, order: FeynmanHibbsOrder, q: u32) -> DualFactors
 
 // A turn reads the sum so far as a D.
 fn second_turn(p: DualDispersionPair, w: PairSlopes, g: DualQuantum, q: u32, a2: Dual) -> DualAnswer
-    ensures { FromAny (second_turn mixed_one (dispersion_in p) (combine_at w) (quantum_in g) q) (dual_of a2) (sloped_answer result) }
+    ensures { FromAny (second_turn mixed (dispersion_in p) (combine_at w) (quantum_in g) q) (dual_of a2) (sloped_answer result) }
 {
     let order = p.order;
     let shift = 2.0 * (q as f64);
@@ -295,7 +295,7 @@ fn turn_count(order: FeynmanHibbsOrder) -> u32
 }
 
 fn second_order_at(p: DualDispersionPair, w: PairSlopes) -> DualAnswer
-    ensures { sloped_answer result ≡ second_order_by mixed_one (dispersion_in p) (combine_at w) }
+    ensures { sloped_answer result ≡ second_order_by mixed (dispersion_in p) (combine_at w) }
 {
     let order = p.order;
     let g = quantum_of(p);
@@ -312,7 +312,7 @@ fn second_order_at(p: DualDispersionPair, w: PairSlopes) -> DualAnswer
 }
 
 pub fn second_order_perturbation_ij(p: DualDispersionPair) -> DualAnswer
-    ensures { sloped_answer result ≡ second_order_ij mixed_one (mixed_functions port) (dispersion_in p) }
+    ensures { sloped_answer result ≡ second_order_ij mixed (mixed_functions port) (dispersion_in p) }
 {
     let zeta = p.zeta;
     let x0 = p.x0;

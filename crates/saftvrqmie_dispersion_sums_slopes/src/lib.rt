@@ -15,16 +15,16 @@ ghost use Rattle.saftvrqmie_potential.specs.Potential.{recip};
 ghost use Rattle.saftvrqmie_dispersion.specs.Perturbation.{dispersion_pair};
 ghost use Rattle.saftvrqmie_energies.specs.State.{held_or6, points};
 ghost use Rattle.saftvrqmie_energies.specs.Dispersion.{inv_xs_sum, segment_fractions, lead, packing_row, packing, alpha_row, first_row, first, second_row, second, third_row, third, mixture, dispersion};
-ghost use Rattle.saftvrqmie_dispersion_terms_slopes.specs.Staged.{mixed_of, sloped_answer};
-ghost use Rattle.saftvrqmie_dispersion_slopes.specs.Values.{dispersion_in};
-ghost use Rattle.saftvrqmie_hard_sphere_slopes.specs.Parts.{duals_at, FirstPlaces, sloped_at, sloped_sheet};
+ghost use Rattle.saftvrqmie_dispersion_terms_slopes_one.specs.Staged.{mixed_of, sloped_answer};
+ghost use Rattle.saftvrqmie_dispersion_slopes_one.specs.Values.{dispersion_in};
+ghost use Rattle.saftvrqmie_hard_sphere_slopes_one.specs.Parts.{duals_at, FirstPlaces, sloped_at, sloped_sheet};
 ghost use Rattle.saftvrqmie_dispersion_sums_slopes.specs.State.{mixture_in, sloped_list, sloped_pair, sloped_sheets};
 
 use dual::Dual;
 use mie_parameters::FRAC_PI_6;
-use saftvrqmie_dispersion_slopes::DualDispersionPair;
-use saftvrqmie_dispersion_terms_slopes::{cube, square};
-use saftvrqmie_hard_sphere_slopes::{entry, segment_density};
+use saftvrqmie_dispersion_slopes_one::DualDispersionPair;
+use saftvrqmie_dispersion_terms_slopes_one::{cube, square};
+use saftvrqmie_hard_sphere_slopes_one::{entry, segment_density};
 use saftvrqmie_parameters::OrderRecord;
 use sizes::{SHEET, SHEETS, SIDE, TABLE};
 use slopes::DualAnswer;
@@ -175,7 +175,7 @@ fn alpha_row(
         let pair = saftvrqmie_potential::pair_at(sheets, orders, t.re, e);
         let s = table_entry(table, table_slopes, 0, e);
         let depth = table_entry(table, table_slopes, 2, e);
-        let DualAnswer::Value(a) = saftvrqmie_alpha_slopes::alpha_ij(pair, t, s, depth) else {
+        let DualAnswer::Value(a) = saftvrqmie_alpha_slopes_one::alpha_ij(pair, t, s, depth) else {
             return false;
         };
         alphas[e] = a.re;
@@ -238,7 +238,7 @@ fn perturbed_pair(
     let d = table_entry(table, table_slopes, 1, e);
     let s = table_entry(table, table_slopes, 0, e);
     let q = table_entry(table, table_slopes, 3, e);
-    saftvrqmie_dispersion_slopes::dispersion_pair(pair, t, d, s, q, w.zeta)
+    saftvrqmie_dispersion_slopes_one::dispersion_pair(pair, t, d, s, q, w.zeta)
 }
 
 // 1.0 on the diagonal, else 2.0.
@@ -279,8 +279,9 @@ fn first_row(
     for k in 0usize..n - i {
         let e = SIDE * i + (i + k);
         let pair = perturbed_pair(sheets, orders, t, table, table_slopes, w, e);
-        let DualAnswer::Value(v) = saftvrqmie_dispersion_slopes::first_order_perturbation_ij(pair)
-        else {
+        let DualAnswer::Value(v) = saftvrqmie_dispersion_slopes_one::first_order_perturbation_ij(
+            pair,
+        ) else {
             return DualAnswer::Outside;
         };
         let d = table_entry(table, table_slopes, 1, e);
@@ -355,14 +356,15 @@ fn second_row(
     for k in 0usize..n - i {
         let e = SIDE * i + (i + k);
         let pair = perturbed_pair(sheets, orders, t, table, table_slopes, w, e);
-        let DualAnswer::Value(v) = saftvrqmie_dispersion_slopes::second_order_perturbation_ij(pair)
-        else {
+        let DualAnswer::Value(v) = saftvrqmie_dispersion_slopes_one::second_order_perturbation_ij(
+            pair,
+        ) else {
             return DualAnswer::Outside;
         };
         let d = table_entry(table, table_slopes, 1, e);
         let f = lead(i, i + k, xs[i], xs[i + k], w.rho_s, d);
         let a = sheet_entry(alphas, alpha_slopes, e);
-        let chi = saftvrqmie_alpha_slopes::chi(a, w.zeta_bar);
+        let chi = saftvrqmie_alpha_slopes_one::chi(a, w.zeta_bar);
         a2 = second_added(a2, f, chi, v);
     }
     DualAnswer::Value(a2)
@@ -405,7 +407,7 @@ fn second(
         };
         a2 = next;
     }
-    let k = saftvrqmie_alpha_slopes::k(w.zeta);
+    let k = saftvrqmie_alpha_slopes_one::k(w.zeta);
     DualAnswer::Value(dual::mul(a2, k))
 }
 
@@ -430,7 +432,7 @@ fn third_row(
         let e = SIDE * i + j;
         let depth = table_entry(table, table_slopes, 2, e);
         let a = sheet_entry(alphas, alpha_slopes, e);
-        let DualAnswer::Value(v) = saftvrqmie_alpha_slopes::third_order_perturbation_ij(
+        let DualAnswer::Value(v) = saftvrqmie_alpha_slopes_one::third_order_perturbation_ij(
             depth, a, zeta_bar,
         ) else {
             return DualAnswer::Outside;

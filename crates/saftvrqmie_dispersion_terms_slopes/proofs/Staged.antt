@@ -12,7 +12,7 @@ use Rattle.binary_log.specs.BinaryLog.{log_of}
 use Rattle.dual.specs.Dual.{DualOf}
 use Rattle.dual.specs.Value.{dual_of}
 use Rattle.dual.specs.declared.Dual.{Dual}
-use Rattle.slopes.specs.Mixed.{Mixed, plain, sloped, as_dual, mixed_one}
+use Rattle.slopes.specs.Mixed.{Mixed, plain, sloped, as_dual, mixed}
 use Rattle.slopes.specs.Rules.{real_power, mixed_functions}
 use Rattle.slopes.specs.Staged.{slope_inside, slope_exponent_of, raised_of}
 use Rattle.slopes.proofs.Staged.{base_outside, power_tested}
@@ -32,18 +32,18 @@ pub struct_is : (x : Dual) (y : Mixed) → mixed_of x ≡ y → x ≡ struct_of 
 unfolding dual_of
 struct_is x y p = rw (← p)
 
-factor_i_sloped : (z : DualOf Float) → factor_i mixed_one (sloped z) ≡ sloped (as_dual (factor_i mixed_one (sloped z)))
+factor_i_sloped : (z : DualOf Float) → factor_i mixed (sloped z) ≡ sloped (as_dual (factor_i mixed (sloped z)))
 unfolding factor_i
 factor_i_sloped z = refl
 
-factor_j_sloped : (z : DualOf Float) → factor_j mixed_one (sloped z) ≡ sloped (as_dual (factor_j mixed_one (sloped z)))
+factor_j_sloped : (z : DualOf Float) → factor_j mixed (sloped z) ≡ sloped (as_dual (factor_j mixed (sloped z)))
 unfolding factor_j
 factor_j_sloped z = refl
 
-factor_i_back : (z : DualOf Float) → mixed_of (struct_of (as_dual (factor_i mixed_one (sloped z)))) ≡ factor_i mixed_one (sloped z)
+factor_i_back : (z : DualOf Float) → mixed_of (struct_of (as_dual (factor_i mixed (sloped z)))) ≡ factor_i mixed (sloped z)
 factor_i_back z = ap sloped (struct_back _) ∙ sym (factor_i_sloped z)
 
-factor_j_back : (z : DualOf Float) → mixed_of (struct_of (as_dual (factor_j mixed_one (sloped z)))) ≡ factor_j mixed_one (sloped z)
+factor_j_back : (z : DualOf Float) → mixed_of (struct_of (as_dual (factor_j mixed (sloped z)))) ≡ factor_j mixed (sloped z)
 factor_j_back z = ap sloped (struct_back _) ∙ sym (factor_j_sloped z)
 
 -- ---- a power in its stages
@@ -69,9 +69,9 @@ powers_of v q = powers (dual_of v) q
 
 module _ (e : Float) (z x y : Dual) where
   abbrev Formula : Mixed → Ans Mixed
-  Formula = combine_sutherland_and_b mixed_one F (plain e) (mixed_of z) (mixed_of x) (mixed_of y)
+  Formula = combine_sutherland_and_b mixed F (plain e) (mixed_of z) (mixed_of x) (mixed_of y)
 
-  same : (l : Mixed) (p q p' q' : Mixed → Ans Mixed) (i j i' j' : Mixed) → p ≡ p' → q ≡ q' → i ≡ i' → j ≡ j' → combine mixed_one l (plain e) (mixed_of z) i j p q ≡ combine mixed_one l (plain e) (mixed_of z) i' j' p' q'
+  same : (l : Mixed) (p q p' q' : Mixed → Ans Mixed) (i j i' j' : Mixed) → p ≡ p' → q ≡ q' → i ≡ i' → j ≡ j' → combine mixed l (plain e) (mixed_of z) i j p q ≡ combine mixed l (plain e) (mixed_of z) i' j' p' q'
   same l p q p' q' i j i' j' s t u v = rw (s, t, u, v)
 
   no_x0 : base_inside x.re ≡ false → (l : Mixed) → Formula l ≡ refused 6
@@ -98,10 +98,10 @@ module _ (e : Float) (z x y : Dual) where
   staged l = joined (base_inside x.re) (base_inside y.re) refl refl l
 
 -- ---- for the code: all exponents at once
-pub combine_held : (e : Float) (z x y : Dual) (w : PairSlopes) → pair_slopes_of e z x y ≡ held w → combine_sutherland_and_b mixed_one F (plain e) (mixed_of z) (mixed_of x) (mixed_of y) ≡ combine_at w
+pub combine_held : (e : Float) (z x y : Dual) (w : PairSlopes) → pair_slopes_of e z x y ≡ held w → combine_sutherland_and_b mixed F (plain e) (mixed_of z) (mixed_of x) (mixed_of y) ≡ combine_at w
 unfolding ◌>>=◌
 combine_held e z x y w h = fun_ext (λ l. staged e z x y l ∙ rw h)
 
-pub combine_refused : (e : Float) (z x y : Dual) (n : ℕ) → pair_slopes_of e z x y ≡ refused n → combine_sutherland_and_b mixed_one F (plain e) (mixed_of z) (mixed_of x) (mixed_of y) ≡ (λ l. refused n)
+pub combine_refused : (e : Float) (z x y : Dual) (n : ℕ) → pair_slopes_of e z x y ≡ refused n → combine_sutherland_and_b mixed F (plain e) (mixed_of z) (mixed_of x) (mixed_of y) ≡ (λ l. refused n)
 unfolding ◌>>=◌
 combine_refused e z x y n h = fun_ext (λ l. staged e z x y l ∙ rw h)

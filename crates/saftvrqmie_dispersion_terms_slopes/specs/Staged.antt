@@ -7,7 +7,7 @@ use Rattle.binary_log.specs.BinaryLog.{log_of}
 use Rattle.dual.specs.Dual.{DualOf}
 use Rattle.dual.specs.Value.{dual_of}
 use Rattle.dual.specs.declared.Dual.{Dual}
-use Rattle.slopes.specs.Mixed.{Mixed, plain, sloped, as_dual, mixed_one}
+use Rattle.slopes.specs.Mixed.{Mixed, plain, sloped, as_dual, mixed}
 use Rattle.slopes.specs.Staged.{slope_inside, slope_exponent_of, raised_of}
 use Rattle.slopes.specs.declared.DualAnswer.{DualAnswer}
 use Rattle.slopes.specs.Answer.{dual_answer}
@@ -46,8 +46,8 @@ pair_slopes_of epsilon_k zeta x0 x0_eff =
     (record {
       epsilon_k = epsilon_k;
       zeta = zeta;
-      factor_i = struct_of (as_dual (factor_i mixed_one (mixed_of zeta)));
-      factor_j = struct_of (as_dual (factor_j mixed_one (mixed_of zeta)));
+      factor_i = struct_of (as_dual (factor_i mixed (mixed_of zeta)));
+      factor_j = struct_of (as_dual (factor_j mixed (mixed_of zeta)));
       x0 = log_of x0.re;
       x0_slope = x0.eps;
       x0_eff = log_of x0_eff.re;
@@ -57,4 +57,4 @@ pair_slopes_of epsilon_k zeta x0 x0_eff =
 -- `combine_sutherland_and_b` at an exponent
 unfoldable pub combine_at : PairSlopes → Mixed → Ans Mixed
 combine_at w lambda =
-    combine mixed_one lambda (plain w.epsilon_k) (mixed_of w.zeta) (mixed_of w.factor_i) (mixed_of w.factor_j) (sloped_at w.x0 w.x0_slope) (sloped_at w.x0_eff w.x0_eff_slope)
+    combine mixed lambda (plain w.epsilon_k) (mixed_of w.zeta) (mixed_of w.factor_i) (mixed_of w.factor_j) (sloped_at w.x0 w.x0_slope) (sloped_at w.x0_eff w.x0_eff_slope)

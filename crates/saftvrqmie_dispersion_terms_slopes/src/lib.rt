@@ -7,7 +7,7 @@ ghost use Rattle.number.specs.Arith.{floats};
 ghost use Rattle.elementary.specs.Port.{port};
 ghost use Rattle.dual.specs.Dual.{pow_d};
 ghost use Rattle.dual.specs.Value.{dual_of};
-ghost use Rattle.slopes.specs.Mixed.{plain, mixed_one};
+ghost use Rattle.slopes.specs.Mixed.{plain, mixed};
 ghost use Rattle.slopes.specs.Rules.{mixed_functions};
 ghost use Rattle.saftvrqmie_dispersion_terms.specs.Terms.{lam_sum, eta_eff, sutherland_of, ilambda_of, jlambda_of, factor_i, factor_j, b_of, combine_sutherland_and_b};
 ghost use Rattle.saftvrqmie_dispersion_terms_slopes.specs.Staged.{mixed_of, sloped_answer, pair_slopes_answer, sloped_at, pair_slopes_of, combine_at};
@@ -63,7 +63,7 @@ fn lam_sum(c: [f64; 4], inv0: f64, inv1: f64, inv2: f64, inv3: f64) -> f64
 }
 
 fn eta_eff(lambda: f64, zeta: Dual) -> Dual
-    ensures { mixed_of result ≡ eta_eff mixed_one (plain lambda) (mixed_of zeta) }
+    ensures { mixed_of result ≡ eta_eff mixed (plain lambda) (mixed_of zeta) }
 {
     let inv0 = 1.0;
     let inv1 = 1.0 / lambda;
@@ -80,7 +80,7 @@ fn eta_eff(lambda: f64, zeta: Dual) -> Dual
 }
 
 fn sutherland_of(lambda: f64, epsilon_k: f64, ef: Dual, p: Dual) -> Dual
-    ensures { mixed_of result ≡ sutherland_of mixed_one (plain lambda) (plain epsilon_k) (mixed_of ef) (mixed_of p) }
+    ensures { mixed_of result ≡ sutherland_of mixed (plain lambda) (plain epsilon_k) (mixed_of ef) (mixed_of p) }
 {
     let minus = dual::neg(ef);
     let half = slopes::plus(slopes::times(minus, 0.5), 1.0);
@@ -90,13 +90,13 @@ fn sutherland_of(lambda: f64, epsilon_k: f64, ef: Dual, p: Dual) -> Dual
 }
 
 fn ilambda_of(lambda: f64, p3: Dual) -> Dual
-    ensures { mixed_of result ≡ ilambda_of mixed_one (plain lambda) (mixed_of p3) }
+    ensures { mixed_of result ≡ ilambda_of mixed (plain lambda) (mixed_of p3) }
 {
     slopes::over(dual::neg(slopes::minus(p3, 1.0)), lambda - 3.0)
 }
 
 fn jlambda_of(lambda: f64, p4: Dual, p3: Dual) -> Dual
-    ensures { mixed_of result ≡ jlambda_of mixed_one (plain lambda) (mixed_of p4) (mixed_of p3) }
+    ensures { mixed_of result ≡ jlambda_of mixed (plain lambda) (mixed_of p4) (mixed_of p3) }
 {
     let l3 = lambda - 3.0;
     let l4 = lambda - 4.0;
@@ -105,14 +105,14 @@ fn jlambda_of(lambda: f64, p4: Dual, p3: Dual) -> Dual
 }
 
 fn factor_i(zeta: Dual) -> Dual
-    ensures { mixed_of result ≡ factor_i mixed_one (mixed_of zeta) }
+    ensures { mixed_of result ≡ factor_i mixed (mixed_of zeta) }
 {
     let minus = dual::neg(zeta);
     dual::div(slopes::plus(minus, 2.0), cube(slopes::plus(minus, 1.0)))
 }
 
 fn factor_j(zeta: Dual) -> Dual
-    ensures { mixed_of result ≡ factor_j mixed_one (mixed_of zeta) }
+    ensures { mixed_of result ≡ factor_j mixed (mixed_of zeta) }
 {
     let minus = dual::neg(zeta);
     let top = dual::mul(slopes::times(minus, 9.0), slopes::plus(zeta, 1.0));
@@ -120,7 +120,7 @@ fn factor_j(zeta: Dual) -> Dual
 }
 
 fn b_of(epsilon_k: f64, fi: Dual, fj: Dual, i: Dual, j: Dual, p: Dual) -> Dual
-    ensures { mixed_of result ≡ b_of mixed_one (plain epsilon_k) (mixed_of fi) (mixed_of fj) (mixed_of i) (mixed_of j) (mixed_of p) }
+    ensures { mixed_of result ≡ b_of mixed (plain epsilon_k) (mixed_of fi) (mixed_of fj) (mixed_of i) (mixed_of j) (mixed_of p) }
 {
     let sum = dual::add(dual::mul(fi, i), dual::mul(fj, j));
     slopes::times(slopes::times(dual::mul(p, sum), 6.0), epsilon_k)
@@ -184,7 +184,7 @@ pub fn combine_sutherland_and_b(
     x0: Dual,
     x0_eff: Dual,
 ) -> DualAnswer
-    ensures { sloped_answer result ≡ combine_sutherland_and_b mixed_one (mixed_functions port) (plain epsilon_k) (mixed_of zeta) (mixed_of x0) (mixed_of x0_eff) (plain lambda) }
+    ensures { sloped_answer result ≡ combine_sutherland_and_b mixed (mixed_functions port) (plain epsilon_k) (mixed_of zeta) (mixed_of x0) (mixed_of x0_eff) (plain lambda) }
 {
     let PairSlopesAnswer::At(w) = terms_of(epsilon_k, zeta, x0, x0_eff) else {
         return DualAnswer::Outside;

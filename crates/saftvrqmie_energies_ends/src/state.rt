@@ -32,6 +32,13 @@ pub fn at_component(xs: [Enclosure; SIDE], i: usize) -> Enclosure
     xs[i]
 }
 
+pub fn at_pair(xs: [Enclosure; SHEET], e: usize) -> Enclosure
+    requires { e < sheet }
+    ensures { result ≡ nth enclosures xs e }
+{
+    xs[e]
+}
+
 pub fn segment_density(n: usize, rho: &[f64], m: &[f64; SIDE]) -> Enclosure
     requires { (n ≤ side) × (length rho.now ≡ n) }
     ensures { result ≡ weighted enclosures n (points enclosures rho.now) (points enclosures m.now) }

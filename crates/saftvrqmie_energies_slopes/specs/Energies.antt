@@ -10,7 +10,7 @@ use Rattle.slopes.specs.Rules.{mixed_functions}
 use Rattle.saftvrqmie_parameters.specs.declared.SaftVRQMiePars.{SaftVRQMiePars}
 use Rattle.saftvrqmie_energies.specs.State.{points}
 use Rattle.saftvrqmie_energies.specs.Energies.{EnergiesIn, contributions}
-use Rattle.saftvrqmie_hard_sphere_slopes.specs.Parts.{sloped_at}
+use Rattle.saftvrqmie_hard_sphere_slopes_one.specs.Parts.{sloped_at}
 use Rattle.saftvrqmie_dispersion_sums_slopes.specs.State.{sloped_sheets}
 use Rattle.saftvrqmie_energies_slopes.specs.declared.QuantumEnergiesSlopes.{QuantumEnergiesSlopes}
 use Rattle.saftvrqmie_energies_slopes.specs.declared.EnergiesSlopesAnswer.{EnergiesSlopesAnswer}

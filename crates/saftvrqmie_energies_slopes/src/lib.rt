@@ -58,7 +58,7 @@ pub fn energies_of(
         let run = energies_slope port set (dual_of temperature) x.now x_slopes.now rho.now rho_slopes.now in
         energies_slopes_answer result ≡ run table.now table_slopes.now non_additive }
 {
-    let DualAnswer::Value(h) = saftvrqmie_hard_sphere_slopes::hard_sphere(
+    let DualAnswer::Value(h) = saftvrqmie_hard_sphere_slopes_one::hard_sphere(
         n,
         x,
         x_slopes,
@@ -85,7 +85,7 @@ pub fn energies_of(
     ) else {
         return EnergiesSlopesAnswer::Refused(6);
     };
-    let a = saftvrqmie_hard_sphere_slopes::wanted_part(
+    let a = saftvrqmie_hard_sphere_slopes_one::wanted_part(
         n,
         rho,
         rho_slopes,

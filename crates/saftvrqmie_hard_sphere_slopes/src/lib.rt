@@ -7,7 +7,7 @@ ghost use Rattle.number.specs.Lists.{nth};
 ghost use Rattle.sizes.specs.Sizes.{side, sheet};
 ghost use Rattle.elementary.specs.Port.{port};
 ghost use Rattle.dual.specs.Value.{dual_of};
-ghost use Rattle.slopes.specs.Mixed.{plain, as_dual, mixed_one};
+ghost use Rattle.slopes.specs.Mixed.{plain, as_dual, mixed};
 ghost use Rattle.slopes.specs.Rules.{mixed_functions};
 ghost use Rattle.mie_parameters.specs.Sums.{weighted};
 ghost use Rattle.saftvrqmie_energies.specs.State.{diagonal, points};
@@ -36,7 +36,7 @@ struct Zeta23Slopes {
 }
 
 // Entry i of a list, with its slope.
-pub fn entry(l: &[f64], slopes: &[f64], i: usize) -> Dual
+fn entry(l: &[f64], slopes: &[f64], i: usize) -> Dual
     requires { (i < length l.now) × (i < length slopes.now) }
     ensures { mixed_of result ≡ sloped_at l.now slopes.now i }
 {
@@ -59,13 +59,13 @@ fn diameter(table: &[f64; TABLE], slopes: &[f64; TABLE], e: usize) -> Dual
 
 // sum + x * c, where c is plain
 fn plus_times(sum: Dual, x: Dual, c: f64) -> Dual
-    ensures { mixed_of result ≡ mixed_one.add (mixed_of sum) (mixed_one.mul (mixed_of x) (plain c)) }
+    ensures { mixed_of result ≡ mixed.add (mixed_of sum) (mixed.mul (mixed_of x) (plain c)) }
 {
     dual::add(sum, slopes::times(x, c))
 }
 
 fn zeta_added(rho: Dual, d: Dual, m: f64, z: ZetaSlopes) -> ZetaSlopes
-    ensures { zeta_in result ≡ zeta_added mixed_one (mixed_functions port) (mixed_of rho) (mixed_of d) (plain m) (zeta_in z) }
+    ensures { zeta_in result ≡ zeta_added mixed (mixed_functions port) (mixed_of rho) (mixed_of d) (plain m) (zeta_in z) }
 {
     let w = PI / 6.0 * m;
     let t0 = dual::mul(rho, dual::pow_up(d, 0));
@@ -91,8 +91,8 @@ pub fn zeta(
     requires { (0 < n) × (n ≤ side) × (length rho.now ≡ n) × (length rho_slopes.now ≡ n) }
     ensures { let rho = sloped_at rho.entry.now rho_slopes.now in
         let d = diagonal (sloped_sheet table.now table_slopes.now 1) in
-        let m = points mixed_one m.entry.now in
-        zeta_in result ≡ zeta mixed_one (mixed_functions port) n rho d m }
+        let m = points mixed m.entry.now in
+        zeta_in result ≡ zeta mixed (mixed_functions port) n rho d m }
 {
     let zero = dual::plain(0.0);
     let mut z = ZetaSlopes {
@@ -110,13 +110,13 @@ pub fn zeta(
 }
 
 fn frac_1mz3(z3: Dual) -> Dual
-    ensures { mixed_of result ≡ frac1mz3 mixed_one (mixed_of z3) }
+    ensures { mixed_of result ≡ frac1mz3 mixed (mixed_of z3) }
 {
     dual::neg(slopes::recip(slopes::minus(z3, 1.0)))
 }
 
 fn zeta_23_added(x: Dual, d: Dual, m: f64, y: Zeta23Slopes) -> Zeta23Slopes
-    ensures { zeta23_in result ≡ zeta23_added mixed_one (mixed_of x) (mixed_of d) (plain m) (zeta23_in y) }
+    ensures { zeta23_in result ≡ zeta23_added mixed (mixed_of x) (mixed_of d) (plain m) (zeta23_in y) }
 {
     let t0 = dual::mul(x, dual::pow_up(d, 2));
     let t1 = dual::mul(x, dual::pow_up(d, 3));
@@ -137,8 +137,8 @@ fn zeta_23(
     requires { (0 < n) × (n ≤ side) × (length x.now ≡ n) × (length x_slopes.now ≡ n) }
     ensures { let x = sloped_at x.entry.now x_slopes.now in
         let d = diagonal (sloped_sheet table.now table_slopes.now 1) in
-        let m = points mixed_one m.entry.now in
-        mixed_of result ≡ zeta23 mixed_one n x d m }
+        let m = points mixed m.entry.now in
+        mixed_of result ≡ zeta23 mixed n x d m }
 {
     let zero = dual::plain(0.0);
     let mut y = Zeta23Slopes { y0: zero, y1: zero };
@@ -151,7 +151,7 @@ fn zeta_23(
 }
 
 fn hard_sphere_of(z: ZetaSlopes, z23: Dual, l: Dual) -> Dual
-    ensures { mixed_of result ≡ hard_sphere_of mixed_one (mixed_functions port) (zeta_in z) (mixed_of z23) (mixed_of l) }
+    ensures { mixed_of result ≡ hard_sphere_of mixed (mixed_functions port) (zeta_in z) (mixed_of z23) (mixed_of l) }
 {
     let f = frac_1mz3(z.z3);
     let a = slopes::times(dual::mul(dual::mul(z.z1, z.z2), f), 3.0);
@@ -175,8 +175,8 @@ pub fn hard_sphere(
     ensures { let x = sloped_at x.entry.now x_slopes.now in
         let rho = sloped_at rho.entry.now rho_slopes.now in
         let d = diagonal (sloped_sheet table.now table_slopes.now 1) in
-        let m = points mixed_one m.entry.now in
-        mixed_answer result ≡ hard_sphere mixed_one (mixed_functions port) n x rho d m }
+        let m = points mixed m.entry.now in
+        mixed_answer result ≡ hard_sphere mixed (mixed_functions port) n x rho d m }
 {
     let z = zeta(n, rho, rho_slopes, table, table_slopes, m);
     let v = slopes::times(z.z3, -1.0);
@@ -188,7 +188,7 @@ pub fn hard_sphere(
 }
 
 fn g_hs(di: Dual, dj: Dual, z2: Dual, f: Dual) -> Dual
-    ensures { mixed_of result ≡ g_hs mixed_one (mixed_of di) (mixed_of dj) (mixed_of z2) (mixed_of f) }
+    ensures { mixed_of result ≡ g_hs mixed (mixed_of di) (mixed_of dj) (mixed_of z2) (mixed_of f) }
 {
     let mu = dual::div(dual::mul(di, dj), dual::add(di, dj));
     let v = dual::mul(mu, z2);
@@ -208,7 +208,7 @@ fn non_additive_ij(
     f: Dual,
 ) -> Dual
     ensures { let F = mixed_functions port in
-        mixed_of result ≡ non_additive_ij mixed_one F (mixed_of rho_s) (mixed_of xi) (mixed_of xj) (mixed_of di) (mixed_of dj) (mixed_of dij) (mixed_of z2) (mixed_of f) }
+        mixed_of result ≡ non_additive_ij mixed F (mixed_of rho_s) (mixed_of xi) (mixed_of xj) (mixed_of di) (mixed_of dj) (mixed_of dij) (mixed_of z2) (mixed_of f) }
 {
     let a = slopes::times(dual::add(di, dj), 0.5);
     let g = g_hs(di, dj, z2, f);
@@ -217,10 +217,10 @@ fn non_additive_ij(
     slopes::times(slopes::times(dual::mul(c, dual::sub(a, dij)), 2.0), PI)
 }
 
-pub fn segment_density(n: usize, rho: &[f64], rho_slopes: &[f64], m: &[f64; SIDE]) -> Dual
+fn segment_density(n: usize, rho: &[f64], rho_slopes: &[f64], m: &[f64; SIDE]) -> Dual
     requires { (0 < n) × (n ≤ side) × (length rho.now ≡ n) × (length rho_slopes.now ≡ n) }
     ensures { let rho = sloped_at rho.entry.now rho_slopes.now in
-        mixed_of result ≡ weighted mixed_one n rho (points mixed_one m.now) }
+        mixed_of result ≡ weighted mixed n rho (points mixed m.now) }
 {
     let mut r = dual::plain(0.0);
     for i in 0usize..n {
@@ -240,8 +240,8 @@ fn density_shares(
 ) -> [Dual; SIDE]
     requires { (n ≤ side) × (length rho.now ≡ n) × (length rho_slopes.now ≡ n) }
     ensures { let rho = sloped_at rho.entry.now rho_slopes.now in
-        let m = points mixed_one m.entry.now in
-        FirstPlaces n result (nth mixed_one (density_shares mixed_one (mixed_functions port) n (mixed_of rho_s) rho m)) }
+        let m = points mixed m.entry.now in
+        FirstPlaces n result (nth mixed (density_shares mixed (mixed_functions port) n (mixed_of rho_s) rho m)) }
 {
     let zero = dual::plain(0.0);
     let mut x = [zero; SIDE];
@@ -265,7 +265,7 @@ fn non_additive_column(
 ) -> Dual
     requires { (n ≤ side) × (j < n) }
     ensures { let d = sloped_sheet table.now table_slopes.now 1 in
-        mixed_of result ≡ non_additive_column mixed_one (mixed_functions port) n (duals_at xs) d (mixed_of rho_s) (mixed_of z2) (mixed_of f) j (mixed_of sum) }
+        mixed_of result ≡ non_additive_column mixed (mixed_functions port) n (duals_at xs) d (mixed_of rho_s) (mixed_of z2) (mixed_of f) j (mixed_of sum) }
 {
     let mut r = sum;
     for i in 0usize..n {
@@ -289,7 +289,7 @@ fn non_additive_sum(
 ) -> Dual
     requires { (0 < n) × (n ≤ side) }
     ensures { let d = sloped_sheet table.now table_slopes.now 1 in
-        mixed_of result ≡ non_additive_sum mixed_one (mixed_functions port) n (duals_at xs) d (mixed_of rho_s) (mixed_of z2) (mixed_of f) }
+        mixed_of result ≡ non_additive_sum mixed (mixed_functions port) n (duals_at xs) d (mixed_of rho_s) (mixed_of z2) (mixed_of f) }
 {
     let mut r = dual::plain(0.0);
     for j in 0usize..n {
@@ -308,9 +308,9 @@ pub fn non_additive(
 ) -> Dual
     requires { (0 < n) × (n ≤ side) × (length rho.now ≡ n) × (length rho_slopes.now ≡ n) }
     ensures { let rho = sloped_at rho.entry.now rho_slopes.now in
-        let m = points mixed_one m.entry.now in
+        let m = points mixed m.entry.now in
         let d = sloped_sheet table.now table_slopes.now 1 in
-        mixed_of result ≡ non_additive mixed_one (mixed_functions port) n rho m d }
+        mixed_of result ≡ non_additive mixed (mixed_functions port) n rho m d }
 {
     let z = zeta(n, rho, rho_slopes, table, table_slopes, m);
     let f = frac_1mz3(z.z3);
@@ -332,9 +332,9 @@ pub fn wanted_part(
 ) -> Dual
     requires { (0 < n) × (n ≤ side) × (length rho.now ≡ n) × (length rho_slopes.now ≡ n) }
     ensures { let rho = sloped_at rho.entry.now rho_slopes.now in
-        let m = points mixed_one m.entry.now in
+        let m = points mixed m.entry.now in
         let d = sloped_sheet table.now table_slopes.now 1 in
-        dual_of result ≡ as_dual (cond wanted (non_additive mixed_one (mixed_functions port) n rho m d) (plain zero64)) }
+        dual_of result ≡ as_dual (cond wanted (non_additive mixed (mixed_functions port) n rho m d) (plain zero64)) }
 {
     if !wanted {
         return dual::plain(0.0);

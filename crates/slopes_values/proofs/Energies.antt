@@ -16,12 +16,12 @@ use Rattle.slopes.specs.Mixed.{Mixed, plain, sloped, as_dual, value_of, mixed_on
 use Rattle.saftvrqmie_parameters.specs.declared.SaftVRQMiePars.{SaftVRQMiePars}
 use Rattle.saftvrqmie_energies.specs.State.{points}
 use Rattle.saftvrqmie_energies.specs.Energies.{EnergiesIn, contributions_of, energies_finite, state_lengths, energies_by}
-use Rattle.saftvrqmie_hard_sphere_slopes.specs.Parts.{sloped_at}
+use Rattle.saftvrqmie_hard_sphere_slopes_one.specs.Parts.{sloped_at}
 use Rattle.saftvrqmie_dispersion_sums_slopes.specs.State.{sloped_sheets}
 use Rattle.saftvrqmie_energies_slopes.specs.Energies.{as_duals, finite_dual, slopes_finite, contributions_slope, energies_slope}
 use Rattle.slopes_values.specs.Values.{energies_values}
 use Rattle.slopes_values.specs.Energies.{duals_values, EnergiesKept}
-use Rattle.slopes_values.proofs.Values.{values_kept}
+use Rattle.slopes_values.proofs.Values.{one_is_kept}
 
 -- the value of a number is that of the D it is taken as
 re_is : (x : Mixed) → value_of x ≡ (as_dual x).re
@@ -48,7 +48,7 @@ finite_values e p = both_finite (finite e.hard_sphere.re) (finite e.hard_sphere.
 module _ (E : Answers) (s : SaftVRQMiePars) (t : DualOf Float) (x x' rho rho' table table' : List Float) (wanted : Bool) where
   run_kept : (e : EnergiesIn Mixed) → contributions_slope E s t x x' rho rho' table table' wanted ≡ held e → contributions_of floats (calls floats E) s t.re x rho table wanted ≡ held (energies_values e)
   unfolding contributions_slope sloped_at
-  run_kept e q = values_kept.contributions_kept E (sloped_sheets s.count s.sheets s.orders t table table') (sloped_at x x') (sloped_at rho rho') (points mixed_one s.m) (sloped t) wanted e q
+  run_kept e q = one_is_kept.contributions_one_kept E (sloped_sheets s.count s.sheets s.orders t table table') (sloped_at x x') (sloped_at rho rho') (points mixed_one s.m) (sloped t) wanted e q
 
   tested : (e : EnergiesIn Mixed) (d : EnergiesIn (DualOf Float)) (b : Bool) → slopes_finite (as_duals e) ≡ b → (demand 7 b >>= λ _. held (as_duals e)) ≡ held d → (slopes_finite (as_duals e) ≡ true) × (as_duals e ≡ d)
   unfolding demand ◌>>=◌

@@ -20,10 +20,12 @@ use Rattle.saftvrqmie_properties_slopes.specs.Properties.{dual_pair, properties_
 use Rattle.saftvrqmie_energies.specs.State.{SheetsIn}
 use Rattle.saftvrqmie_energies.specs.Energies.{EnergiesIn, contributions}
 use Rattle.saftvrqmie_energies.proofs.Relation.{EnergiesR, contributions_rel}
+use Rattle.slopes_values.specs.Energies.{OneKept}
 use Rattle.slopes_values.specs.Values.{potential_values, search_values, counted_values, properties_values, energies_values, sheets_values, pair_at, ValuesKept}
 use Rattle.slopes_values.proofs.OneSided.{Kept, le_kept, map_kept, kept_gives}
 use Rattle.slopes_values.proofs.Full.{Value, values, values_one, full, full_rel}
 use Rattle.slopes_values.proofs.Fewer.{potential_le, contributions_le}
+use Rattle.slopes_values.proofs.FewerOne.{contributions_le as one_le}
 use Rattle.slopes_values.proofs.Searches.{R, plain_is, sigma_part, zero_part, depth_part, properties_part}
 
 as_value : (x : Mixed) (u : Float) → Value x u → R (as_dual x) u
@@ -100,9 +102,29 @@ module _ (E : Answers) (s : SheetsIn Mixed) (x rho m : ℕ → Mixed) (t : Mixed
   abbrev run : Ans (EnergiesIn Float)
   run = contributions floats (calls floats E) (sheets_values s) (λ i. value_of (x i)) (λ i. value_of (rho i)) (λ i. value_of (m i)) (value_of t) wanted
 
-  contributions_part : Kept (EnergiesR Value) (contributions mixed_one (mixed_functions E) s x rho m t wanted) run
+  contributions_part : Kept (EnergiesR Value) (contributions mixed (mixed_functions E) s x rho m t wanted) run
   contributions_part =
       le_kept _ _ (contributions_le E s x rho m t wanted)
+      (contributions_rel mixed floats values (full E) (calls floats E) (full_rel E) {s = s} {s' = sheets_values s} s.count
+      (record {
+        pair = λ e. record { sigma = refl; epsilon_k = refl; c = refl; lr = refl; la = refl; mass = refl; order = refl; temperature = refl };
+        sigma_eff = λ e. refl;
+        hs_diameter = λ e. refl;
+        epsilon_k_eff = λ e. refl;
+        quantum_d = λ e. refl;
+      })
+      (λ i. refl) (λ i. refl) (λ i. refl) refl wanted)
+
+  contributions_kept : (e : EnergiesIn Mixed) → contributions mixed (mixed_functions E) s x rho m t wanted ≡ held e → run ≡ held (energies_values e)
+  contributions_kept e q =
+      let g = kept_gives _ _ e contributions_part q in
+      let h = g.2 in
+      rw (h.hard_sphere, h.dispersion, h.non_additive) g.1
+
+  -- the same in the arithmetic of the energies
+  one_part : Kept (EnergiesR Value) (contributions mixed_one (mixed_functions E) s x rho m t wanted) run
+  one_part =
+      le_kept _ _ (one_le E s x rho m t wanted)
       (contributions_rel mixed_one floats values_one (full E) (calls floats E) (full_rel E) {s = s} {s' = sheets_values s} s.count
       (record {
         pair = λ e. record { sigma = refl; epsilon_k = refl; c = refl; lr = refl; la = refl; mass = refl; order = refl; temperature = refl };
@@ -113,9 +135,9 @@ module _ (E : Answers) (s : SheetsIn Mixed) (x rho m : ℕ → Mixed) (t : Mixed
       })
       (λ i. refl) (λ i. refl) (λ i. refl) refl wanted)
 
-  contributions_kept : (e : EnergiesIn Mixed) → contributions mixed_one (mixed_functions E) s x rho m t wanted ≡ held e → run ≡ held (energies_values e)
-  contributions_kept e q =
-      let g = kept_gives _ _ e contributions_part q in
+  one_kept : (e : EnergiesIn Mixed) → contributions mixed_one (mixed_functions E) s x rho m t wanted ≡ held e → run ≡ held (energies_values e)
+  one_kept e q =
+      let g = kept_gives _ _ e one_part q in
       let h = g.2 in
       rw (h.hard_sphere, h.dispersion, h.non_additive) g.1
 
@@ -129,3 +151,6 @@ values_kept =
       properties_kept = λ E p t v e. properties_kept E p t v e;
       contributions_kept = λ E s x rho m t wanted e q. contributions_kept E s x rho m t wanted e q;
     }
+
+pub one_is_kept : OneKept
+one_is_kept = record { contributions_one_kept = λ E s x rho m t wanted e q. one_kept E s x rho m t wanted e q }

@@ -4,7 +4,7 @@ use Rattle.number.specs.Ans.{held}
 use Rattle.number.specs.Arith.{floats}
 use Rattle.number.specs.Functions.{Answers, calls}
 use Rattle.dual.specs.Dual.{DualOf, duals}
-use Rattle.slopes.specs.Mixed.{Mixed, value_of, mixed_one}
+use Rattle.slopes.specs.Mixed.{Mixed, value_of, mixed}
 use Rattle.slopes.specs.Rules.{mixed_functions, dual_functions}
 use Rattle.saftvrqmie_potential.specs.declared.Pair.{Pair}
 use Rattle.saftvrqmie_potential.specs.Potential.{PairIn, PotentialIn, potential}
@@ -77,5 +77,5 @@ pub record ValuesKept : Type 0 where
       → zero_search floats (potential floats (calls floats E) (pair_at p t)) (calls floats E) t.re s.re ≡ held (counted_values c)
   pub depth_kept : (E : Answers) (p : Pair) (t s : DualOf Float) (c : Counted (DualOf Float)) → depth_search (duals floats) (potential_slope E p t) s ≡ held c → depth_search floats (potential floats (calls floats E) (pair_at p t)) s.re ≡ held (counted_values c)
   pub properties_kept : (E : Answers) (p : Pair) (t : DualOf Float) (v : PairPropertiesIn (DualOf Float)) → properties_slope E p t ≡ held v → pair_properties floats (calls floats E) (pair_at p t) ≡ held (properties_values v)
-  pub contributions_kept : (E : Answers) (s : SheetsIn Mixed) (x rho m : ℕ → Mixed) (t : Mixed) (wanted : Bool) (e : EnergiesIn Mixed) → contributions mixed_one (mixed_functions E) s x rho m t wanted ≡ held e
+  pub contributions_kept : (E : Answers) (s : SheetsIn Mixed) (x rho m : ℕ → Mixed) (t : Mixed) (wanted : Bool) (e : EnergiesIn Mixed) → contributions mixed (mixed_functions E) s x rho m t wanted ≡ held e
       → contributions floats (calls floats E) (sheets_values s) (λ i. value_of (x i)) (λ i. value_of (rho i)) (λ i. value_of (m i)) (value_of t) wanted ≡ held (energies_values e)

@@ -16,15 +16,9 @@ plain-requires-2 c κs = search rules
 plain-requires-3 : tie.Need-plain-requires-3
 plain-requires-3 c κs = search rules
 
-neg-requires : tie.Need-neg-requires
-neg-requires c κs = search rules
-
-times-requires : tie.Need-times-requires
-times-requires c κs = search rules
-
 returns : tie.Need-returns
 unfolding factors0 decimal of_bits neg
-returns c = rw (c.times.ensures, c.before.neg.ensures, c.before.before.plain3.ensures, c.before.before.before.plain2.ensures, c.before.before.before.before.plain.ensures)
+returns c = rw (c.plain3.ensures, c.before.plain2.ensures, c.before.before.plain.ensures)
 
 pub factors_0_spec : {M : Type 1} → statement M
 factors_0_spec =
@@ -33,6 +27,4 @@ factors_0_spec =
     plain-requires
     plain-requires-2
     plain-requires-3
-    neg-requires
-    times-requires
     returns)

@@ -6,7 +6,7 @@ use lib.Ieee.{of_bits, neg}
 use Rattle.number.specs.Arith.{decimal}
 use Rattle.dual.specs.Value.{dual_of}
 use Rattle.number.specs.Power.{pow_up, pow_digits, digits}
-use Rattle.slopes.specs.Mixed.{mixed_one}
+use Rattle.slopes.specs.Mixed.{mixed}
 use Rattle.saftvrqmie_dispersion.specs.Perturbation.{second_turn, second_order_by, second_closed}
 use Rattle.saftvrqmie_dispersion_slopes.proofs.Laws.{count_some}
 use Rattle.saftvrqmie_dispersion_slopes.specs.Values.{dispersion_in, quantum_in}
@@ -21,7 +21,7 @@ use Rattle.saftvrqmie_dispersion_slopes.proofs.second_order_at.Statement.{statem
 use Rattle.saftvrqmie_dispersion_slopes.proofs.second_order_at.Tie as tie
 
 abbrev invariant_loop : tie.invariant_loop
-invariant_loop = λ p w g count a2₀ q₀ a2 q. (q ≤ count) × Sum (second_turn mixed_one (dispersion_in p) (combine_at w) (quantum_in g)) (decimal false 0 0) q (dual_of a2)
+invariant_loop = λ p w g count a2₀ q₀ a2 q. (q ≤ count) × Sum (second_turn mixed (dispersion_in p) (combine_at w) (quantum_in g)) (decimal false 0 0) q (dual_of a2)
 
 abbrev decreases_loop : tie.decreases_loop
 decreases_loop = λ p w g count a2₀ q₀ a2 q. count - q
@@ -47,7 +47,7 @@ enum_told c = search rules
 
 returns : tie.Need-returns invariant_loop decreases_loop
 unfolding second_order_by sloped_answer ◌>>=◌
-returns c = rw (← c.before.before.before.before.before.before.quantum-of.ensures, ← c.before.before.before.before.before.turn-count.ensures, ← sum_stop _ _ _ _ c.before.before.before.before.loop.invariant.1 _ _ c.before.before.before.loop-test.true (λ m e. via sloped_answer (c.before.before.second_turn.ensures m e) c.enum_told.given.1))
+returns c = rw (← c.before.before.before.before.before.before.quantum-of.ensures, ← c.before.before.before.before.before.turn-count.ensures, ← sum_stop _ _ _ _ c.before.before.before.before.loop.invariant.1 _ _ c.before.before.before.loop-test.true (λ m e. via sloped_answer (c.before.before.second-turn.ensures m e) c.enum_told.given.1))
 
 add-q : tie.Need-overflow-add-q invariant_loop decreases_loop
 add-q c = search rules
@@ -57,7 +57,7 @@ loop-less c = search rules
 
 loop-again : tie.Need-loop-preserved invariant_loop decreases_loop
 unfolding sloped_answer ◌>>=◌
-loop-again c = (search rules, sum_next _ _ _ _ c.before.before.before.before.before.loop.invariant.1 _ (λ m e. via sloped_answer (c.before.before.before.second_turn.ensures m e) c.before.next.given.1))
+loop-again c = (search rules, sum_next _ _ _ _ c.before.before.before.before.before.loop.invariant.1 _ (λ m e. via sloped_answer (c.before.before.before.second-turn.ensures m e) c.before.next.given.1))
 
 times-requires : tie.Need-times-requires invariant_loop decreases_loop
 times-requires c κs = search rules

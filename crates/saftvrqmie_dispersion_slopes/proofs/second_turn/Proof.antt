@@ -1,6 +1,6 @@
 -- `saftvrqmie_dispersion_slopes::second_turn` meets its contract. Assumes nothing.
 use Rattle.saftvrqmie_dispersion.specs.Perturbation.{factors}
-use Rattle.slopes.specs.Mixed.{mixed_one}
+use Rattle.slopes.specs.Mixed.{mixed}
 use Rattle.saftvrqmie_dispersion_slopes.specs.Values.{quantum_in}
 use Rattle.number.proofs.Walk.{via}
 use Rattle.number.specs.Ans.{◌>>=◌}
@@ -81,7 +81,7 @@ add-requires-3 c κs = search rules
 
 returns-4 : tie.Need-returns-4
 unfolding second_turn sloped_answer ◌>>=◌ decimal of_bits neg
-returns-4 c = λ m e. rw (via sloped_answer c.before.before.before.before.before.before.before.before.before.before.before.before.before.before.before.before.before.before.before.before.combine-at.ensures c.before.before.before.before.before.before.before.before.before.before.before.before.before.before.before.before.before.before.int-a.given.1, via sloped_answer c.before.before.before.before.before.before.before.before.before.before.before.before.before.before.before.combine-at2.ensures c.before.before.before.before.before.before.before.before.before.before.before.before.before.int-r.given.1, via sloped_answer c.before.before.before.before.before.before.before.before.before.before.combine-at3.ensures c.before.before.before.before.before.before.before.before.int-ar.given.1) (ap held (turn_value m _ _ _ _ _ (factors mixed_one (quantum_in c.before.before.before.before.before.before.before.before.before.before.before.before.before.before.before.before.before.before.before.before.before.before.before.args.g) c.before.before.before.before.before.before.before.before.before.before.before.before.before.before.before.before.before.before.before.before.before.before.before.args.p.order c.before.before.before.before.before.before.before.before.before.before.before.before.before.before.before.before.before.before.before.before.before.before.before.args.q) _ e c.before.before.before.before.before.before.factors-of.ensures (rw (c.before.add2.ensures, c.before.before.mul3.ensures, c.before.before.before.add.ensures, c.before.before.before.before.mul2.ensures, c.before.before.before.before.before.mul.ensures) at c.add3.ensures)))
+returns-4 c = λ m e. rw (via sloped_answer c.before.before.before.before.before.before.before.before.before.before.before.before.before.before.before.before.before.before.before.before.combine-at.ensures c.before.before.before.before.before.before.before.before.before.before.before.before.before.before.before.before.before.before.int-a.given.1, via sloped_answer c.before.before.before.before.before.before.before.before.before.before.before.before.before.before.before.combine-at2.ensures c.before.before.before.before.before.before.before.before.before.before.before.before.before.int-r.given.1, via sloped_answer c.before.before.before.before.before.before.before.before.before.before.combine-at3.ensures c.before.before.before.before.before.before.before.before.int-ar.given.1) (ap held (turn_value m _ _ _ _ _ (factors mixed (quantum_in c.before.before.before.before.before.before.before.before.before.before.before.before.before.before.before.before.before.before.before.before.before.before.before.args.g) c.before.before.before.before.before.before.before.before.before.before.before.before.before.before.before.before.before.before.before.before.before.before.before.args.p.order c.before.before.before.before.before.before.before.before.before.before.before.before.before.before.before.before.before.before.before.before.before.before.before.args.q) _ e c.before.before.before.before.before.before.factors-of.ensures (rw (c.before.add2.ensures, c.before.before.mul3.ensures, c.before.before.before.add.ensures, c.before.before.before.before.mul2.ensures, c.before.before.before.before.before.mul.ensures) at c.add3.ensures)))
 
 pub second_turn_spec : {M : Type 1} → statement M
 second_turn_spec =

@@ -7,7 +7,7 @@ use Rattle.number.specs.Ans.{held, ◌>>=◌}
 use Rattle.elementary.specs.Port.{port}
 use Rattle.slopes.specs.Mixed.{mixed_one}
 use Rattle.slopes.specs.Rules.{mixed_functions}
-use Rattle.saftvrqmie_dispersion_terms_slopes.specs.Staged.{sloped_answer}
+use Rattle.saftvrqmie_dispersion_terms_slopes_one.specs.Staged.{sloped_answer}
 use Rattle.dual.specs.Value.{dual_of}
 use Rattle.saftvrqmie_dispersion_sums_slopes.specs.State.{sloped_list, sloped_sheets}
 use Rattle.saftvrqmie_energies.specs.Dispersion.{alpha_turn, alpha_row}

@@ -1,6 +1,6 @@
 -- `saftvrqmie_dispersion_sums_slopes::dispersion` meets its contract. Assumes nothing.
 use Rattle.number.specs.Ans.{◌>>=◌}
-use Rattle.saftvrqmie_dispersion_terms_slopes.specs.Staged.{sloped_answer}
+use Rattle.saftvrqmie_dispersion_terms_slopes_one.specs.Staged.{sloped_answer}
 use Rattle.dual.specs.Value.{dual_of}
 use Rattle.number.specs.Arith.{decimal}
 use lib.Ieee.{of_bits}

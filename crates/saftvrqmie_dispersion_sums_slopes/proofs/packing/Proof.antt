@@ -6,8 +6,8 @@ use Rattle.number.proofs.Walk.{turns_none, turns_next, turns_end}
 use Rattle.elementary.specs.Port.{port}
 use Rattle.slopes.specs.Mixed.{mixed_one}
 use Rattle.slopes.specs.Rules.{mixed_functions}
-use Rattle.saftvrqmie_dispersion_terms_slopes.specs.Staged.{mixed_of}
-use Rattle.saftvrqmie_hard_sphere_slopes.specs.Parts.{duals_at, sloped_sheet}
+use Rattle.saftvrqmie_dispersion_terms_slopes_one.specs.Staged.{mixed_of}
+use Rattle.saftvrqmie_hard_sphere_slopes_one.specs.Parts.{duals_at, sloped_sheet}
 use Rattle.number.specs.Arith.{decimal}
 use lib.Ieee.{of_bits}
 use Rattle.saftvrqmie_energies.specs.Dispersion.{packing_row}

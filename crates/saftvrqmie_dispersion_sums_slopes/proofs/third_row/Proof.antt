@@ -7,8 +7,8 @@ use Rattle.number.specs.Ans.{held, ◌>>=◌}
 use Rattle.elementary.specs.Port.{port}
 use Rattle.slopes.specs.Mixed.{mixed_one, sloped}
 use Rattle.slopes.specs.Rules.{mixed_functions}
-use Rattle.saftvrqmie_dispersion_terms_slopes.specs.Staged.{mixed_of, sloped_answer}
-use Rattle.saftvrqmie_hard_sphere_slopes.specs.Parts.{duals_at, sloped_at, sloped_sheet}
+use Rattle.saftvrqmie_dispersion_terms_slopes_one.specs.Staged.{mixed_of, sloped_answer}
+use Rattle.saftvrqmie_hard_sphere_slopes_one.specs.Parts.{duals_at, sloped_at, sloped_sheet}
 use Rattle.saftvrqmie_energies.specs.Dispersion.{third_turn, third_row}
 use Rattle.saftvrqmie_energies.proofs.Turns.{third_held, third_outside}
 use Rattle.saftvrqmie_dispersion_sums_slopes.proofs.Laws.{plus_is}

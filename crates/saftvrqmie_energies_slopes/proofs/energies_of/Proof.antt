@@ -3,8 +3,8 @@ use Rattle.number.specs.Ans.{◌>>=◌}
 use Rattle.number.proofs.Walk.{via, told}
 use borrow.Author.Tests.{not-true, not-false}
 use Rattle.dual.specs.Value.{dual_of}
-use Rattle.saftvrqmie_dispersion_terms_slopes.specs.Staged.{sloped_answer}
-use Rattle.saftvrqmie_hard_sphere_slopes.specs.Parts.{mixed_answer}
+use Rattle.saftvrqmie_dispersion_terms_slopes_one.specs.Staged.{sloped_answer}
+use Rattle.saftvrqmie_hard_sphere_slopes_one.specs.Parts.{mixed_answer}
 use Rattle.saftvrqmie_energies_slopes.proofs.Ways.{no_hard_sphere, no_dispersion, refuses_7, holds}
 use borrow.Author.Rules.{rules}
 use Rattle.saftvrqmie_energies_slopes.proofs.energies_of.Statement.{statement}

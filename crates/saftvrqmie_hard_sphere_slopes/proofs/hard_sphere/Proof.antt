@@ -3,11 +3,11 @@ use lib.Ieee.{of_bits, neg}
 use mathlib.Core.Path.{ap}
 use Rattle.number.specs.Arith.{decimal}
 use Rattle.elementary.specs.Port.{port}
-use Rattle.slopes.specs.Mixed.{sloped, mixed_one}
+use Rattle.slopes.specs.Mixed.{sloped, mixed}
 use Rattle.slopes.specs.Rules.{mixed_functions}
 use Rattle.saftvrqmie_energies.proofs.Turns.{hs_outside, hs_held}
 use Rattle.saftvrqmie_hard_sphere_slopes.specs.Parts.{mixed_answer}
-use Rattle.saftvrqmie_hard_sphere_slopes.proofs.Laws.{at_mixed_one}
+use Rattle.saftvrqmie_hard_sphere_slopes.proofs.Laws.{at_mixed}
 use borrow.Author.Rules.{rules}
 use Rattle.saftvrqmie_hard_sphere_slopes.proofs.hard_sphere.Statement.{statement}
 use Rattle.saftvrqmie_hard_sphere_slopes.proofs.hard_sphere.Tie as tie
@@ -29,7 +29,7 @@ enum_told c = search rules
 
 returns : tie.Need-returns
 unfolding decimal of_bits neg
-returns c = hs_outside mixed_one (mixed_functions port) _ _ _ _ _ _ c.before.before.before.before.zeta.ensures _ (ap sloped c.before.before.before.times.ensures) _ (at_mixed_one c.before.before.ln_1p.result _ c.before.before.ln_1p.ensures) _ (ap mixed_answer c.enum_told.given.1)
+returns c = hs_outside mixed (mixed_functions port) _ _ _ _ _ _ c.before.before.before.before.zeta.ensures _ (ap sloped c.before.before.before.times.ensures) _ (at_mixed c.before.before.ln_1p.result _ c.before.before.ln_1p.ensures) _ (ap mixed_answer c.enum_told.given.1)
 
 zeta-23-requires : tie.Need-zeta-23-requires
 zeta-23-requires c κs = search rules
@@ -39,7 +39,7 @@ hard-sphere-of-requires c κs = search rules
 
 returns-2 : tie.Need-returns-2
 unfolding decimal of_bits neg
-returns-2 c = hs_held mixed_one (mixed_functions port) _ _ _ _ _ _ c.before.before.before.before.before.before.before.zeta.ensures _ (ap sloped c.before.before.before.before.before.before.times.ensures) _ (at_mixed_one c.before.before.before.before.before.ln_1p.result _ c.before.before.before.before.before.ln_1p.ensures) _ _ _ (ap mixed_answer c.before.before.before.l.given.1) c.before.zeta-23.ensures c.hard-sphere-of.ensures
+returns-2 c = hs_held mixed (mixed_functions port) _ _ _ _ _ _ c.before.before.before.before.before.before.before.zeta.ensures _ (ap sloped c.before.before.before.before.before.before.times.ensures) _ (at_mixed c.before.before.before.before.before.ln_1p.result _ c.before.before.before.before.before.ln_1p.ensures) _ _ _ (ap mixed_answer c.before.before.before.l.given.1) c.before.zeta-23.ensures c.hard-sphere-of.ensures
 
 pub hard_sphere_spec : {M : Type 1} → statement M
 hard_sphere_spec =

@@ -4,7 +4,7 @@ use mathlib.Core.Path.{◌≡◌}
 use Rattle.number.specs.Walk.{turns}
 use Rattle.number.proofs.Walk.{turns_none, turns_next, turns_end}
 use Rattle.elementary.specs.Port.{port}
-use Rattle.slopes.specs.Mixed.{mixed_one}
+use Rattle.slopes.specs.Mixed.{mixed}
 use Rattle.slopes.specs.Rules.{mixed_functions}
 use Rattle.saftvrqmie_energies.specs.NonAdditive.{non_additive_turn, non_additive_column}
 use Rattle.saftvrqmie_hard_sphere_slopes.specs.Parts.{mixed_of, duals_at, sloped_sheet}
@@ -14,7 +14,7 @@ use Rattle.saftvrqmie_hard_sphere_slopes.proofs.non_additive_column.Statement.{s
 use Rattle.saftvrqmie_hard_sphere_slopes.proofs.non_additive_column.Tie as tie
 
 abbrev invariant_loop : tie.invariant_loop
-invariant_loop n table table-slopes rho_s z2 f j xs r₀ i₀ r i = (i ≤ n) × (mixed_of r ≡ turns i (non_additive_turn mixed_one (mixed_functions port) n (duals_at xs) (sloped_sheet table table-slopes 1) (mixed_of rho_s) (mixed_of z2) (mixed_of f) j) (mixed_of r₀))
+invariant_loop n table table-slopes rho_s z2 f j xs r₀ i₀ r i = (i ≤ n) × (mixed_of r ≡ turns i (non_additive_turn mixed (mixed_functions port) n (duals_at xs) (sloped_sheet table table-slopes 1) (mixed_of rho_s) (mixed_of z2) (mixed_of f) j) (mixed_of r₀))
 
 abbrev decreases_loop : tie.decreases_loop
 decreases_loop n table table-slopes rho_s z2 f j xs r₀ i₀ r i = n - i

@@ -6,7 +6,7 @@ use Rattle.number.proofs.Walk.{turns_none, turns_next, turns_end}
 use lib.Ieee.{of_bits}
 use Rattle.number.specs.Arith.{decimal}
 use Rattle.elementary.specs.Port.{port}
-use Rattle.slopes.specs.Mixed.{mixed_one}
+use Rattle.slopes.specs.Mixed.{mixed}
 use Rattle.slopes.specs.Rules.{mixed_functions}
 use Rattle.saftvrqmie_energies.specs.NonAdditive.{non_additive_column}
 use Rattle.saftvrqmie_hard_sphere_slopes.specs.Parts.{mixed_of, duals_at, sloped_sheet}
@@ -16,7 +16,7 @@ use Rattle.saftvrqmie_hard_sphere_slopes.proofs.non_additive_sum.Statement.{stat
 use Rattle.saftvrqmie_hard_sphere_slopes.proofs.non_additive_sum.Tie as tie
 
 abbrev invariant_loop : tie.invariant_loop
-invariant_loop n xs table table-slopes rho_s z2 f r₀ j₀ r j = (j ≤ n) × (mixed_of r ≡ turns j (non_additive_column mixed_one (mixed_functions port) n (duals_at xs) (sloped_sheet table table-slopes 1) (mixed_of rho_s) (mixed_of z2) (mixed_of f)) (mixed_of r₀))
+invariant_loop n xs table table-slopes rho_s z2 f r₀ j₀ r j = (j ≤ n) × (mixed_of r ≡ turns j (non_additive_column mixed (mixed_functions port) n (duals_at xs) (sloped_sheet table table-slopes 1) (mixed_of rho_s) (mixed_of z2) (mixed_of f)) (mixed_of r₀))
 
 abbrev decreases_loop : tie.decreases_loop
 decreases_loop n xs table table-slopes rho_s z2 f r₀ j₀ r j = n - j

@@ -5,7 +5,7 @@ use Rattle.number.specs.Walk.{turns}
 use Rattle.number.proofs.Walk.{turns_none, turns_next, turns_end}
 use lib.Ieee.{of_bits}
 use Rattle.number.specs.Arith.{decimal}
-use Rattle.slopes.specs.Mixed.{mixed_one}
+use Rattle.slopes.specs.Mixed.{mixed}
 use Rattle.saftvrqmie_energies.specs.State.{points}
 use Rattle.saftvrqmie_hard_sphere_slopes.specs.Parts.{mixed_of, sloped_at}
 use Rattle.saftvrqmie_hard_sphere_slopes.proofs.Laws.{weighted_begun, plus_next}
@@ -14,7 +14,7 @@ use Rattle.saftvrqmie_hard_sphere_slopes.proofs.segment_density.Statement.{state
 use Rattle.saftvrqmie_hard_sphere_slopes.proofs.segment_density.Tie as tie
 
 abbrev invariant_loop : tie.invariant_loop
-invariant_loop n rho rho-slopes m r₀ i₀ r i = (i ≤ n) × (mixed_of r ≡ turns i (λ i s. mixed_one.add s (mixed_one.mul (sloped_at rho rho-slopes i) (points mixed_one m i))) (mixed_of r₀))
+invariant_loop n rho rho-slopes m r₀ i₀ r i = (i ≤ n) × (mixed_of r ≡ turns i (λ i s. mixed.add s (mixed.mul (sloped_at rho rho-slopes i) (points mixed m i))) (mixed_of r₀))
 
 abbrev decreases_loop : tie.decreases_loop
 decreases_loop n rho rho-slopes m r₀ i₀ r i = n - i

@@ -6,7 +6,7 @@ use Rattle.number.specs.Walk.{turns}
 use Rattle.number.proofs.Walk.{turns_none, turns_next, turns_end}
 use lib.Ieee.{of_bits}
 use Rattle.number.specs.Arith.{decimal}
-use Rattle.slopes.specs.Mixed.{Mixed, sloped, mixed_one}
+use Rattle.slopes.specs.Mixed.{Mixed, sloped, mixed}
 use Rattle.saftvrqmie_energies.specs.HardSphere.{Zeta23In, zeta23}
 use Rattle.saftvrqmie_hard_sphere_slopes.specs.Parts.{zeta23_in}
 use Rattle.saftvrqmie_hard_sphere_slopes.proofs.Laws.{added23, zeta23_begun}
@@ -61,7 +61,7 @@ div-requires c κs = search rules
 
 returns : tie.Need-returns invariant_loop decreases_loop
 unfolding zeta23 decimal of_bits
-returns c = ap sloped c.div.ensures ∙ ap (λ (y : Zeta23In Mixed). mixed_one.div y.y0 y.y1) (turns_end _ _ _ _ _ c.before.before.loop.invariant.0 c.before.loop-test.false c.before.before.loop.invariant.1 ∙ zeta23_begun _ c.before.before.before.plain.ensures _ (search rules) _ _ _ _ _)
+returns c = ap sloped c.div.ensures ∙ ap (λ (y : Zeta23In Mixed). mixed.div y.y0 y.y1) (turns_end _ _ _ _ _ c.before.before.loop.invariant.0 c.before.loop-test.false c.before.before.loop.invariant.1 ∙ zeta23_begun _ c.before.before.before.plain.ensures _ (search rules) _ _ _ _ _)
 
 pub zeta_23_spec : {M : Type 1} → statement M
 zeta_23_spec =

@@ -1,0 +1,20 @@
+-- `saftvrqmie_alpha_slopes_one::fifth` meets its contract. Assumes nothing.
+use mathlib.Core.Path.{refl}
+use lib.Ieee.{of_bits, of_int}
+use Rattle.number.specs.Arith.{decimal}
+use Rattle.dual.specs.Dual.{pow_d}
+use Rattle.dual.specs.Value.{dual_of}
+use Rattle.number.specs.Power.{pow_up, pow_digits, digits}
+-- `saftvrqmie_alpha_slopes_one::fifth` meets its contract. Assumes nothing.
+use Rattle.saftvrqmie_alpha_slopes_one.proofs.fifth.Statement.{statement}
+use Rattle.saftvrqmie_alpha_slopes_one.proofs.fifth.Tie as tie
+
+returns : tie.Need-returns
+unfolding pow_d pow_up pow_digits digits dual_of decimal of_bits of_int
+returns c = refl
+
+pub fifth_spec : {M : Type 1} → statement M
+fifth_spec =
+    tie.close
+    (tie.spec
+    returns)

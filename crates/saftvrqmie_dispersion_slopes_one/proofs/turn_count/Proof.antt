@@ -1,0 +1,33 @@
+-- `saftvrqmie_dispersion_slopes_one::turn_count` meets its contract. Assumes nothing.
+use borrow.Author.Rules.{rules}
+use Rattle.saftvrqmie_dispersion_slopes_one.proofs.turn_count.Statement.{statement}
+use Rattle.saftvrqmie_dispersion_slopes_one.proofs.turn_count.Tie as tie
+
+enum_told : tie.Need-enum-told
+enum_told c = search rules
+
+enum-told-2 : tie.Need-enum-told-2
+enum-told-2 c = search rules
+
+enum-told-3 : tie.Need-enum-told-3
+enum-told-3 c = search rules
+
+returns : tie.Need-returns
+returns c = rw c.enum_told.given.1
+
+returns-2 : tie.Need-returns-2
+returns-2 c = rw c.enum-told2.given.1
+
+returns-3 : tie.Need-returns-3
+returns-3 c = rw c.enum-told3.given.1
+
+pub turn_count_spec : {M : Type 1} → statement M
+turn_count_spec =
+    tie.close
+    (tie.spec
+    enum_told
+    enum-told-2
+    enum-told-3
+    returns
+    returns-2
+    returns-3)

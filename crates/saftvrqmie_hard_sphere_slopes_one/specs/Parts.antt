@@ -1,0 +1,45 @@
+-- The code's D's, lists and answers as the formulas of saftvrqmie_energies take them at mixed numbers (document 02, Slip 1).
+use Rattle.std.specs.Prelude.{ℕ, ◌+◌, ◌*◌, ◌<◌, Float, get_or, List, ◌≡◌}
+use Rattle.std.specs.Float.{nan}
+use Rattle.number.specs.Ans.{Ans, held, refused}
+use Rattle.number.specs.Lists.{at}
+use Rattle.sizes.specs.Sizes.{sheet}
+use Rattle.dual.specs.declared.Dual.{Dual}
+use Rattle.dual.specs.Value.{dual_of}
+use Rattle.slopes.specs.Mixed.{Mixed, sloped}
+use Rattle.slopes.specs.declared.DualAnswer.{DualAnswer}
+use Rattle.slopes.specs.declared.DualAnswer.TheVariants.{Value, Outside}
+use Rattle.saftvrqmie_energies.specs.HardSphere.{ZetaIn, Zeta23In}
+use Rattle.saftvrqmie_hard_sphere_slopes_one.specs.declared.ZetaSlopes.{ZetaSlopes}
+use Rattle.saftvrqmie_hard_sphere_slopes_one.specs.declared.Zeta23Slopes.{Zeta23Slopes}
+
+-- the code's D
+abbrev pub mixed_of : Dual → Mixed
+mixed_of x = sloped (dual_of x)
+
+-- document 01's number or value of each case of `DualAnswer`
+abbrev pub mixed_answer : DualAnswer → Ans Mixed
+mixed_answer (Value x) = held (mixed_of x)
+mixed_answer Outside = refused 6
+
+-- entry i of a list of D's; beyond the list it is not read
+abbrev pub duals_at : List Dual → ℕ → Mixed
+duals_at l i = mixed_of (get_or l i (record { re = nan; eps = nan }))
+
+-- its first n entries are f 0 to f (n - 1)
+abbrev pub FirstPlaces : ℕ → List Dual → (ℕ → Mixed) → Type 0
+FirstPlaces n l f = (i : ℕ) → i < n → duals_at l i ≡ f i
+
+-- 'each density and each fraction carrying a slope that the caller supplies': entry i of a list with that of its slopes
+unfoldable pub sloped_at : List Float → List Float → ℕ → Mixed
+sloped_at l s i = sloped (record { re = at l i; eps = at s i })
+
+-- sheet k of a table with that of its slopes
+abbrev pub sloped_sheet : List Float → List Float → ℕ → ℕ → Mixed
+sloped_sheet l s k e = sloped_at l s (k * sheet + e)
+
+abbrev pub zeta_in : ZetaSlopes → ZetaIn Mixed
+zeta_in z = record { z0 = mixed_of z.z0; z1 = mixed_of z.z1; z2 = mixed_of z.z2; z3 = mixed_of z.z3 }
+
+abbrev pub zeta23_in : Zeta23Slopes → Zeta23In Mixed
+zeta23_in y = record { y0 = mixed_of y.y0; y1 = mixed_of y.y1 }
