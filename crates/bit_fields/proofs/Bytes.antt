@@ -2,7 +2,7 @@
 use Prim.Native.Nat.{ℕ, zero, suc, ◌+◌, ◌*◌, ◌-◌, ◌/◌, ◌%◌, ◌^◌, ◌≤◌, ◌<◌}
 use native.Mathlib.Nat.{mod-eq_of_lt, mul-mod_left}
 use native.Mathlib.Omega.{arith}
-use lib.Pow.{mod-pow-add, high, shl-shr}
+use lib.Pow.{mod-pow-add, shl-shr}
 use lib.ListN.{length, take, drop, get_or, length-append, length-take, length-drop, take-append-drop, get_or-append}
 use lib.Seq.{drop-cons, take-add, drop-drop, get_or-drop, drop-append-le, take-append-le, take-append-add, take_at, drop_at, drop-nil}
 use mathlib.Core.Path.{◌≡◌, refl, sym, ap, ◌∙◌}

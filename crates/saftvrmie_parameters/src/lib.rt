@@ -32,7 +32,7 @@ pub struct SaftVRMiePars {
     pub sheets: [f64; SHEETS],
 }
 
-#[derive(Clone, Copy)]
+#[derive(Drop)]
 pub struct ParameterSet {
     pub answer: ParameterAnswer,
     pub set: SaftVRMiePars,

@@ -38,7 +38,7 @@ pub struct SaftVRQMiePars {
     pub orders: [OrderRecord; SHEET],
 }
 
-#[derive(Clone, Copy)]
+#[derive(Drop)]
 pub struct ParameterSet {
     pub answer: ParameterAnswer,
     pub set: SaftVRQMiePars,

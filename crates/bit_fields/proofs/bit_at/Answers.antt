@@ -1,7 +1,6 @@
 -- `bit_fields::bit_at` meets its contract. Assumes nothing.
 use mathlib.Core.Path.{sym}
 use Rattle.bit_fields.proofs.Bytes.{bit_in}
-use borrow.Author.Rules.{rules}
 use Rattle.bit_fields.proofs.bit_at.Goals as goal
 
 pub returns : goal.returns

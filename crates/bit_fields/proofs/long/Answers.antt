@@ -2,7 +2,6 @@
 use Prim.Native.Nat.{◌%◌, ◌<◌}
 use native.Mathlib.Omega.{arith}
 use Rattle.bit_fields.proofs.Bytes.{long_whole, long_across, long_fits}
-use borrow.Author.Rules.{rules}
 use Rattle.bit_fields.proofs.long.Goals as goal
 
 pub returns-then-s-eq0 : goal.returns-then-s-eq0

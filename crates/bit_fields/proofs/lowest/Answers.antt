@@ -1,6 +1,5 @@
 -- `bit_fields::lowest` meets its contract. Assumes nothing.
 use Rattle.bit_fields.proofs.Written.{low_part, low_le}
-use borrow.Author.Rules.{rules}
 use Rattle.bit_fields.proofs.lowest.Goals as goal
 
 pub overflow_sub-result : goal.overflow_sub-result

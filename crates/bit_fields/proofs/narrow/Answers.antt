@@ -1,8 +1,7 @@
 -- `bit_fields::narrow` meets its contract. Assumes nothing.
-use Prim.Native.Nat.{◌+◌, ◌-◌, ◌≤◌, ◌<◌}
+use Prim.Native.Nat.{◌+◌, ◌<◌}
 use native.Mathlib.Omega.{arith}
 use mathlib.Core.Path.{◌≡◌, refl}
-use lib.ListN.{take, drop}
 use Rattle.bit_fields.specs.Bits.{numeral, bits_of}
 use Rattle.bit_fields.proofs.Bytes.{bit_below, narrow_next, narrow_fits}
 use borrow.Author.Rules.{rules}

@@ -1,11 +1,8 @@
 -- `bit_fields::narrow` meets its contract. Assumes nothing.
-use Prim.Native.Nat.{◌+◌, ◌-◌, ◌≤◌, ◌<◌}
-use native.Mathlib.Omega.{arith}
-use mathlib.Core.Path.{◌≡◌, refl}
+use Prim.Native.Nat.{◌-◌, ◌≤◌}
+use mathlib.Core.Path.{◌≡◌}
 use lib.ListN.{take, drop}
 use Rattle.bit_fields.specs.Bits.{numeral, bits_of}
-use Rattle.bit_fields.proofs.Bytes.{bit_below, narrow_next, narrow_fits}
-use borrow.Author.Rules.{rules}
 use Rattle.bit_fields.proofs.narrow.Given as goal
 
 abbrev pub invariant-loop-i : goal.invariant-loop-i

@@ -1,7 +1,6 @@
 -- `bit_fields::placed` meets its contract. Assumes nothing.
 use native.Mathlib.Omega.{arith}
 use Rattle.bit_fields.proofs.Written.{mod_le, placed_small, placed_digits}
-use borrow.Author.Rules.{rules}
 use Rattle.bit_fields.proofs.placed.Goals as goal
 
 pub overflow_sub-high : goal.overflow_sub-high

@@ -1,9 +1,6 @@
 -- `bit_fields::put` meets its contract. Assumes nothing.
-use Prim.Native.Nat.{◌/◌, ◌-◌, ◌^◌, ◌≤◌}
 use native.Mathlib.Omega.{arith}
-use mathlib.Core.Path.{◌≡◌}
-use lib.ListN.{length, length-set}
-use Rattle.bit_fields.specs.Bits.{digits, bits_of, over}
+use lib.ListN.{length-set}
 use Rattle.bit_fields.proofs.Written.{put_start, put_next, put_done}
 use borrow.Author.Rules.{rules}
 use Rattle.bit_fields.proofs.put.Goals as goal

@@ -1,11 +1,8 @@
 -- `bit_fields::put` meets its contract. Assumes nothing.
 use Prim.Native.Nat.{◌/◌, ◌-◌, ◌^◌, ◌≤◌}
-use native.Mathlib.Omega.{arith}
 use mathlib.Core.Path.{◌≡◌}
-use lib.ListN.{length, length-set}
+use lib.ListN.{length}
 use Rattle.bit_fields.specs.Bits.{digits, bits_of, over}
-use Rattle.bit_fields.proofs.Written.{put_start, put_next, put_done}
-use borrow.Author.Rules.{rules}
 use Rattle.bit_fields.proofs.put.Given as goal
 
 abbrev pub invariant-loop-left : goal.invariant-loop-left

@@ -1,11 +1,8 @@
 -- `bit_fields::word` meets its contract. Assumes nothing.
-use Prim.Native.Nat.{◌+◌, ◌*◌, ◌-◌, ◌≤◌}
-use native.Mathlib.Omega.{arith}
-use mathlib.Core.Path.{◌≡◌, refl}
+use Prim.Native.Nat.{◌*◌, ◌-◌, ◌≤◌}
+use mathlib.Core.Path.{◌≡◌}
 use lib.ListN.{take, drop}
 use Rattle.bit_fields.specs.Bits.{numeral, bits_of}
-use Rattle.bit_fields.proofs.Bytes.{word_next, word_fits}
-use borrow.Author.Rules.{rules}
 use Rattle.bit_fields.proofs.word.Given as goal
 
 abbrev pub invariant-loop-i : goal.invariant-loop-i

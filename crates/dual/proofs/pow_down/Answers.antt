@@ -3,7 +3,6 @@ use mathlib.Core.Path.{refl}
 use Rattle.number.specs.Arith.{floats}
 use Rattle.dual.specs.Value.{dual_of}
 use Rattle.dual.proofs.Power.{down_zero, down_above}
-use borrow.Author.Rules.{rules}
 use Rattle.dual.proofs.pow_down.Goals as goal
 
 pub returns-then-n-eq0 : goal.returns-then-n-eq0

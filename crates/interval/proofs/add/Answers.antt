@@ -3,7 +3,6 @@ use Rattle.interval.proofs.Near.{sum_usual, above_tests, below_tests, goes_up, g
 use mathlib.Core.Path.{sym, ◌∙◌}
 use mathlib.Core.Bool.{true}
 use Rattle.interval.specs.Interval.{add_i}
-use borrow.Author.Rules.{rules}
 use Rattle.interval.proofs.add.Goals as goal
 
 pub rising-requires : goal.rising-requires

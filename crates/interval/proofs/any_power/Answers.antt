@@ -2,11 +2,9 @@
 use Rattle.interval.specs.Interval.{pow_i}
 use borrow.Author.Rules.{rules}
 use mathlib.Core.Path.{◌≡◌, ◌∙◌}
-use mathlib.Core.Logic.{⊎_elim}
 use borrow.Author.Tests.{eq-eqb, ne_eqb}
-use Rattle.number.specs.Arith.{one64}
-use Rattle.interval.specs.Interval.{mul_i, point}
-use Rattle.number.proofs.Power.{Turn, start, done, times, turn_more, turn_last}
+use Rattle.interval.specs.Interval.{mul_i}
+use Rattle.number.proofs.Power.{start, done, times, turn_more, turn_last}
 use Rattle.interval.proofs.any_power.Goals as goal
 use Rattle.interval.proofs.any_power.Goals.{Joined-left-eq1, then-left-eq1, else-left-eq1}
 

@@ -1,12 +1,7 @@
 -- `interval::any_power` meets its contract. Assumes nothing.
-use Rattle.interval.specs.Interval.{pow_i}
-use borrow.Author.Rules.{rules}
-use mathlib.Core.Path.{◌≡◌, ◌∙◌}
-use mathlib.Core.Logic.{⊎_elim}
-use borrow.Author.Tests.{eq-eqb, ne_eqb}
 use Rattle.number.specs.Arith.{one64}
 use Rattle.interval.specs.Interval.{mul_i, point}
-use Rattle.number.proofs.Power.{Turn, start, done, times, turn_more, turn_last}
+use Rattle.number.proofs.Power.{Turn}
 use Rattle.interval.proofs.any_power.Given as goal
 
 abbrev pub invariant-loop-left : goal.invariant-loop-left

@@ -1,6 +1,5 @@
 -- `interval::around` meets its contract. Assumes nothing.
 use Rattle.interval.specs.Interval.{around}
-use borrow.Author.Rules.{rules}
 use Rattle.interval.proofs.around.Goals as goal
 
 pub returns : goal.returns

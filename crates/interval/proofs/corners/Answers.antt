@@ -1,5 +1,4 @@
 -- `interval::corners` meets its contract. Assumes nothing.
-use borrow.Author.Rules.{rules}
 use Rattle.interval.proofs.corners.Goals as goal
 
 pub returns : goal.returns

@@ -5,7 +5,6 @@ use mathlib.Core.Bool.{true, ◌&&◌}
 use lib.Ieee.{lt, of_bits}
 use Rattle.number.specs.Arith.{zero64}
 use Rattle.interval.specs.Interval.{one_sign, div_i}
-use borrow.Author.Rules.{rules}
 use Rattle.interval.proofs.div.Goals as goal
 
 pub rising-requires : goal.rising-requires

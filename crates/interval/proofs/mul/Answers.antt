@@ -4,7 +4,6 @@ use mathlib.Core.Path.{sym, ◌∙◌}
 use mathlib.Core.Bool.{true}
 use lib.Ieee.{of_bits}
 use Rattle.interval.specs.Interval.{mul_i}
-use borrow.Author.Rules.{rules}
 use Rattle.interval.proofs.mul.Goals as goal
 
 pub rising-requires : goal.rising-requires

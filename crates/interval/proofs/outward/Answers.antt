@@ -1,6 +1,5 @@
 -- `interval::outward` meets its contract. Assumes nothing.
 use Rattle.interval.specs.Interval.{outward}
-use borrow.Author.Rules.{rules}
 use Rattle.interval.proofs.outward.Goals as goal
 
 pub returns : goal.returns

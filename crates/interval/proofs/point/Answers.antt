@@ -1,6 +1,5 @@
 -- `interval::point` meets its contract. Assumes nothing.
 use Rattle.interval.proofs.Points.{point_is}
-use borrow.Author.Rules.{rules}
 use Rattle.interval.proofs.point.Goals as goal
 
 pub returns : goal.returns

@@ -1,6 +1,5 @@
 -- `interval::pow_down` meets its contract. Assumes nothing.
 use Rattle.interval.specs.Interval.{down_i}
-use borrow.Author.Rules.{rules}
 use Rattle.interval.proofs.pow_down.Goals as goal
 
 pub returns : goal.returns

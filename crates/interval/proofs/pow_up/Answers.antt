@@ -1,5 +1,4 @@
 -- `interval::pow_up` meets its contract. Assumes nothing.
-use borrow.Author.Rules.{rules}
 use Rattle.interval.proofs.pow_up.Goals as goal
 
 pub returns-then-n-eq2 : goal.returns-then-n-eq2

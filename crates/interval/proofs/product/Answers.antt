@@ -3,7 +3,6 @@ use Rattle.interval.proofs.Near.{right_chosen, above_tests, below_tests, goes_up
 use mathlib.Core.Bool.{true}
 use mathlib.Core.Path.{sym, ◌∙◌}
 use lib.Ieee.{of_bits}
-use borrow.Author.Rules.{rules}
 use Rattle.interval.proofs.product.Goals as goal
 
 pub rising-requires : goal.rising-requires

@@ -5,7 +5,6 @@ use native.Mathlib.Omega.{arith}
 use lib.Ieee.{binary64, to_bits}
 use Prim.Native.Nat.{◌+◌, ◌-◌}
 use Rattle.interval.proofs.Near.{risen}
-use borrow.Author.Rules.{rules}
 use Rattle.interval.proofs.rising.Goals as goal
 
 pub float_to_bits-p : goal.float_to_bits-p

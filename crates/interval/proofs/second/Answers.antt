@@ -1,6 +1,5 @@
 -- `interval::second` meets its contract. Assumes nothing.
 use Rattle.interval.proofs.Near.{second_is}
-use borrow.Author.Rules.{rules}
 use Rattle.interval.proofs.second.Goals as goal
 
 pub returns : goal.returns

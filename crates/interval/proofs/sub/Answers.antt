@@ -3,7 +3,6 @@ use Rattle.interval.proofs.Near.{difference_usual, above_tests, below_tests, goe
 use mathlib.Core.Path.{sym, ◌∙◌}
 use mathlib.Core.Bool.{true}
 use Rattle.interval.specs.Interval.{sub_i}
-use borrow.Author.Rules.{rules}
 use Rattle.interval.proofs.sub.Goals as goal
 
 pub rising-requires : goal.rising-requires

@@ -1,6 +1,5 @@
 -- `interval::third` meets its contract. Assumes nothing.
 use Rattle.interval.proofs.Near.{third_is}
-use borrow.Author.Rules.{rules}
 use Rattle.interval.proofs.third.Goals as goal
 
 pub returns : goal.returns

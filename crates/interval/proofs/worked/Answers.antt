@@ -1,5 +1,4 @@
 -- `interval::worked` meets its contract. Assumes nothing.
-use borrow.Author.Rules.{rules}
 use Rattle.interval.proofs.worked.Goals as goal
 
 pub returns-in-Sum : goal.returns-in-Sum

@@ -1,6 +1,5 @@
 -- `number::bits_of` meets its contract. Assumes nothing.
 use Rattle.number.proofs.Bits.{own_yes, own_no}
-use Rattle.std.proofs.Common.{rules}
 use Rattle.number.proofs.bits_of.Goals as goal
 
 pub float_to_bits-result : goal.float_to_bits-result

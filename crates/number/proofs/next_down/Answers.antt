@@ -1,5 +1,5 @@
 -- `number::next_down` meets its contract. Assumes nothing.
-use Rattle.std.proofs.Common.{ℕ, not, T, sym, ap, ◌∙◌, subst, rules}
+use Rattle.std.proofs.Common.{ℕ, not, T, sym, ap, ◌∙◌, subst}
 use lib.Ieee.{binary64, fits, nan_bits, of_bits}
 use lib.Ieee.Scale.{finite}
 use Rattle.number.proofs.Rank.{finite_no_nan}

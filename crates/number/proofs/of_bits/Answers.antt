@@ -1,7 +1,6 @@
 -- `number::of_bits` meets its contract. Assumes nothing.
 use lib.Ieee.{div, of_bits}
 use Rattle.number.proofs.Bits.{plain, nan_read}
-use Rattle.std.proofs.Common.{rules}
 use Rattle.number.proofs.of_bits.Goals as goal
 
 pub float_from_bits-result : goal.float_from_bits-result

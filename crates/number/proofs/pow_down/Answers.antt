@@ -1,5 +1,4 @@
 -- `number::pow_down` meets its contract. Assumes nothing.
-use Rattle.std.proofs.Common.{rules}
 use Rattle.number.proofs.pow_down.Goals as goal
 
 pub returns : goal.returns

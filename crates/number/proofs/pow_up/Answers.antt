@@ -1,7 +1,7 @@
 -- `number::pow_up` meets its contract. Assumes nothing.
-use Rattle.std.proofs.Common.{◌≡◌, ⊎_elim, rules, eq-eqb, ne_eqb}
+use Rattle.std.proofs.Common.{◌≡◌, rules, eq-eqb, ne_eqb}
 use Rattle.number.specs.Arith.{floats, one64}
-use Rattle.number.proofs.Power.{Turn, start, done, times, turn_more, turn_last}
+use Rattle.number.proofs.Power.{start, done, times, turn_more, turn_last}
 use Rattle.number.proofs.pow_up.Goals as goal
 use Rattle.number.proofs.pow_up.Goals.{Joined-left-eq1, then-left-eq1, else-left-eq1}
 

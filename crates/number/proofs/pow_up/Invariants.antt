@@ -1,7 +1,6 @@
 -- `number::pow_up` meets its contract. Assumes nothing.
-use Rattle.std.proofs.Common.{◌≡◌, ⊎_elim, rules, eq-eqb, ne_eqb}
 use Rattle.number.specs.Arith.{floats, one64}
-use Rattle.number.proofs.Power.{Turn, start, done, times, turn_more, turn_last}
+use Rattle.number.proofs.Power.{Turn}
 use Rattle.number.proofs.pow_up.Given as goal
 
 abbrev pub invariant-loop-left : goal.invariant-loop-left

@@ -1,5 +1,5 @@
 -- `number::powi` meets its contract. Assumes nothing.
-use Rattle.std.proofs.Common.{◌∙◌, rules}
+use Rattle.std.proofs.Common.{◌∙◌}
 use Rattle.number.specs.Arith.{floats}
 use Rattle.number.proofs.Signed.{fits_cast, fits_minus, fits_down, fits_up, power_down, power_up}
 use Rattle.number.proofs.powi.Goals as goal

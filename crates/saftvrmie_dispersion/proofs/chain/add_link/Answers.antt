@@ -1,0 +1,8 @@
+-- `saftvrmie_dispersion::chain::add_link` meets its contract. Assumes nothing.
+use mathlib.Core.Path.{refl}
+use Rattle.saftvrmie_dispersion.specs.Chain.{add_link}
+use Rattle.saftvrmie_dispersion.proofs.chain.add_link.Goals as goal
+
+pub returns : goal.returns
+unfolding add_link
+returns c = refl

@@ -1,0 +1,21 @@
+-- `saftvrmie_dispersion::chain::k_values` meets its contract. Assumes nothing.
+use Rattle.number.proofs.Walk.{via}
+use Rattle.number.specs.Functions.{answered}
+use lib.Ieee.{of_bits}
+use Rattle.number.specs.Arith.{decimal}
+use Rattle.number.specs.Ans.{◌>>=◌}
+use Rattle.number.specs.Answer.{answer}
+use Rattle.saftvrmie_dispersion.specs.Chain.{k_of}
+use Rattle.saftvrmie_dispersion.proofs.chain.k_values.Goals as goal
+
+pub returns-in_default : goal.returns-in_default
+unfolding k_of ◌>>=◌ answered decimal of_bits
+returns-in_default c = rw
+    (via answer c.ln.ensures c.in_default.is)
+
+pub returns : goal.returns
+unfolding k_of ◌>>=◌ answered decimal of_bits
+returns c = rw (
+  c.pow_up-frac.ensures,
+  via answer c.ln.ensures c.in-Value.is,
+)

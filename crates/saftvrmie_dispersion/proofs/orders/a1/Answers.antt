@@ -1,0 +1,10 @@
+-- `saftvrmie_dispersion::orders::a1` meets its contract. Assumes nothing.
+use mathlib.Core.Path.{refl}
+use lib.Ieee.{of_bits}
+use Rattle.number.specs.Arith.{decimal}
+use Rattle.saftvrmie_dispersion.specs.Terms.{a1_of}
+use Rattle.saftvrmie_dispersion.proofs.orders.a1.Goals as goal
+
+pub returns : goal.returns
+unfolding a1_of decimal of_bits
+returns c = refl

@@ -1,0 +1,28 @@
+-- `saftvrmie_dispersion::orders::a3` meets its contract. Assumes nothing.
+use Rattle.number.proofs.Walk.{via}
+use Rattle.number.specs.Functions.{answered}
+use lib.Ieee.{of_bits}
+use Rattle.number.specs.Arith.{decimal}
+use Rattle.number.specs.Ans.{◌>>=◌}
+use Rattle.number.specs.Answer.{answer}
+use Rattle.saftvrmie_dispersion.specs.Terms.{a3_of}
+use Rattle.saftvrmie_dispersion.proofs.orders.a3.Goals as goal
+
+pub returns-in_default : goal.returns-in_default
+unfolding a3_of ◌>>=◌ answered decimal of_bits
+returns-in_default c = rw (
+  ← c.f-f3.ensures,
+  ← c.f-f4.ensures,
+  ← c.f-f5.ensures,
+  via answer c.exp.ensures c.in_default.is,
+)
+
+pub returns : goal.returns
+unfolding a3_of ◌>>=◌ answered decimal of_bits
+returns c = rw (
+  ← c.f-f3.ensures,
+  ← c.f-f4.ensures,
+  ← c.f-f5.ensures,
+  via answer c.exp.ensures c.in-Value.is,
+  ← c.pow_up.ensures,
+)

@@ -1,0 +1,10 @@
+-- `saftvrmie_parameters::sigma_ij` meets its contract. Assumes nothing.
+use Rattle.saftvrmie_parameters.specs.Combine.{sigma_ij}
+use lib.Ieee.{of_bits}
+use Rattle.number.specs.Arith.{decimal}
+use mathlib.Core.Path.{refl}
+use Rattle.saftvrmie_parameters.proofs.sigma_ij.Goals as goal
+
+pub returns : goal.returns
+unfolding sigma_ij decimal of_bits
+returns c = refl

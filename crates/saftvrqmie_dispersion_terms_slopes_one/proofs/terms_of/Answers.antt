@@ -1,0 +1,20 @@
+-- `saftvrqmie_dispersion_terms_slopes_one::terms_of` meets its contract. Assumes nothing.
+use borrow.Author.Tests.{not-true, not-false}
+use Rattle.number.proofs.Walk.{told}
+use Rattle.number.specs.Ans.{◌>>=◌, demand}
+use Rattle.saftvrqmie_dispersion_terms_slopes_one.specs.Staged.{pair_slopes_of}
+use Rattle.saftvrqmie_dispersion_terms_slopes_one.proofs.Staged.{struct_is}
+use borrow.Author.Rules.{rules}
+use Rattle.saftvrqmie_dispersion_terms_slopes_one.proofs.terms_of.Goals as goal
+
+pub returns-then-not-base_inside : goal.returns-then-not-base_inside
+unfolding pair_slopes_of demand ◌>>=◌
+returns-then-not-base_inside c = rw (told c.base_inside.ensures c.if-not-base_inside.true)
+
+pub returns-then-not-base_inside-2 : goal.returns-then-not-base_inside-2
+unfolding pair_slopes_of demand ◌>>=◌
+returns-then-not-base_inside-2 c = rw (told c.base_inside.ensures c.if-not-base_inside.false, told c.base_inside-2.ensures c.if-not-base_inside-2.true)
+
+pub returns : goal.returns
+unfolding pair_slopes_of demand ◌>>=◌
+returns c = rw (c.log_base-2.ensures, c.log_base.ensures, struct_is _ _ c.factor_i.ensures, struct_is _ _ c.factor_j.ensures, told c.base_inside.ensures c.if-not-base_inside.false, told c.base_inside-2.ensures c.if-not-base_inside-2.false)

@@ -1,0 +1,26 @@
+-- `saftvrqmie_parameters::pair_parameters` meets its contract. Assumes nothing.
+use Rattle.saftvrqmie_parameters.specs.Parameters.{pair_parameters}
+use Rattle.number.specs.Ans.{◌>>=◌}
+use Rattle.number.specs.Answer.{answer}
+use Rattle.number.proofs.Walk.{via}
+use Rattle.saftvrqmie_parameters.proofs.pair_parameters.Goals as goal
+
+pub returns-in_default : goal.returns-in_default
+unfolding pair_parameters ◌>>=◌
+returns-in_default c = rw (← c.sigma_ij-sigma.ensures, via answer c.epsilon_k_ij.ensures c.in_default.is)
+
+pub returns-in_default-lambda_ij : goal.returns-in_default-lambda_ij
+unfolding pair_parameters ◌>>=◌
+returns-in_default-lambda_ij c = rw (← c.sigma_ij-sigma.ensures, via answer c.epsilon_k_ij.ensures c.in-Value.is, via answer c.lambda_ij.ensures c.in_default-lambda_ij.is)
+
+pub returns-in_default-lambda_ij-2 : goal.returns-in_default-lambda_ij-2
+unfolding pair_parameters ◌>>=◌
+returns-in_default-lambda_ij-2 c = rw (← c.sigma_ij-sigma.ensures, via answer c.epsilon_k_ij.ensures c.in-Value.is, via answer c.lambda_ij.ensures c.in-Value-lambda_ij.is, via answer c.lambda_ij-2.ensures c.in_default-lambda_ij-2.is)
+
+pub returns-in_default-c_ij : goal.returns-in_default-c_ij
+unfolding pair_parameters ◌>>=◌
+returns-in_default-c_ij c = rw (← c.sigma_ij-sigma.ensures, via answer c.epsilon_k_ij.ensures c.in-Value.is, via answer c.lambda_ij.ensures c.in-Value-lambda_ij.is, via answer c.lambda_ij-2.ensures c.in-Value-lambda_ij-2.is, via answer c.c_ij.ensures c.in_default-c_ij.is)
+
+pub returns : goal.returns
+unfolding pair_parameters ◌>>=◌
+returns c = rw (c.mass_ij-mass.ensures, ← c.sigma_ij-sigma.ensures, via answer c.epsilon_k_ij.ensures c.in-Value.is, via answer c.lambda_ij.ensures c.in-Value-lambda_ij.is, via answer c.lambda_ij-2.ensures c.in-Value-lambda_ij-2.is, via answer c.c_ij.ensures c.in-Value-c_ij.is)
