@@ -4,6 +4,8 @@
 ghost use Rattle.std.specs.Prelude.{◌<◌};
 
 use sizes::{LISTS, SHEET, SHEETS, SIDE};
+use std::fs::File;
+use std::io::{self, ErrorKind, Read};
 
 fn wide(x: u8) -> usize
     ensures { result < 256 }
@@ -11,18 +13,16 @@ fn wide(x: u8) -> usize
     x as usize
 }
 
-fn print_field(n: u64) {
-    io::write_all(1, b" ");
-    io::print_decimal(1, n);
+fn print_field(rt: &impl Print, n: u64) -> io::Result<()> {
+    print!(rt; " {n}")
 }
 
-fn print_bits(x: f64) {
-    io::write_all(1, b" ");
-    io::print_hex(1, number::bits_of(x), 16);
+fn print_bits(rt: &impl Print, x: f64) -> io::Result<()> {
+    print!(rt; " {:016x}", number::bits_of(x))
 }
 
 // What is told of a refused card is what was lent: model 9, count 99 and zeros.
-fn tried(card: &[u8], newer: bool) {
+fn tried(rt: &impl Print, card: &[u8], newer: bool) -> io::Result<()> {
     let mut model = 9;
     let mut count = 99;
     let mut m = [0.0; SIDE];
@@ -40,72 +40,86 @@ fn tried(card: &[u8], newer: bool) {
         &mut orders,
     );
     let number = mie_parameters::number(answer);
-    io::print_decimal(1, number as u64);
-    print_field(model as u64);
-    print_field(count as u64);
-    print_bits(sheets[0]);
-    print_bits(sheets[1]);
-    io::write_all(1, b"\n");
+    print!(rt; "{number}")?;
+    print_field(rt, model as u64)?;
+    print_field(rt, count as u64)?;
+    print_bits(rt, sheets[0])?;
+    print_bits(rt, sheets[1])?;
+    println!(rt; "")
 }
 
-fn print_byte(x: u8) {
-    io::print_hex(1, x as u64, 2);
+fn print_byte(rt: &impl Print, x: u8) -> io::Result<()> {
+    print!(rt; "{x:02x}")
 }
 
-fn print_bytes(list: &[u8]) {
+fn print_bytes(rt: &impl Print, list: &[u8]) -> io::Result<()> {
     for k in 0usize..list.len() {
-        print_byte(list[k]);
+        print_byte(rt, list[k])?;
     }
+    Ok(())
 }
 
 // What is told of a refused card is what was lent: length 9999, and each byte a5.
-fn told(number: u8, length: usize, list: &[u8]) {
-    io::print_decimal(1, number as u64);
-    print_field(length as u64);
-    io::write_all(1, b" ");
-    print_bytes(list);
-    io::write_all(1, b"\n");
+fn told(rt: &impl Print, number: u8, length: usize, list: &[u8]) -> io::Result<()> {
+    print!(rt; "{number}")?;
+    print_field(rt, length as u64)?;
+    print!(rt; " ")?;
+    print_bytes(rt, list)?;
+    println!(rt; "")
 }
 
-fn moved(card: &[u8], newer: bool, list: &mut [u8]) {
+fn moved(rt: &impl Print, card: &[u8], newer: bool, list: &mut [u8]) -> io::Result<()> {
     let mut length = 9999;
     let answer = card_writer::moved(card, newer, list, &mut length);
-    told(mie_parameters::number(answer), length, list);
+    told(rt, mie_parameters::number(answer), length, list)
+}
+
+// Whether a whole record could be read before the end.
+fn is_read(file: &mut impl Read, record: &mut [u8]) -> io::Result<bool> {
+    match file.read_exact(record) {
+        Ok(()) => Ok(true),
+        Err(e) => {
+            if e.kind() == ErrorKind::UnexpectedEof {
+                return Ok(false);
+            }
+            Err(e)
+        }
+    }
 }
 
 // Whether there was a record.
-fn one(fd: i32) -> bool {
+fn one(rt: &impl Print, file: &mut impl Read) -> io::Result<bool> {
     let mut record = [0u8; 1600];
-    let n = io::read_full(fd, &mut record);
-    if n != 1600 {
-        return false;
+    if !is_read(file, &mut record)? {
+        return Ok(false);
     }
     let end = 8 + wide(record[0]) + 256 * wide(record[1]);
     let room = wide(record[4]) + 256 * wide(record[5]);
     if 1600 < end {
-        return false;
+        return Ok(false);
     }
     if 1600 < room {
-        return false;
+        return Ok(false);
     }
     let task = record[2];
     if task < 2 {
-        tried(&record[8..end], task == 1);
-        return true;
+        tried(rt, &record[8..end], task == 1)?;
+        return Ok(true);
     }
     let mut list = [0xa5u8; 1600];
-    moved(&record[8..end], task == 3, &mut list[0..room]);
-    true
+    moved(rt, &record[8..end], task == 3, &mut list[0..room])?;
+    Ok(true)
 }
 
-fn all(fd: i32) {
+fn all(rt: &impl Print, file: &mut impl Read) -> io::Result<()> {
     let mut turns: u64 = 100000;
     while turns > 0 {
         turns -= 1;
-        if !one(fd) {
-            return;
+        if !one(rt, file)? {
+            return Ok(());
         }
     }
+    Ok(())
 }
 
 // ---- cards that are written
@@ -178,58 +192,47 @@ fn mie_card(f: &[f64], list: &mut [u8], length: &mut usize) -> u8 {
     mie_parameters::number(answer)
 }
 
-fn written(f: &[f64], order: &[u8], list: &mut [u8]) {
+fn written(rt: &impl Print, f: &[f64], order: &[u8], list: &mut [u8]) -> io::Result<()> {
     let mut length = 9999;
     if case_arguments::whole_at(f, 1) == 1 {
         let number = mie_card(f, list, &mut length);
-        told(number, length, list);
-        return;
+        return told(rt, number, length, list);
     }
     let number = quantum_card(f, order, list, &mut length);
-    told(number, length, list);
+    told(rt, number, length, list)
 }
 
 // Whether there was a record.
-fn one_written(fd: i32) -> bool {
+fn one_written(rt: &impl Print, file: &mut impl Read) -> io::Result<bool> {
     let mut record = [0u8; RECORD];
-    let n = io::read_full(fd, &mut record);
-    if n != RECORD {
-        return false;
+    if !is_read(file, &mut record)? {
+        return Ok(false);
     }
     let f = floats(&record);
     let room = case_arguments::whole_at(&f, 2);
     if 1600 < room {
-        return false;
+        return Ok(false);
     }
     let mut list = [0xa5u8; 1600];
     let order = case_arguments::bytes(&record, 400, case_arguments::whole_at(&f, 23));
-    written(&f, order, &mut list[0..room]);
-    true
+    written(rt, &f, order, &mut list[0..room])?;
+    Ok(true)
 }
 
-fn all_written(fd: i32) {
+fn all_written(rt: &impl Print, file: &mut impl Read) -> io::Result<()> {
     let mut turns: u64 = 100000;
     while turns > 0 {
         turns -= 1;
-        if !one_written(fd) {
-            return;
+        if !one_written(rt, file)? {
+            return Ok(());
         }
     }
+    Ok(())
 }
 
-fn main() {
-    let fd = os::open_read(b"cards.bin");
-    if fd < 0 {
-        os::fail(b"cards.bin");
-        return;
-    }
-    all(fd);
-    libc::close(fd);
-    let written = os::open_read(b"written.bin");
-    if written < 0 {
-        os::fail(b"written.bin");
-        return;
-    }
-    all_written(written);
-    libc::close(written);
+fn main(rt: HostRuntime) -> io::Result<()> {
+    let mut cards = File::open(&rt, "cards.bin")?;
+    all(&rt, &mut cards)?;
+    let mut written = File::open(&rt, "written.bin")?;
+    all_written(&rt, &mut written)
 }

@@ -6,6 +6,9 @@ ghost use Rattle.std.specs.Prelude.{◌<◌, ◌≤◌};
 mod mie;
 mod quantum;
 
+use std::fs::File;
+use std::io::{self, ErrorKind, Read};
+
 // ---- lines
 
 // Places for floats and for bytes: what is read, and each list that is lent.
@@ -67,22 +70,28 @@ fn fill_bytes(l: &mut [u8; BYTES], line: &[u8; 32]) {
 }
 
 // The 24 bytes after the first word.
-fn name(line: &[u8]) {
+fn name(rt: &impl Print, line: &[u8]) -> io::Result<()> {
     if line.len() == 32 {
-        io::write_all(1, &line[8..32]);
+        rt.write_all(&line[8..32])?;
     }
+    Ok(())
 }
 
-fn written(line: &[u8; 32]) {
-    name(line);
+fn written(rt: &impl Print, line: &[u8; 32]) -> io::Result<()> {
+    name(rt, line)
 }
 
 // What a line says of what is read: 0 a name's next 24 bytes, 1 floats, 2 bytes.
-fn put_read(line: &[u8; 32], f: &mut [f64; FLOATS], b: &mut [u8; BYTES]) {
+fn put_read(
+    rt: &impl Print,
+    line: &[u8; 32],
+    f: &mut [f64; FLOATS],
+    b: &mut [u8; BYTES],
+) -> io::Result<()> {
     let kind = word(line, 0);
     match kind {
         0 => {
-            written(line);
+            written(rt, line)?;
         }
         1 => {
             fill(f, line);
@@ -92,6 +101,7 @@ fn put_read(line: &[u8; 32], f: &mut [f64; FLOATS], b: &mut [u8; BYTES]) {
         }
         _ => {}
     }
+    Ok(())
 }
 
 // What a line says of what is lent: 3 and 4 floats, 5 bytes.
@@ -194,51 +204,52 @@ fn other_byte(a: &[u8; BYTES], b: &[u8; BYTES]) -> usize {
 }
 
 // What is given at a place of a list, and what is not.
-fn differs(label: &[u8], at: usize, given: u64, expected: u64) {
-    io::write_all(1, label);
-    io::print_decimal(1, at as u64);
-    io::write_all(1, b": ");
-    io::print_hex(1, given, 16);
-    io::write_all(1, b", not ");
-    io::print_hex(1, expected, 16);
-    io::write_all(1, b"\n");
+fn differs(rt: &impl Print, label: &str, at: usize, given: u64, expected: u64) -> io::Result<()> {
+    println!(rt; "{label}{at}: {given:016x}, not {expected:016x}")
 }
 
-fn same_number(given: u8, f: &[f64; FLOATS]) -> bool {
+fn same_number(rt: &impl Print, given: u8, f: &[f64; FLOATS]) -> io::Result<bool> {
     let expected = case_arguments::whole_at(f, 1) as u64;
     if wide(given) == expected {
-        return true;
+        return Ok(true);
     }
     differs(
-        b"\n    DIFFERS in the number, place ",
+        rt,
+        "\n    DIFFERS in the number, place ",
         0,
         wide(given),
         expected,
-    );
-    false
+    )?;
+    Ok(false)
 }
 
-fn same_floats(label: &[u8], a: &[f64; FLOATS], b: &[f64; FLOATS]) -> bool {
+fn same_floats(
+    rt: &impl Print,
+    label: &str,
+    a: &[f64; FLOATS],
+    b: &[f64; FLOATS],
+) -> io::Result<bool> {
     let k = other_float(a, b);
     if k < FLOATS {
-        differs(label, k, number::bits_of(a[k]), number::bits_of(b[k]));
-        return false;
+        differs(rt, label, k, number::bits_of(a[k]), number::bits_of(b[k]))?;
+        return Ok(false);
     }
-    true
+    Ok(true)
 }
 
-fn same_bytes(a: &[u8; BYTES], b: &[u8; BYTES]) -> bool {
+fn same_bytes(rt: &impl Print, a: &[u8; BYTES], b: &[u8; BYTES]) -> io::Result<bool> {
     let k = other_byte(a, b);
     if k < BYTES {
         differs(
-            b"\n    DIFFERS in the bytes, place ",
+            rt,
+            "\n    DIFFERS in the bytes, place ",
             k,
             wide(a[k]),
             wide(b[k]),
-        );
-        return false;
+        )?;
+        return Ok(false);
     }
-    true
+    Ok(true)
 }
 
 // The lists that are lent, cut to their lengths.
@@ -269,11 +280,11 @@ fn called(
 }
 
 // The last call of a case ends its line.
-fn ended(line: &[u8; 32], n: u8) {
+fn ended(rt: &impl Print, line: &[u8; 32], n: u8) -> io::Result<()> {
     if word(line, 2) == 1 {
-        io::print_decimal(1, wide(n));
-        io::write_all(1, b"\n");
+        println!(rt; "{n}")?;
     }
+    Ok(())
 }
 
 #[derive(Drop)]
@@ -298,16 +309,24 @@ fn noted(tally: Tally, same: bool) -> Tally {
     t
 }
 
-fn next_line(fd: i32, line: &mut [u8; 32]) -> bool {
-    let n = io::read_full(fd, line);
-    n == 32
+// Whether the whole line could be read before the end.
+fn next_line(file: &mut impl Read, line: &mut [u8; 32]) -> io::Result<bool> {
+    match file.read_exact(line) {
+        Ok(()) => Ok(true),
+        Err(e) => {
+            if e.kind() == ErrorKind::UnexpectedEof {
+                return Ok(false);
+            }
+            Err(e)
+        }
+    }
 }
 
 fn is_call(line: &[u8; 32]) -> bool {
     word(line, 0) == 9
 }
 
-fn run(fd: i32) -> Tally {
+fn run(rt: &impl Print, file: &mut impl Read) -> io::Result<Tally> {
     let mut line = [0u8; 32];
     let mut f = [0.0; FLOATS];
     let mut b = [0u8; BYTES];
@@ -319,35 +338,27 @@ fn run(fd: i32) -> Tally {
     let mut z_left = [0u8; BYTES];
     let mut t = Tally { calls: 0, other: 0 };
     for turn in 0usize..10000000 {
-        if !next_line(fd, &mut line) {
-            return t;
+        if !next_line(file, &mut line)? {
+            return Ok(t);
         }
-        put_read(&line, &mut f, &mut b);
+        put_read(rt, &line, &mut f, &mut b)?;
         put_lent(&line, &mut x, &mut y, &mut z);
         put_left(&line, &mut x_left, &mut y_left, &mut z_left);
         if is_call(&line) {
             let n = called(&f, &b, &mut x, &mut y, &mut z);
-            let same = same_number(n, &f)
-                & same_floats(b"\n    DIFFERS in the first list, place ", &x, &x_left)
-                & same_floats(b"\n    DIFFERS in the second list, place ", &y, &y_left)
-                & same_bytes(&z, &z_left);
-            ended(&line, n);
+            let same = same_number(rt, n, &f)?
+                & same_floats(rt, "\n    DIFFERS in the first list, place ", &x, &x_left)?
+                & same_floats(rt, "\n    DIFFERS in the second list, place ", &y, &y_left)?
+                & same_bytes(rt, &z, &z_left)?;
+            ended(rt, &line, n)?;
             t = noted(t, same);
         }
     }
-    t
+    Ok(t)
 }
 
-fn main() {
-    let fd = os::open_read(b"cases.bin");
-    if fd < 0 {
-        os::fail(b"cases.bin");
-        return;
-    }
-    let t = run(fd);
-    libc::close(fd);
-    io::print_decimal(1, t.calls);
-    io::write_all(1, b" calls, ");
-    io::print_decimal(1, t.other);
-    io::write_all(1, b" differ\n");
+fn main(rt: HostRuntime) -> io::Result<()> {
+    let mut file = File::open(&rt, "cases.bin")?;
+    let t = run(&rt, &mut file)?;
+    println!(rt; "{} calls, {} differ", t.calls, t.other)
 }

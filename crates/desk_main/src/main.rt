@@ -5,6 +5,8 @@ ghost use Rattle.std.specs.Prelude.{◌<◌};
 
 use desk::{BYTES, FLOATS};
 use sizes::{SHEET, SHEETS, SIDE};
+use std::fs::File;
+use std::io::{self, ErrorKind, Read};
 
 fn wide(x: u8) -> u64
     ensures { result < 256 }
@@ -36,14 +38,12 @@ fn float_at(b: &[u8; 64], k: usize) -> f64 {
     )
 }
 
-fn print_field(n: u64) {
-    io::write_all(1, b" ");
-    io::print_decimal(1, n);
+fn print_field(rt: &impl Print, n: u64) -> io::Result<()> {
+    print!(rt; " {n}")
 }
 
-fn print_bits(x: f64) {
-    io::write_all(1, b" ");
-    io::print_hex(1, number::bits_of(x), 16);
+fn print_bits(rt: &impl Print, x: f64) -> io::Result<()> {
+    print!(rt; " {:016x}", number::bits_of(x))
 }
 
 // All pairs alike, but for one place.
@@ -90,15 +90,20 @@ fn part(l: &[f64], n: usize) -> &[f64] {
     &l[0..0]
 }
 
-fn begin(floats: &mut [f64], bytes: &mut [u8]) {
+fn begin(rt: &impl Print, floats: &mut [f64], bytes: &mut [u8]) -> io::Result<()> {
     let answer = desk_calls::begin(floats, bytes);
-    io::write_all(1, b"begin");
-    print_field(wide(answer));
-    io::write_all(1, b"\n");
+    print!(rt; "begin")?;
+    print_field(rt, wide(answer))?;
+    println!(rt; "")
 }
 
 // What is told of a refused query is what was lent, 99.
-fn submit(record: &[u8; 64], floats: &mut [f64], bytes: &mut [u8]) {
+fn submit(
+    rt: &impl Print,
+    record: &[u8; 64],
+    floats: &mut [f64],
+    bytes: &mut [u8],
+) -> io::Result<()> {
     let sheets = sheets_of(record);
     let orders = [record[5]; SHEET];
     let m = [1.0; SIDE];
@@ -118,14 +123,14 @@ fn submit(record: &[u8; 64], floats: &mut [f64], bytes: &mut [u8]) {
         record[4] != 0,
         &mut place,
     );
-    io::write_all(1, b"submit");
-    print_field(wide(answer));
-    print_field(place as u64);
-    io::write_all(1, b"\n");
+    print!(rt; "submit")?;
+    print_field(rt, wide(answer))?;
+    print_field(rt, place as u64)?;
+    println!(rt; "")
 }
 
 // What is not told is what was lent: 9, 99, 9 and zeros.
-fn serve(floats: &mut [f64], bytes: &mut [u8]) {
+fn serve(rt: &impl Print, floats: &mut [f64], bytes: &mut [u8]) -> io::Result<()> {
     let mut outcome = 9;
     let mut place = 99;
     let mut number = 9;
@@ -138,75 +143,91 @@ fn serve(floats: &mut [f64], bytes: &mut [u8]) {
         &mut number,
         &mut out,
     );
-    io::write_all(1, b"serve");
-    print_field(wide(answer));
-    print_field(wide(outcome));
-    print_field(place as u64);
-    print_field(wide(number));
-    print_bits(out[0]);
-    print_bits(out[1]);
-    print_bits(out[2]);
-    io::write_all(1, b"\n");
+    print!(rt; "serve")?;
+    print_field(rt, wide(answer))?;
+    print_field(rt, wide(outcome))?;
+    print_field(rt, place as u64)?;
+    print_field(rt, wide(number))?;
+    print_bits(rt, out[0])?;
+    print_bits(rt, out[1])?;
+    print_bits(rt, out[2])?;
+    println!(rt; "")
 }
 
 // 0 begins the desk, 1 submits, all else serves.
-fn called(record: &[u8; 64], floats: &mut [f64], bytes: &mut [u8]) {
+fn called(
+    rt: &impl Print,
+    record: &[u8; 64],
+    floats: &mut [f64],
+    bytes: &mut [u8],
+) -> io::Result<()> {
     if record[0] == 0 {
-        begin(floats, bytes);
-        return;
+        return begin(rt, floats, bytes);
     }
     if record[0] == 1 {
-        submit(record, floats, bytes);
-        return;
+        return submit(rt, record, floats, bytes);
     }
-    serve(floats, bytes);
+    serve(rt, floats, bytes)
 }
 
 // A call on the whole desk, or on lists of which one is short: by the last byte of the first word.
-fn one(record: &[u8; 64], floats: &mut [f64], bytes: &mut [u8]) {
+fn one(rt: &impl Print, record: &[u8; 64], floats: &mut [f64], bytes: &mut [u8]) -> io::Result<()> {
     let n = floats.len();
     if record[7] == 1 {
         if 1 <= n {
-            called(record, &mut floats[1..n], bytes);
+            called(rt, record, &mut floats[1..n], bytes)?;
         }
-        return;
+        return Ok(());
     }
     let b = bytes.len();
     if record[7] == 2 {
         if 1 <= b {
-            called(record, floats, &mut bytes[1..b]);
+            called(rt, record, floats, &mut bytes[1..b])?;
         }
-        return;
+        return Ok(());
     }
-    called(record, floats, bytes);
+    called(rt, record, floats, bytes)
 }
 
-fn worked(record: &[u8; 64], floats: &mut [f64; FLOATS], bytes: &mut [u8; BYTES]) {
-    one(record, floats, bytes)
+fn worked(
+    rt: &impl Print,
+    record: &[u8; 64],
+    floats: &mut [f64; FLOATS],
+    bytes: &mut [u8; BYTES],
+) -> io::Result<()> {
+    one(rt, record, floats, bytes)
+}
+
+// Whether a whole record could be read before the end.
+fn is_read(file: &mut impl Read, record: &mut [u8]) -> io::Result<bool> {
+    match file.read_exact(record) {
+        Ok(()) => Ok(true),
+        Err(e) => {
+            if e.kind() == ErrorKind::UnexpectedEof {
+                return Ok(false);
+            }
+            Err(e)
+        }
+    }
 }
 
 // The desk is begun over other bits.
-fn all(fd: i32) {
+fn all(rt: &impl Print, file: &mut impl Read) -> io::Result<()> {
     let mut floats = [1.5; FLOATS];
     let mut bytes = [1u8; BYTES];
     let mut turns: u64 = 100000;
     while turns > 0 {
         turns -= 1;
         let mut record = [0u8; 64];
-        let n = io::read_full(fd, &mut record);
-        if n != 64 {
-            return;
+        if !is_read(file, &mut record)? {
+            return Ok(());
         }
-        worked(&record, &mut floats, &mut bytes);
+        worked(rt, &record, &mut floats, &mut bytes)?;
     }
+    Ok(())
 }
 
-fn main() {
-    let fd = os::open_read(b"calls.bin");
-    if fd < 0 {
-        os::fail(b"calls.bin");
-        return;
-    }
-    all(fd);
-    libc::close(fd);
+fn main(rt: HostRuntime) -> io::Result<()> {
+    let mut file = File::open(&rt, "calls.bin")?;
+    all(&rt, &mut file)
 }

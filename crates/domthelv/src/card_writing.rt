@@ -8,8 +8,7 @@ ghost use Rattle.card_writer.specs.Writing.{CardRoom, card_moved};
 ghost use Rattle.card_of_lists.specs.Cards.{vrq_card, vr_card};
 
 // The older card of a quantum fluid into a lent list, and its length. The parameters' 1, 2, 3, 4 or 5, then 10 for more than eight components, then 12.
-#[unsafe(no_mangle)]
-pub extern "C" fn domthelv_vrq_card(
+pub fn domthelv_vrq_card(
     count: usize,
     m: &[f64],
     sigma: &[f64],
@@ -47,8 +46,7 @@ pub extern "C" fn domthelv_vrq_card(
 }
 
 // The older card of a fluid of SAFT-VR Mie likewise. The parameters' 1, 2, then 10, then 12.
-#[unsafe(no_mangle)]
-pub extern "C" fn domthelv_vr_card(
+pub fn domthelv_vr_card(
     count: usize,
     m: &[f64],
     sigma: &[f64],
@@ -82,8 +80,7 @@ pub extern "C" fn domthelv_vr_card(
 }
 
 // An older card as a newer one, and its length. 9, 10, 11, then 12.
-#[unsafe(no_mangle)]
-pub extern "C" fn domthelv_card_to_newer(card: &[u8], newer: &mut [u8], length: &mut usize) -> u8
+pub fn domthelv_card_to_newer(card: &[u8], newer: &mut [u8], length: &mut usize) -> u8
     ensures { let l : CardRoom = record { card = newer.old; length = length.old } in
         let q = card_moved Card.older Card.newer_form card.entry.now l in
         (result ≡ status q) × (newer.new ≡ (stored l q).card) × (length.new ≡ (stored l q).length) }
@@ -93,8 +90,7 @@ pub extern "C" fn domthelv_card_to_newer(card: &[u8], newer: &mut [u8], length: 
 }
 
 // A newer card as an older one, and its length. 9, 10, 15, 11, then 16 for more than eight components, then 12.
-#[unsafe(no_mangle)]
-pub extern "C" fn domthelv_card_to_older(card: &[u8], older: &mut [u8], length: &mut usize) -> u8
+pub fn domthelv_card_to_older(card: &[u8], older: &mut [u8], length: &mut usize) -> u8
     ensures { let l : CardRoom = record { card = older.old; length = length.old } in
         let q = card_moved Card.newer_form Card.older card.entry.now l in
         (result ≡ status q) × (older.new ≡ (stored l q).card) × (length.new ≡ (stored l q).length) }

@@ -5,8 +5,7 @@ ghost use Rattle.card.specs.Card.{older, newer_form};
 ghost use Rattle.card_parameters.specs.Parameters.{CardLent, card_parameters};
 
 // From a card to the parameters: its model (0 quantum, 1 SAFT-VR Mie), its count, and the set in the lists of that model; lists of the other keep their bits. 1, 9, 10, 11, then the parameters' 2, 3, 4 or 5, 6.
-#[unsafe(no_mangle)]
-pub extern "C" fn domthelv_card_parameters(
+pub fn domthelv_card_parameters(
     card: &[u8],
     model: &mut u8,
     count: &mut usize,
@@ -35,8 +34,7 @@ pub extern "C" fn domthelv_card_parameters(
 }
 
 // The same from a newer card, of up to twelve components; the model is told as of the older. 1; 9, 10 and 15 as the fields come; 11, then the parameters' 2, 3, 4 or 5, 6.
-#[unsafe(no_mangle)]
-pub extern "C" fn domthelv_newer_card_parameters(
+pub fn domthelv_newer_card_parameters(
     card: &[u8],
     model: &mut u8,
     count: &mut usize,

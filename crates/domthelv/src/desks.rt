@@ -9,8 +9,7 @@ ghost use Rattle.desk.specs.Desk.{begun, submitted};
 ghost use Rattle.desk_calls.specs.Calls.{Lent, served_call};
 
 // A desk with no query. 1 for a list of another length.
-#[unsafe(no_mangle)]
-pub extern "C" fn domthelv_desk_begin(floats: &mut [f64], bytes: &mut [u8]) -> u8
+pub fn domthelv_desk_begin(floats: &mut [f64], bytes: &mut [u8]) -> u8
     ensures { let l : Lists = record { floats = floats.entry.now; bytes = bytes.old } in
         (result ≡ status (begun l)) × (record { floats = floats.exit.now; bytes = bytes.new } ≡ stored l (begun l)) }
 {
@@ -18,8 +17,7 @@ pub extern "C" fn domthelv_desk_begin(floats: &mut [f64], bytes: &mut [u8]) -> u
 }
 
 // A query takes the lowest free place and is told it. 1, 4, 2, then 17 where all are occupied.
-#[unsafe(no_mangle)]
-pub extern "C" fn domthelv_desk_submit(
+pub fn domthelv_desk_submit(
     floats: &mut [f64],
     bytes: &mut [u8],
     count: usize,
@@ -54,8 +52,7 @@ pub extern "C" fn domthelv_desk_submit(
 }
 
 // One unit for the next occupied place above the one served last; `outcome` 0 where no query was waiting, 1 for a unit, 2 for a finished query with its place and number, 0 with energies. 1 for a list of another length.
-#[unsafe(no_mangle)]
-pub extern "C" fn domthelv_desk_serve(
+pub fn domthelv_desk_serve(
     floats: &mut [f64],
     bytes: &mut [u8],
     outcome: &mut u8,

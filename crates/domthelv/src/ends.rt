@@ -25,8 +25,7 @@ pub fn write_ends(e: EnergiesEnds, out: &mut [f64])
 }
 
 // Two ends of the quantum energies: low and high end of each. 1, 4, then 2, 6, 7, 8.
-#[unsafe(no_mangle)]
-pub extern "C" fn domthelv_vrq_energies_ends(
+pub fn domthelv_vrq_energies_ends(
     count: usize,
     m: &[f64],
     sheets: &[f64],
@@ -82,8 +81,7 @@ fn write_pair(e: Ends, out: &mut [f64])
 }
 
 // Two ends of a pair's diameter from its searched radii. 1, 4, then 2, 6, 7, 8.
-#[unsafe(no_mangle)]
-pub extern "C" fn domthelv_vrq_diameter_ends(
+pub fn domthelv_vrq_diameter_ends(
     count: usize,
     m: &[f64],
     sheets: &[f64],
@@ -126,8 +124,7 @@ pub extern "C" fn domthelv_vrq_diameter_ends(
 }
 
 // Two ends of dispersion, with the chain where it is wanted. 1, 2, 6, 7, 8.
-#[unsafe(no_mangle)]
-pub extern "C" fn domthelv_vr_dispersion_ends(
+pub fn domthelv_vr_dispersion_ends(
     count: usize,
     lists: &[f64],
     sheets: &[f64],
@@ -167,8 +164,7 @@ pub extern "C" fn domthelv_vr_dispersion_ends(
 }
 
 // Two ends of a pair's diameter from its reduced lower limit. 1, 2, 6, 7, 8.
-#[unsafe(no_mangle)]
-pub extern "C" fn domthelv_vr_diameter_ends(
+pub fn domthelv_vr_diameter_ends(
     count: usize,
     lists: &[f64],
     sheets: &[f64],

@@ -22,58 +22,50 @@ fn deliver(a: FloatAnswer, out: &mut f64) -> u8
 }
 
 // The elementary functions: 6 if the argument is outside, else the value of its definition, which keeps what document 01 promises.
-#[unsafe(no_mangle)]
-pub extern "C" fn domthelv_sqrt(x: f64, out: &mut f64) -> u8
+pub fn domthelv_sqrt(x: f64, out: &mut f64) -> u8
     ensures { Delivers (SqrtAt x) (port.sqrt x) result out.old out.new }
 {
     deliver(elementary::sqrt(x), out)
 }
 
-#[unsafe(no_mangle)]
-pub extern "C" fn domthelv_ln(x: f64, out: &mut f64) -> u8
+pub fn domthelv_ln(x: f64, out: &mut f64) -> u8
     ensures { Delivers (LnAt x) (port.ln x) result out.old out.new }
 {
     deliver(elementary::ln(x), out)
 }
 
-#[unsafe(no_mangle)]
-pub extern "C" fn domthelv_ln_1p(x: f64, out: &mut f64) -> u8
+pub fn domthelv_ln_1p(x: f64, out: &mut f64) -> u8
     ensures { Delivers (Ln1pAt x) (port.ln1p x) result out.old out.new }
 {
     deliver(elementary::ln_1p(x), out)
 }
 
-#[unsafe(no_mangle)]
-pub extern "C" fn domthelv_exp(x: f64, out: &mut f64) -> u8
+pub fn domthelv_exp(x: f64, out: &mut f64) -> u8
     ensures { Delivers (ExpAt x) (port.exp x) result out.old out.new }
 {
     deliver(elementary::exp(x), out)
 }
 
-#[unsafe(no_mangle)]
-pub extern "C" fn domthelv_exp_m1(x: f64, out: &mut f64) -> u8
+pub fn domthelv_exp_m1(x: f64, out: &mut f64) -> u8
     ensures { Delivers (ExpM1At x) (port.expm1 x) result out.old out.new }
 {
     deliver(elementary::exp_m1(x), out)
 }
 
-#[unsafe(no_mangle)]
-pub extern "C" fn domthelv_tanh(x: f64, out: &mut f64) -> u8
+pub fn domthelv_tanh(x: f64, out: &mut f64) -> u8
     ensures { Delivers (TanhAt x) (port.tanh x) result out.old out.new }
 {
     deliver(elementary::tanh(x), out)
 }
 
-#[unsafe(no_mangle)]
-pub extern "C" fn domthelv_powf(base: f64, exponent: f64, out: &mut f64) -> u8
+pub fn domthelv_powf(base: f64, exponent: f64, out: &mut f64) -> u8
     ensures { Delivers (PowfAt base exponent) (port.powf base exponent) result out.old out.new }
 {
     deliver(elementary::powf(base, exponent), out)
 }
 
 // The whole power, total.
-#[unsafe(no_mangle)]
-pub extern "C" fn domthelv_powi(x: f64, n: i32) -> f64
+pub fn domthelv_powi(x: f64, n: i32) -> f64
     ensures { result ≡ Arith.powi floats x n }
 {
     number::powi(x, n)

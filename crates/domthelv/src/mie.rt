@@ -12,8 +12,7 @@ use saftvrmie_energies::EnergyAnswer;
 use sizes::SIDE;
 
 // Parameters of SAFT-VR Mie. 1, 2, 6.
-#[unsafe(no_mangle)]
-pub extern "C" fn domthelv_vr_parameters(
+pub fn domthelv_vr_parameters(
     count: usize,
     m: &[f64],
     sigma: &[f64],
@@ -56,8 +55,7 @@ pub extern "C" fn domthelv_vr_parameters(
 }
 
 // The components' diameters. 1, 2, 6, 7.
-#[unsafe(no_mangle)]
-pub extern "C" fn domthelv_vr_diameters(
+pub fn domthelv_vr_diameters(
     count: usize,
     lists: &[f64],
     sheets: &[f64],
@@ -77,8 +75,7 @@ pub extern "C" fn domthelv_vr_diameters(
 }
 
 // One pair's reduced lower limit. 1, 2, 6.
-#[unsafe(no_mangle)]
-pub extern "C" fn domthelv_vr_radius(
+pub fn domthelv_vr_radius(
     count: usize,
     lists: &[f64],
     sheets: &[f64],
@@ -106,8 +103,7 @@ pub extern "C" fn domthelv_vr_radius(
 }
 
 // One pair's diameter from its reduced lower limit. 1, 2, 6, 7.
-#[unsafe(no_mangle)]
-pub extern "C" fn domthelv_vr_diameter(
+pub fn domthelv_vr_diameter(
     count: usize,
     lists: &[f64],
     sheets: &[f64],
@@ -136,8 +132,7 @@ pub extern "C" fn domthelv_vr_diameter(
 }
 
 // Dispersion, with the chain where it is wanted. 1, 2, 6, 7.
-#[unsafe(no_mangle)]
-pub extern "C" fn domthelv_vr_dispersion(
+pub fn domthelv_vr_dispersion(
     count: usize,
     lists: &[f64],
     sheets: &[f64],
@@ -185,8 +180,7 @@ pub extern "C" fn domthelv_vr_dispersion(
 }
 
 // From component lists to dispersion, with the chain where it is wanted and diameters of its own. The parameters' refusals, the diameters', the energy's.
-#[unsafe(no_mangle)]
-pub extern "C" fn domthelv_vr_stage(
+pub fn domthelv_vr_stage(
     count: usize,
     m: &[f64],
     sigma: &[f64],

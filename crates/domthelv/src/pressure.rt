@@ -6,8 +6,7 @@ ghost use Rattle.slopes_lists.specs.Lists.{SlopedList, SlopedState};
 ghost use Rattle.slopes_calls.specs.Calls.{vrq_energies_slopes};
 
 // Quantum energies with slopes, by a table of the call's own: value and slope of hard sphere, dispersion, non-additive. 1, 4, then 2, 7 for a supplied slope, the table's 6 and 7, the energies' 6 and 7.
-#[unsafe(no_mangle)]
-pub extern "C" fn domthelv_vrq_energies_slopes(
+pub fn domthelv_vrq_energies_slopes(
     count: usize,
     m: &[f64],
     sheets: &[f64],

@@ -18,8 +18,7 @@ use saftvrqmie_energies::{EnergiesAnswer, QuantumEnergies};
 use saftvrqmie_total::{QuantumTotal, TotalAnswer};
 
 // `SaftVRQMieRecord::new`: 3 if m is not 1.
-#[unsafe(no_mangle)]
-pub extern "C" fn domthelv_vrq_record_m(m: f64) -> u8
+pub fn domthelv_vrq_record_m(m: f64) -> u8
     ensures { result ≡ status (Quantum.record_m m) }
 {
     let answer = saftvrqmie_parameters::record_m(m);
@@ -36,8 +35,7 @@ fn write_counts(c: OrderCounts, out: &mut [u64])
 }
 
 // Of all lists of orders 0 to 3, one for each component: how many pass the order walk, meet 4, meet 5. 1 for `out`, then for the count.
-#[unsafe(no_mangle)]
-pub extern "C" fn domthelv_order_counts(count: usize, out: &mut [u64]) -> u8
+pub fn domthelv_order_counts(count: usize, out: &mut [u64]) -> u8
     ensures { let q = order_counts_out count out.old in
         (result ≡ status q) × (out.new ≡ stored out.old q) }
 {
@@ -55,8 +53,7 @@ pub extern "C" fn domthelv_order_counts(count: usize, out: &mut [u64]) -> u8
 }
 
 // Quantum parameters. 1, 2, 3, 4 or 5, 6.
-#[unsafe(no_mangle)]
-pub extern "C" fn domthelv_vrq_parameters(
+pub fn domthelv_vrq_parameters(
     count: usize,
     m: &[f64],
     sigma: &[f64],
@@ -104,8 +101,7 @@ pub extern "C" fn domthelv_vrq_parameters(
 }
 
 // Temperature table and counts. 1, 4, then 2, 6, 7.
-#[unsafe(no_mangle)]
-pub extern "C" fn domthelv_vrq_table(
+pub fn domthelv_vrq_table(
     count: usize,
     m: &[f64],
     sheets: &[f64],
@@ -155,8 +151,7 @@ fn write_searches(p: PairSearches, out: &mut [f64], counts: &mut [u8])
 }
 
 // One pair's three searches: radius and last potential of sigma, zero, depth; their counts. 1, 4, then 2, 6.
-#[unsafe(no_mangle)]
-pub extern "C" fn domthelv_vrq_radii(
+pub fn domthelv_vrq_radii(
     count: usize,
     m: &[f64],
     sheets: &[f64],
@@ -201,8 +196,7 @@ pub fn write_energies(e: QuantumEnergies, out: &mut [f64])
 }
 
 // Quantum energies: hard sphere, dispersion, non-additive (+0 where not wanted). 1, 4, then 2, 6, 7.
-#[unsafe(no_mangle)]
-pub extern "C" fn domthelv_vrq_energies(
+pub fn domthelv_vrq_energies(
     count: usize,
     m: &[f64],
     sheets: &[f64],
@@ -276,8 +270,7 @@ fn deliver_total(a: TotalAnswer, out: &mut [f64]) -> u8
 }
 
 // Quantum energies as one number: the sum of hard sphere and dispersion and its remainder, then that sum with the non-additive part and its remainder (where not wanted, the first sum again and +0). 1, 4, then 2, 6, 7.
-#[unsafe(no_mangle)]
-pub extern "C" fn domthelv_vrq_total(
+pub fn domthelv_vrq_total(
     count: usize,
     m: &[f64],
     sheets: &[f64],
@@ -325,8 +318,7 @@ pub extern "C" fn domthelv_vrq_total(
 }
 
 // A pair's diameter from its searched radii. 1, 4, then 2, 6, 7.
-#[unsafe(no_mangle)]
-pub extern "C" fn domthelv_vrq_diameter(
+pub fn domthelv_vrq_diameter(
     count: usize,
     m: &[f64],
     sheets: &[f64],
@@ -359,8 +351,7 @@ pub extern "C" fn domthelv_vrq_diameter(
 }
 
 // From component lists to energies, with a table of its own. 1 for `out`, then the parameters' refusals, the table's, the energies'.
-#[unsafe(no_mangle)]
-pub extern "C" fn domthelv_vrq_stage(
+pub fn domthelv_vrq_stage(
     count: usize,
     m: &[f64],
     sigma: &[f64],

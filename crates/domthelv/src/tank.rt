@@ -10,8 +10,7 @@ use saftvrqmie_energies::EnergiesAnswer;
 use saftvrqmie_energies_ends::EnergiesEndsAnswer;
 
 // The energies of a tank: hard sphere, dispersion, non-additive. 14, 1, 4, then layer by layer 2, 6, 7, then 7 of the tank.
-#[unsafe(no_mangle)]
-pub extern "C" fn domthelv_vrq_tank(
+pub fn domthelv_vrq_tank(
     count: usize,
     m: &[f64],
     sheets: &[f64],
@@ -59,8 +58,7 @@ pub extern "C" fn domthelv_vrq_tank(
 }
 
 // Two ends of a tank's energies: low and high end of each. 14, 1, 4, then layer by layer 2, 6, 7, then 7 of the tank, then 8.
-#[unsafe(no_mangle)]
-pub extern "C" fn domthelv_vrq_tank_ends(
+pub fn domthelv_vrq_tank_ends(
     count: usize,
     m: &[f64],
     sheets: &[f64],

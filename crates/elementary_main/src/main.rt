@@ -5,6 +5,9 @@
 ghost use Rattle.std.specs.Prelude.{◌<◌};
 
 use number::FloatAnswer;
+use std::fs::File;
+use std::io::{self, ErrorKind, Read};
+use std::rt::Files;
 
 #[derive(Drop)]
 struct Tally {
@@ -61,31 +64,43 @@ fn agrees(a: FloatAnswer, bits: u64) -> bool {
     }
 }
 
+// Whether the whole record could be read before the end.
+fn is_read(file: &mut impl Read, record: &mut [u8]) -> io::Result<bool> {
+    match file.read_exact(record) {
+        Ok(()) => Ok(true),
+        Err(e) => {
+            if e.kind() == ErrorKind::UnexpectedEof {
+                return Ok(false);
+            }
+            Err(e)
+        }
+    }
+}
+
 // One record of the function that is asked for: read, worked, compared.
-fn one(fd: i32, which: u64) -> Turn {
+fn one(file: &mut impl Read, which: u64) -> io::Result<Turn> {
     let mut record = [0u8; 32];
-    let n = io::read_full(fd, &mut record);
-    if n != 32 {
-        return Turn::End;
+    if !is_read(file, &mut record)? {
+        return Ok(Turn::End);
     }
     if word(&record, 0) != which {
-        return Turn::Skipped;
+        return Ok(Turn::Skipped);
     }
     let x = number::of_bits(word(&record, 1));
     let y = number::of_bits(word(&record, 2));
     if agrees(worked(which, x, y), word(&record, 3)) {
-        return Turn::Same;
+        return Ok(Turn::Same);
     }
-    Turn::Other
+    Ok(Turn::Other)
 }
 
-fn all(fd: i32, which: u64) -> Tally {
+fn all(file: &mut impl Read, which: u64) -> io::Result<Tally> {
     let mut turns: u64 = 100000000;
     let mut same: u64 = 0;
     let mut other: u64 = 0;
     while turns > 0 {
         turns -= 1;
-        let t = one(fd, which);
+        let t = one(file, which)?;
         match t {
             Turn::Same => {
                 same += 1;
@@ -95,40 +110,31 @@ fn all(fd: i32, which: u64) -> Tally {
             }
             Turn::Skipped => {}
             Turn::End => {
-                return Tally {
+                return Ok(Tally {
                     same: same,
                     other: other,
-                };
+                });
             }
         }
     }
-    Tally {
+    Ok(Tally {
         same: same,
         other: other,
-    }
+    })
 }
 
-fn run(name: &[u8], which: u64) {
-    let fd = os::open_read(b"vectors.bin");
-    if fd < 0 {
-        os::fail(b"vectors.bin");
-        return;
-    }
-    let t = all(fd, which);
-    libc::close(fd);
-    io::write_all(1, name);
-    io::print_decimal(1, t.same);
-    io::write_all(1, b" same, ");
-    io::print_decimal(1, t.other);
-    io::write_all(1, b" differ\n");
+fn run(rt: &(impl Files + Print), name: &str, which: u64) -> io::Result<()> {
+    let mut file = File::open(rt, "vectors.bin")?;
+    let t = all(&mut file, which)?;
+    println!(rt; "{name}{} same, {} differ", t.same, t.other)
 }
 
-fn main() {
-    run(b"sqrt   ", 0);
-    run(b"ln     ", 1);
-    run(b"ln_1p  ", 2);
-    run(b"exp    ", 3);
-    run(b"exp_m1 ", 4);
-    run(b"tanh   ", 5);
-    run(b"powf   ", 6);
+fn main(rt: HostRuntime) -> io::Result<()> {
+    run(&rt, "sqrt   ", 0)?;
+    run(&rt, "ln     ", 1)?;
+    run(&rt, "ln_1p  ", 2)?;
+    run(&rt, "exp    ", 3)?;
+    run(&rt, "exp_m1 ", 4)?;
+    run(&rt, "tanh   ", 5)?;
+    run(&rt, "powf   ", 6)
 }

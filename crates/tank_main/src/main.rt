@@ -4,6 +4,8 @@
 ghost use Rattle.std.specs.Prelude.{◌<◌, ◌≤◌};
 
 use sizes::{COUNTS, SHEET, SHEETS, SIDE, TABLE};
+use std::fs::File;
+use std::io::{self, ErrorKind, Read};
 
 // ---- records
 
@@ -308,15 +310,15 @@ fn call(
     tank(f, m, sheets, orders, out)
 }
 
-fn told(number: u8, ok: bool) {
-    io::print_decimal(1, number as u64);
+fn told(rt: &impl Print, number: u8, ok: bool) -> io::Result<()> {
+    print!(rt; "{number}")?;
     if !ok {
-        io::write_all(1, b" DIFFERS");
+        print!(rt; " DIFFERS")?;
     }
-    io::write_all(1, b"\n");
+    println!(rt; "")
 }
 
-fn tried(f: &[f64; WORDS]) {
+fn tried(rt: &impl Print, f: &[f64; WORDS]) -> io::Result<()> {
     let mut m = [0.0; SIDE];
     let mut sheets = [0.0; SHEETS];
     let mut orders = [0u8; SHEET];
@@ -324,13 +326,12 @@ fn tried(f: &[f64; WORDS]) {
     let mut out = [0.5; 8];
     let lent = case_arguments::whole_at(f, 8);
     if 8 < lent {
-        return;
+        return Ok(());
     }
     set_of(f, &mut m, &mut sheets, &mut orders);
     let n = call(f, &m, &sheets, &orders, &mut out[0..lent]);
     if n != 0 {
-        told(n, kept(&out));
-        return;
+        return told(rt, n, kept(&out));
     }
     layers(
         f,
@@ -340,38 +341,46 @@ fn tried(f: &[f64; WORDS]) {
         case_arguments::whole_at(f, 2),
         &mut sum,
     );
-    told(n, right(byte_at(f, 0) == 1, &out, &sum));
+    told(rt, n, right(byte_at(f, 0) == 1, &out, &sum))
 }
 
-// Whether there was a record.
-fn one(fd: i32) -> bool {
-    let mut record = [0u8; RECORD];
-    let n = io::read_full(fd, &mut record);
-    if n != RECORD {
-        return false;
-    }
-    io::write_all(1, &record[1408..1456]);
-    let f = floats(&record);
-    tried(&f);
-    true
-}
-
-fn all(fd: i32) {
-    let mut turns: u64 = 100000;
-    while turns > 0 {
-        turns -= 1;
-        if !one(fd) {
-            return;
+// Whether a whole record could be read before the end.
+fn is_read(file: &mut impl Read, record: &mut [u8]) -> io::Result<bool> {
+    match file.read_exact(record) {
+        Ok(()) => Ok(true),
+        Err(e) => {
+            if e.kind() == ErrorKind::UnexpectedEof {
+                return Ok(false);
+            }
+            Err(e)
         }
     }
 }
 
-fn main() {
-    let fd = os::open_read(b"tanks.bin");
-    if fd < 0 {
-        os::fail(b"tanks.bin");
-        return;
+// Whether there was a record.
+fn one(rt: &impl Print, file: &mut impl Read) -> io::Result<bool> {
+    let mut record = [0u8; RECORD];
+    if !is_read(file, &mut record)? {
+        return Ok(false);
     }
-    all(fd);
-    libc::close(fd);
+    rt.write_all(&record[1408..1456])?;
+    let f = floats(&record);
+    tried(rt, &f)?;
+    Ok(true)
+}
+
+fn all(rt: &impl Print, file: &mut impl Read) -> io::Result<()> {
+    let mut turns: u64 = 100000;
+    while turns > 0 {
+        turns -= 1;
+        if !one(rt, file)? {
+            return Ok(());
+        }
+    }
+    Ok(())
+}
+
+fn main(rt: HostRuntime) -> io::Result<()> {
+    let mut file = File::open(&rt, "tanks.bin")?;
+    all(&rt, &mut file)
 }

@@ -8,6 +8,9 @@ use saftvrmie_parameters::SaftVRMiePars;
 use saftvrqmie_energies::EnergiesAnswer;
 use saftvrqmie_parameters::{FeynmanHibbsOrder, OrderRecord, SaftVRQMiePars};
 use sizes::{COUNTS, SHEET, SHEETS, SIDE, TABLE};
+use std::fs::File;
+use std::io::{self, ErrorKind, Read};
+use std::rt::Files;
 
 // A record's head in bytes, and the most words of its list.
 const HEAD: usize = 192;
@@ -83,25 +86,40 @@ fn lent(head: &[u8; HEAD], k: usize, whole: usize) -> usize {
     }
 }
 
-fn read_list(fd: i32, bytes: &mut [u8], end: usize) -> bool {
+// Whether the whole buffer could be read before the end.
+fn is_read(file: &mut impl Read, bytes: &mut [u8]) -> io::Result<bool> {
+    match file.read_exact(bytes) {
+        Ok(()) => Ok(true),
+        Err(e) => {
+            if e.kind() == ErrorKind::UnexpectedEof {
+                return Ok(false);
+            }
+            Err(e)
+        }
+    }
+}
+
+fn read_list(file: &mut impl Read, bytes: &mut [u8], end: usize) -> io::Result<bool> {
     if end == 0 {
-        return true;
+        return Ok(true);
     }
     if bytes.len() < end {
-        return false;
+        return Ok(false);
     }
-    let n = io::read_full(fd, &mut bytes[0..end]);
-    n == end
+    is_read(file, &mut bytes[0..end])
 }
 
 // The next head and its list; false at the end.
-fn next_record(fd: i32, head: &mut [u8; HEAD], bytes: &mut [u8; BYTES]) -> bool {
-    let n = io::read_full(fd, head);
-    if n != HEAD {
-        return false;
+fn next_record(
+    file: &mut impl Read,
+    head: &mut [u8; HEAD],
+    bytes: &mut [u8; BYTES],
+) -> io::Result<bool> {
+    if !is_read(file, head)? {
+        return Ok(false);
     }
     let end = 8 * length_at(head, 5);
-    read_list(fd, bytes, end)
+    read_list(file, bytes, end)
 }
 
 fn floats_of(bytes: &[u8; BYTES]) -> [f64; WORDS] {
@@ -176,7 +194,7 @@ fn index_of(place: u64) -> usize {
 // ---- FNV-1a over the bytes of words
 
 fn add(a: u64, b: u64) -> u64 {
-    std::num::wrapping_add_u64(a, b)
+    a.wrapping_add(b)
 }
 
 // Times 2^40 + 435, modulo 2^64.
@@ -265,7 +283,7 @@ fn hash_of_mie(set: SaftVRMiePars) -> u64 {
 // ---- what was met
 
 // How often each operation gave each number, nine places an operation, and how many calls differ.
-#[derive(Drop)]
+#[derive(Clone, Copy)]
 struct Tally {
     met: [u64; 63],
     other: [u64; 7],
@@ -606,7 +624,7 @@ fn mie_by_hand(head: &[u8; HEAD], bytes: &[u8; BYTES], set: SaftVRMiePars) -> Sa
 
 // ---- the two files
 
-fn quantum_file(fd: i32, tally: Tally) -> Tally {
+fn quantum_file(file: &mut impl Read, tally: Tally) -> io::Result<Tally> {
     let mut t = tally;
     let mut head = [0u8; HEAD];
     let mut bytes = [0u8; BYTES];
@@ -615,8 +633,8 @@ fn quantum_file(fd: i32, tally: Tally) -> Tally {
     let none = saftvrqmie_parameters::refused_with(1);
     let mut set = none.set;
     for turn in 0usize..1000000 {
-        if !next_record(fd, &mut head, &mut bytes) {
-            return t;
+        if !next_record(file, &mut head, &mut bytes)? {
+            return Ok(t);
         }
         let told = head_word(&head, 1);
         let l = floats_of(&bytes);
@@ -643,10 +661,10 @@ fn quantum_file(fd: i32, tally: Tally) -> Tally {
             }
         }
     }
-    t
+    Ok(t)
 }
 
-fn mie_file(fd: i32, tally: Tally) -> Tally {
+fn mie_file(file: &mut impl Read, tally: Tally) -> io::Result<Tally> {
     let mut t = tally;
     let mut head = [0u8; HEAD];
     let mut bytes = [0u8; BYTES];
@@ -654,8 +672,8 @@ fn mie_file(fd: i32, tally: Tally) -> Tally {
     let none = saftvrmie_parameters::refused_with(1);
     let mut set = none.set;
     for turn in 0usize..1000000 {
-        if !next_record(fd, &mut head, &mut bytes) {
-            return t;
+        if !next_record(file, &mut head, &mut bytes)? {
+            return Ok(t);
         }
         let told = head_word(&head, 1);
         let l = floats_of(&bytes);
@@ -681,23 +699,21 @@ fn mie_file(fd: i32, tally: Tally) -> Tally {
             }
         }
     }
-    t
+    Ok(t)
 }
 
-fn met(tally: Tally, operation: usize, n: usize) {
+fn met(rt: &impl Print, tally: Tally, operation: usize, n: usize) -> io::Result<()> {
     if 7 <= operation {
-        return;
+        return Ok(());
     }
     if 9 <= n {
-        return;
+        return Ok(());
     }
     let times = tally.met[9 * operation + n];
     if 0 < times {
-        io::print_decimal(1, n as u64);
-        io::write_all(1, b": ");
-        io::print_decimal(1, times);
-        io::write_all(1, b", ");
+        print!(rt; "{n}: {times}, ")?;
     }
+    Ok(())
 }
 
 fn others(tally: Tally, operation: usize) -> u64 {
@@ -708,45 +724,32 @@ fn others(tally: Tally, operation: usize) -> u64 {
 }
 
 // A row: each number with how often it was given, and the calls that differ.
-fn row(name: &[u8], tally: Tally, operation: usize) {
-    io::write_all(1, name);
+fn row(rt: &impl Print, name: &str, tally: Tally, operation: usize) -> io::Result<()> {
+    print!(rt; "{name}")?;
     for n in 0usize..9 {
-        met(tally, operation, n);
+        met(rt, tally, operation, n)?;
     }
-    io::print_decimal(1, others(tally, operation));
-    io::write_all(1, b" differ\n");
+    println!(rt; "{} differ", others(tally, operation))
 }
 
-fn rows(t: Tally) {
-    row(b"quantum parameters   ", t, 0);
-    row(b"quantum table        ", t, 1);
-    row(b"quantum energies     ", t, 2);
-    row(b"VR Mie parameters    ", t, 3);
-    row(b"VR Mie diameters     ", t, 4);
-    row(b"VR Mie dispersion    ", t, 5);
-    row(b"VR Mie and chain     ", t, 6);
+fn rows(rt: &impl Print, t: Tally) -> io::Result<()> {
+    row(rt, "quantum parameters   ", t, 0)?;
+    row(rt, "quantum table        ", t, 1)?;
+    row(rt, "quantum energies     ", t, 2)?;
+    row(rt, "VR Mie parameters    ", t, 3)?;
+    row(rt, "VR Mie diameters     ", t, 4)?;
+    row(rt, "VR Mie dispersion    ", t, 5)?;
+    row(rt, "VR Mie and chain     ", t, 6)
 }
 
-fn quantum_calls(name: &[u8], tally: Tally) -> Tally {
-    let fd = os::open_read(name);
-    if fd < 0 {
-        os::fail(name);
-        return tally;
-    }
-    let t = quantum_file(fd, tally);
-    libc::close(fd);
-    t
+fn quantum_calls(rt: &impl Files, name: &str, tally: Tally) -> io::Result<Tally> {
+    let mut file = File::open(rt, name)?;
+    quantum_file(&mut file, tally)
 }
 
-fn mie_calls(name: &[u8], tally: Tally) -> Tally {
-    let fd = os::open_read(name);
-    if fd < 0 {
-        os::fail(name);
-        return tally;
-    }
-    let t = mie_file(fd, tally);
-    libc::close(fd);
-    t
+fn mie_calls(rt: &impl Files, name: &str, tally: Tally) -> io::Result<Tally> {
+    let mut file = File::open(rt, name)?;
+    mie_file(&mut file, tally)
 }
 
 fn no_calls() -> Tally {
@@ -756,10 +759,10 @@ fn no_calls() -> Tally {
     }
 }
 
-fn main() {
-    let quantum = quantum_calls(b"quantum.bin", no_calls());
-    rows(mie_calls(b"mie.bin", quantum));
-    io::write_all(1, b"9 to 12 components\n");
-    let more = quantum_calls(b"quantum_9_to_12.bin", no_calls());
-    rows(mie_calls(b"mie_9_to_12.bin", more));
+fn main(rt: HostRuntime) -> io::Result<()> {
+    let quantum = quantum_calls(&rt, "quantum.bin", no_calls())?;
+    rows(&rt, mie_calls(&rt, "mie.bin", quantum)?)?;
+    println!(rt; "9 to 12 components")?;
+    let more = quantum_calls(&rt, "quantum_9_to_12.bin", no_calls())?;
+    rows(&rt, mie_calls(&rt, "mie_9_to_12.bin", more)?)
 }

@@ -1,0 +1,173 @@
+// SAFT-VR Mie at the C boundary: parameters, diameters, a pair's lower limit and diameter, dispersion, the stage.
+ghost use Rattle.std.specs.Prelude.{◌≡◌};
+ghost use Rattle.mie_parameters.specs.Answer.{status, stored};
+ghost use Rattle.set_lists.specs.Sets.{MieLists};
+ghost use Rattle.set_lists.specs.Written.{MieLent};
+ghost use Rattle.domthelv.specs.Operations.{vr_parameters, vr_diameters, vr_radius, vr_diameter, vr_dispersion};
+ghost use Rattle.stages.specs.Stages.{mie_stage};
+ghost use Rattle.saftvrmie_parameters.specs.Parameters as Mie;
+
+// Parameters of SAFT-VR Mie. 1, 2, 6.
+#[unsafe(no_mangle)]
+pub extern "C" fn domthelv_vr_parameters(
+    count: usize,
+    m: &[f64],
+    sigma: &[f64],
+    epsilon_k: &[f64],
+    lr: &[f64],
+    la: &[f64],
+    k_ij: &[f64],
+    gamma_ij: &[f64],
+    set_lists: &mut [f64],
+    set_sheets: &mut [f64],
+) -> u8
+    ensures { let x : Mie.Lists =
+        record {
+          count = count;
+          m = m.now;
+          sigma = sigma.now;
+          epsilon_k = epsilon_k.now;
+          lr = lr.now;
+          la = la.now;
+          k_ij = k_ij.now;
+          gamma_ij = gamma_ij.now;
+        } in
+        let l : MieLent = record { lists = set_lists.old; sheets = set_sheets.old } in
+        let q = vr_parameters x l in
+        (result ≡ status q) × (set_lists.new ≡ (stored l q).lists) × (set_sheets.new ≡ (stored l q).sheets) }
+{
+    domthelv::domthelv_vr_parameters(
+        count, m, sigma, epsilon_k, lr, la, k_ij, gamma_ij, set_lists, set_sheets,
+    )
+}
+
+// The components' diameters. 1, 2, 6, 7.
+#[unsafe(no_mangle)]
+pub extern "C" fn domthelv_vr_diameters(
+    count: usize,
+    lists: &[f64],
+    sheets: &[f64],
+    temperature: f64,
+    diameters: &mut [f64],
+) -> u8
+    ensures { let s : MieLists = record { count = count; lists = lists.now; sheets = sheets.now } in
+        let q = vr_diameters s temperature diameters.old in
+        (result ≡ status q) × (diameters.new ≡ stored diameters.old q) }
+{
+    domthelv::domthelv_vr_diameters(count, lists, sheets, temperature, diameters)
+}
+
+// One pair's reduced lower limit. 1, 2, 6.
+#[unsafe(no_mangle)]
+pub extern "C" fn domthelv_vr_radius(
+    count: usize,
+    lists: &[f64],
+    sheets: &[f64],
+    i: usize,
+    j: usize,
+    temperature: f64,
+    out: &mut f64,
+) -> u8
+    ensures { let s : MieLists = record { count = count; lists = lists.now; sheets = sheets.now } in
+        let q = vr_radius s i j temperature in
+        (result ≡ status q) × (out.new ≡ stored out.old q) }
+{
+    domthelv::domthelv_vr_radius(count, lists, sheets, i, j, temperature, out)
+}
+
+// One pair's diameter from its reduced lower limit. 1, 2, 6, 7.
+#[unsafe(no_mangle)]
+pub extern "C" fn domthelv_vr_diameter(
+    count: usize,
+    lists: &[f64],
+    sheets: &[f64],
+    i: usize,
+    j: usize,
+    temperature: f64,
+    r0: f64,
+    out: &mut f64,
+) -> u8
+    ensures { let s : MieLists = record { count = count; lists = lists.now; sheets = sheets.now } in
+        let q = vr_diameter s i j temperature r0 in
+        (result ≡ status q) × (out.new ≡ stored out.old q) }
+{
+    domthelv::domthelv_vr_diameter(count, lists, sheets, i, j, temperature, r0, out)
+}
+
+// Dispersion, with the chain where it is wanted. 1, 2, 6, 7.
+#[unsafe(no_mangle)]
+pub extern "C" fn domthelv_vr_dispersion(
+    count: usize,
+    lists: &[f64],
+    sheets: &[f64],
+    temperature: f64,
+    fractions: &[f64],
+    densities: &[f64],
+    diameters: &[f64],
+    chain: bool,
+    out: &mut f64,
+) -> u8
+    ensures { let s : MieLists = record { count = count; lists = lists.now; sheets = sheets.now } in
+        let q = vr_dispersion s temperature fractions.now densities.now diameters.now chain in
+        (result ≡ status q) × (out.new ≡ stored out.old q) }
+{
+    domthelv::domthelv_vr_dispersion(
+        count,
+        lists,
+        sheets,
+        temperature,
+        fractions,
+        densities,
+        diameters,
+        chain,
+        out,
+    )
+}
+
+// From component lists to dispersion, with the chain where it is wanted and diameters of its own. The parameters' refusals, the diameters', the energy's.
+#[unsafe(no_mangle)]
+pub extern "C" fn domthelv_vr_stage(
+    count: usize,
+    m: &[f64],
+    sigma: &[f64],
+    epsilon_k: &[f64],
+    lr: &[f64],
+    la: &[f64],
+    k_ij: &[f64],
+    gamma_ij: &[f64],
+    temperature: f64,
+    fractions: &[f64],
+    densities: &[f64],
+    chain: bool,
+    out: &mut f64,
+) -> u8
+    ensures { let x : Mie.Lists =
+        record {
+          count = count;
+          m = m.now;
+          sigma = sigma.now;
+          epsilon_k = epsilon_k.now;
+          lr = lr.now;
+          la = la.now;
+          k_ij = k_ij.now;
+          gamma_ij = gamma_ij.now;
+        } in
+        let q = mie_stage x temperature fractions.now densities.now chain in
+        (result ≡ status q) × (out.new ≡ stored out.old q) }
+{
+    domthelv::domthelv_vr_stage(
+        count,
+        m,
+        sigma,
+        epsilon_k,
+        lr,
+        la,
+        k_ij,
+        gamma_ij,
+        temperature,
+        fractions,
+        densities,
+        chain,
+        out,
+    )
+}

@@ -1,0 +1,45 @@
+// The quantum chain with slopes at the C boundary.
+ghost use Rattle.std.specs.Prelude.{◌≡◌};
+ghost use Rattle.mie_parameters.specs.Answer.{status, stored};
+ghost use Rattle.set_lists.specs.Sets.{QuantumLists};
+ghost use Rattle.slopes_lists.specs.Lists.{SlopedList, SlopedState};
+ghost use Rattle.slopes_calls.specs.Calls.{vrq_energies_slopes};
+
+// Quantum energies with slopes, by a table of the call's own: value and slope of hard sphere, dispersion, non-additive. 1, 4, then 2, 7 for a supplied slope, the table's 6 and 7, the energies' 6 and 7.
+#[unsafe(no_mangle)]
+pub extern "C" fn domthelv_vrq_energies_slopes(
+    count: usize,
+    m: &[f64],
+    sheets: &[f64],
+    orders: &[u8],
+    temperature: f64,
+    temperature_slope: f64,
+    fractions: &[f64],
+    fraction_slopes: &[f64],
+    densities: &[f64],
+    density_slopes: &[f64],
+    non_additive: bool,
+    out: &mut [f64],
+) -> u8
+    ensures { let s : QuantumLists = record { count = count; m = m.now; sheets = sheets.now; orders = orders.now } in
+        let x : SlopedList = record { values = fractions.now; slopes = fraction_slopes.now } in
+        let rho : SlopedList = record { values = densities.now; slopes = density_slopes.now } in
+        let q : SlopedState = record { temperature = record { re = temperature; eps = temperature_slope }; fractions = x; densities = rho } in
+        let a = vrq_energies_slopes s q non_additive out.old in
+        (result ≡ status a) × (out.new ≡ stored out.old a) }
+{
+    domthelv::domthelv_vrq_energies_slopes(
+        count,
+        m,
+        sheets,
+        orders,
+        temperature,
+        temperature_slope,
+        fractions,
+        fraction_slopes,
+        densities,
+        density_slopes,
+        non_additive,
+        out,
+    )
+}
