@@ -354,12 +354,12 @@ class Cases:
         for row in ("root", "root_zero", "whole_power", "ln_1p", "ends"):
             said = rows[row](*[None] * list(rows).index(row))
             yield "table to be proved", None if said is True else f"the row {row} is {said}"
-        alike, quantum = c.get("proved_table", "Table", "alike"), c.get("saftvrqmie_parameters", "Parameters", "saft_vRQMie_pars")
+        alike, quantum = c.get("proved_table", "Table", "alike"), c.get("saftvrqmie_parameters", "Parameters", "saft_vrq_mie_pars")
         for fh, m, number in (((0, 1), None, 0), ((1, 2), None, 5), ((1, 2, 3), None, 5), ((1, 3, 2), None, 4), ((0, 3), None, 4), ((3, 0), (1.0, 2.0), 3)):
             lists = alike(fh)
             lists.m = m or lists.m
             yield compared(f"orders {fh}, m {lists.m}", chains.refusal(quantum(lists)), number)
-        mie, names = c.get("saftvrmie_parameters", "Parameters", "saft_vRMie_pars"), ["m", "sigma", "epsilon_k", "lr", "la", "k_ij", "gamma_ij"]
+        mie, names = c.get("saftvrmie_parameters", "Parameters", "saft_vr_mie_pars"), ["m", "sigma", "epsilon_k", "lr", "la", "k_ij", "gamma_ij"]
         for count in (0, SIDE + 1):
             lists = alike((0,) * count)
             yield compared(f"count {count}", chains.refusal(quantum(lists)), 1)
@@ -383,7 +383,7 @@ class Cases:
         lists = c.get("proved_table", "Table", "alike")((0, 1))
         shared = {name: getattr(lists, name) for name in ("count", "m", "sigma", "lr", "la")}
         mie = c.record(**shared, **{"epsilon_k": (30.0, 35.0), "k_ij": (0.0, 0.1, 0.1, 0.0), "gamma_ij": (0.0, -0.0, -0.0, 0.0)})
-        for crate, name, given, places in (("saftvrqmie_parameters", "saft_vRQMie_pars", lists, (3, 4, 2)), ("saftvrmie_parameters", "saft_vRMie_pars", mie, (2, 3, 4))):
+        for crate, name, given, places in (("saftvrqmie_parameters", "saft_vrq_mie_pars", lists, (3, 4, 2)), ("saftvrmie_parameters", "saft_vr_mie_pars", mie, (2, 3, 4))):
             sheets = c.get(crate, "Parameters", name)(given)[1].sheets
             for e in (0, 1, SIDE, SIDE + 1):
                 yield compared(f"{crate}: lr, la and c at {e}", tuple(sheets[k * SIDE**2 + e] for k in places), (twelve, six, four))

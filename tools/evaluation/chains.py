@@ -176,7 +176,7 @@ class Quantum:
         return self.c.get("domthelv", "Tank", name)(s, tank, wanted, OUT[:out])
 
     def parameters(self, lists):
-        a = self.c.get("saftvrqmie_parameters", "Parameters", "saft_vRQMie_pars")(lists)
+        a = self.c.get("saftvrqmie_parameters", "Parameters", "saft_vrq_mie_pars")(lists)
         self.keep(self.c.get("saftvrqmie_parameters", "Parameters", "given")(a).set)
         written = operation(self.c, "vrq_parameters")(lists, self.c.record(m=OUT[:SIDE], sheets=OUT, orders=(7,) * SHEET))
         if refusal(written) != refusal(a) or (a[0] == "held" and not same((written[1].m, written[1].sheets, written[1].orders), (self.m, self.sheets, self.orders))):
@@ -246,7 +246,7 @@ class Mie:
         return told(self.at("vr_dispersion_ends", *state, OUT[:2])) if call.what == 9 else None
 
     def parameters(self, lists):
-        a = self.c.get("saftvrmie_parameters", "Parameters", "saft_vRMie_pars")(lists)
+        a = self.c.get("saftvrmie_parameters", "Parameters", "saft_vr_mie_pars")(lists)
         self.keep(self.c.get("saftvrmie_parameters", "Parameters", "given")(a).set)
         written = operation(self.c, "vr_parameters")(lists, self.c.record(lists=OUT[:LISTS], sheets=OUT))
         if refusal(written) != refusal(a) or (a[0] == "held" and not same((written[1].lists, written[1].sheets), (self.lists, self.sheets))):
