@@ -14,7 +14,7 @@ fn main() {
     let folder = root.join("target/staticlib");
     let library = folder.join("libdomthelv.a");
     let declared = root.join("differential/run/src/port.rs");
-    let sources = root.join("crates/domthelv/src");
+    let sources = root.join("crates/domthelv_c/src");
     let unproved = env::var("CARGO_FEATURE_UNPROVED").is_ok();
     let has: Box<dyn Fn(&str) -> bool> = if unproved {
         let text: String = fs::read_dir(&sources).unwrap().map(|file| fs::read_to_string(file.unwrap().path()).unwrap()).collect();

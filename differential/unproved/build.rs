@@ -1,8 +1,8 @@
-//! Makes one Rust crate of the Rattle crates that `domthelv` needs: clauses and ghost imports taken out, types copied freely,
-//! and each function of the boundary wrapped so that a slice crosses as a pointer and a length.
+//! Makes one Rust crate of the Rattle crates that `domthelv_c` needs: clauses, attributes and ghost imports taken out, types copied freely,
+//! and each exported function wrapped so that a slice crosses as a pointer and a length.
 use std::{env, fs, path::Path};
 
-/// The text without `requires {..}`, `ensures {..}` and ghost imports.
+/// The text without clauses (`requires {..}`, `ensures name {..}`), attributes and ghost imports.
 fn without_contracts(text: &str) -> String {
     let mut out = String::new();
     let mut rest = text;
@@ -11,8 +11,10 @@ fn without_contracts(text: &str) -> String {
         let word = line.trim_start();
         if word.starts_with("ghost use ") {
             rest = &rest[rest.find(";\n").unwrap() + 2..];
-        } else if word.starts_with("requires ") || word.starts_with("ensures ") {
-            rest = after_braces(rest);
+        } else if ["requires", "ensures"].iter().any(|w| word.strip_prefix(w).is_some_and(|w| w.starts_with([' ', '*']))) {
+            rest = after_brackets(rest, '{', '}');
+        } else if word.starts_with("#[") || word.starts_with("#![") {
+            rest = after_brackets(rest, '[', ']');
         } else {
             out.push_str(line);
             rest = &rest[line.len()..];
@@ -21,23 +23,23 @@ fn without_contracts(text: &str) -> String {
     out
 }
 
-fn after_braces(text: &str) -> &str {
+fn after_brackets(text: &str, open: char, close: char) -> &str {
     let mut depth = 0;
     for (at, c) in text.char_indices() {
-        depth += (c == '{') as i32 - (c == '}') as i32;
-        if c == '}' && depth == 0 {
+        depth += (c == open) as i32 - (c == close) as i32;
+        if c == close && depth == 0 {
             return text[at + 1..].trim_start_matches([' ', '\n']);
         }
     }
-    panic!("a clause without an end")
+    panic!("a clause or an attribute without an end")
 }
 
-/// The text of a source file, with each module that it declares in the place of its declaration.
+/// The text of a source file without contracts, with each module that it declares in the place of its declaration, and behind it the C functions of what it exports.
 fn with_modules(folder: &Path, file: &str) -> String {
     let source = folder.join(file);
     println!("cargo::rerun-if-changed={}", source.display());
     // a crate without code has none to read
-    let text = fs::read_to_string(&source).unwrap_or_default();
+    let text = without_contracts(&fs::read_to_string(&source).unwrap_or_default());
     let mut out = String::new();
     for line in text.lines() {
         match line.strip_suffix(';').and_then(|l| l.split_once("mod ")) {
@@ -45,20 +47,22 @@ fn with_modules(folder: &Path, file: &str) -> String {
                 out += &format!("{seen}mod {module} {{\n{}}}\n", with_modules(folder, &format!("{module}.rt")));
             }
             _ => {
-                out += line;
+                out += &line.replace(EXPORTED, "pub fn ");
                 out += "\n";
             }
         }
     }
-    out
+    out + &text.split(EXPORTED).skip(1).map(wrapper).collect::<String>()
 }
+
+const EXPORTED: &str = "pub extern \"C\" fn ";
 
 /// Imports from other crates as modules of this one; structs and enums as values.
 fn as_module(name: &str, uses: &[&str], text: &str) -> String {
     let mut out = format!("pub mod {name} {{\n");
     let others: String = uses.iter().map(|other| format!("use crate::{other};\n")).collect();
     out += &others;
-    for line in without_contracts(text).lines() {
+    for line in text.lines() {
         let item = line.strip_prefix("pub ").unwrap_or(line);
         if let Some(path) = item.strip_prefix("use ") {
             let seen = &line[..line.len() - item.len()];
@@ -69,10 +73,8 @@ fn as_module(name: &str, uses: &[&str], text: &str) -> String {
         if item.starts_with("struct ") || item.starts_with("enum ") {
             out += "#[derive(Clone, Copy)]\n";
         }
-        if line != "#[no_mangle]" {
-            out += &line.replace("pub extern \"C\" fn", "pub fn");
-            out += "\n";
-        }
+        out += line;
+        out += "\n";
         if item.starts_with("mod ") {
             out += &others;
         }
@@ -80,7 +82,7 @@ fn as_module(name: &str, uses: &[&str], text: &str) -> String {
     out + "}\n"
 }
 
-/// The C function of a signature `fn name(a: T, ..) -> R`.
+/// The C function of a signature `name(a: T, ..) -> R`, beside the function.
 fn wrapper(signature: &str) -> String {
     let (name, rest) = signature.split_once('(').unwrap();
     let (list, result) = rest.split_once(") ->").unwrap();
@@ -98,7 +100,7 @@ fn wrapper(signature: &str) -> String {
     }
     let result = result.split('{').next().unwrap().split_whitespace().next().unwrap();
     let (taken, passed) = (taken.join(", "), passed.join(", "));
-    format!("#[unsafe(no_mangle)]\npub extern \"C\" fn {name}({taken}) -> {result} {{ domthelv::{name}({passed}) }}\n")
+    format!("#[unsafe(export_name = \"{name}\")]\npub extern \"C\" fn {name}_of_c({taken}) -> {result} {{ {name}({passed}) }}\n")
 }
 
 fn main() {
@@ -106,10 +108,10 @@ fn main() {
     let root = Path::new(&here).ancestors().find(|p| p.join("crates.txt").exists()).unwrap();
     let listed = fs::read_to_string(root.join("crates.txt")).unwrap();
     let uses = |name: &str| -> Vec<&str> {
-        let line = listed.lines().find(|l| l.split(':').next() == Some(name)).expect(name);
+        let line = listed.lines().find(|l| l.split([':', ' ']).next() == Some(name)).expect(name);
         line.split_once(':').unwrap().1.split_whitespace().collect()
     };
-    let mut wanted = vec!["domthelv"];
+    let mut wanted = vec!["domthelv_c"];
     let mut next = 0;
     while next < wanted.len() {
         for other in uses(wanted[next]) {
@@ -123,11 +125,6 @@ fn main() {
     for name in &wanted {
         let text = with_modules(&root.join("crates").join(name).join("src"), "lib.rt");
         out += &as_module(name, &uses(name), &text);
-        if *name == "domthelv" {
-            for function in without_contracts(&text).split("pub extern \"C\" fn ").skip(1) {
-                out += &wrapper(function);
-            }
-        }
     }
     println!("cargo::rerun-if-changed={}", root.join("crates.txt").display());
     fs::write(Path::new(&env::var("OUT_DIR").unwrap()).join("sources.rs"), out).unwrap();

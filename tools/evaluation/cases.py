@@ -13,7 +13,6 @@ from .derivatives import Derivatives
 from .library import same
 from .scopes import Definition
 from .sizes import LISTS, SHEET, SHEETS, SIDE
-from .terms import spell
 
 F64 = ("binary64",)
 PORT = ["sqrt", "ln", "ln1p", "exp", "expm1", "tanh", "powf"]
@@ -83,12 +82,12 @@ class Cases:
             wanted = {
                 ("exponential", "Powers", "powers"): [two ** (63 + Decimal(j) / 128) for j in range(128)],
                 ("exponential", "Powers", "terms"): [two ** (64 - 7 * (i - 1)) * ln2**i / math.factorial(i) for i in range(1, 6)],
-                ("exponential", "ExpM1", "overTerms"): [(two**49 + Decimal(1) / 16) * k for k in (15120, 420, 1)],
-                ("exponential", "ExpM1", "underTerms"): [(two**49 + Decimal(1) / 16) * k for k in (15120, 1680, 15)],
-                ("binary_log", "Tables", "logFactors"): [two**18 / (129 + j) for j in range(128)],
+                ("exponential", "ExpM1", "over_terms"): [(two**49 + Decimal(1) / 16) * k for k in (15120, 420, 1)],
+                ("exponential", "ExpM1", "under_terms"): [(two**49 + Decimal(1) / 16) * k for k in (15120, 1680, 15)],
+                ("binary_log", "Tables", "log_factors"): [two**18 / (129 + j) for j in range(128)],
                 ("binary_log", "Tables", "logs"): [-(two**61) * (Decimal(2**18 // (129 + j)) / 2048).ln() / ln2 for j in range(128)],
-                ("binary_log", "Tables", "oddTerms"): [two ** (63 - 6 * (i - 1)) / (i * ln2) for i in (1, 3, 5, 7)],
-                ("binary_log", "Tables", "evenTerms"): [two ** (63 - 6 * (i - 1)) / (i * ln2) for i in (2, 4, 6, 8)],
+                ("binary_log", "Tables", "odd_terms"): [two ** (63 - 6 * (i - 1)) / (i * ln2) for i in (1, 3, 5, 7)],
+                ("binary_log", "Tables", "even_terms"): [two ** (63 - 6 * (i - 1)) / (i * ln2) for i in (2, 4, 6, 8)],
                 ("logarithm", "Logarithm", "coefficients"): [two**63 / (2 * i + 1) for i in range(11)],
             }
             for place, numbers in wanted.items():
@@ -111,8 +110,8 @@ class Cases:
 
     # ---- neighbours and the outward rules: Python's neighbour, the least and the greatest of four corners
     def intervals(self):
-        up, down = self.c.get("number", "Neighbour", "nextUp"), self.c.get("number", "Neighbour", "nextDown")
-        rules = {name: self.c.get("interval", "Interval", name + "I") for name in ("add", "sub", "mul", "div")}
+        up, down = self.c.get("number", "Neighbour", "next_up"), self.c.get("number", "Neighbour", "next_down")
+        rules = {name: self.c.get("interval", "Interval", name + "_i") for name in ("add", "sub", "mul", "div")}
         g = Random(0x55)
         for k in range(1000):
             a, b, x, y = (g.float() for _ in range(4))
@@ -135,7 +134,7 @@ class Cases:
 
     # ---- rounded sums with what they leave, and the total of three contributions: Python's sum, and its error by fractions
     def sums(self):
-        rounded, total = self.c.get("rounded_sum", "RoundedSum", "roundedSum"), self.c.get("saftvrqmie_total", "Total", "contributionsTotal")
+        rounded, total = self.c.get("rounded_sum", "RoundedSum", "rounded_sum"), self.c.get("saftvrqmie_total", "Total", "contributions_total")
         g = Random(0x5)
         for k in range(1000):
             x, y, z = (g.float() for _ in range(3))
@@ -143,7 +142,7 @@ class Cases:
             for wanted in (False, True):
                 said, values = chains.totalled(("held", (x, y, z)), wanted)
                 expected = (said, self.c.record(first=self.summed(*values[:2]), last=self.summed(*values[2:])) if said == "held" else values)
-                contributions = self.c.record(**{"hard-sphere": x, "dispersion": y, "non-additive": z})
+                contributions = self.c.record(hard_sphere=x, dispersion=y, non_additive=z)
                 yield compared(f"the total of {x!r}, {y!r}, {z!r}, {wanted}", total(contributions, wanted), expected)
 
     def summed(self, s, left):
@@ -151,9 +150,9 @@ class Cases:
 
     # ---- the quantum chain with slopes: its values beside table and energies without them, its slopes beside difference quotients, and its refusals in their order
     def pressure(self):
-        for orders, lists in (((1,), {"sigma": (3.0243,), "epsilon-k": (26.706,), "lr": (9.0,), "la": (6.0,), "mass": (3.3476e-27,)}), ((2, 0), {"sigma": (2.7443, 3.4), "epsilon-k": (5.4195, 120.0), "lr": (9.0, 12.0), "la": (6.0, 6.0), "mass": (6.6465e-27, 6.6335e-26)})):
+        for orders, lists in (((1,), {"sigma": (3.0243,), "epsilon_k": (26.706,), "lr": (9.0,), "la": (6.0,), "mass": (3.3476e-27,)}), ((2, 0), {"sigma": (2.7443, 3.4), "epsilon_k": (5.4195, 120.0), "lr": (9.0, 12.0), "la": (6.0, 6.0), "mass": (6.6465e-27, 6.6335e-26)})):
             n, q = len(orders), chains.Quantum(self.c)
-            q.parameters(self.c.record(count=n, fh=orders, m=(1.0,) * n, **{"k-ij": (0.0,) * n**2, "l-ij": (0.0,) * n**2}, **lists))
+            q.parameters(self.c.record(count=n, fh=orders, m=(1.0,) * n, **{"k_ij": (0.0,) * n**2, "l_ij": (0.0,) * n**2}, **lists))
             x, rho = (0.875,) if n == 1 else (0.25, 0.625), (0.01,) if n == 1 else (0.002, 0.006)
             for slopes in ((1.0, (0.0,) * n, (0.0,) * n), (0.0, (0.0,) * n, (1.0, -0.5)[:n]), (-0.75, (0.125, -0.25)[:n], (0.001, 0.002)[:n])):
                 yield from self.sloped(q, 40.0, x, rho, slopes)
@@ -162,7 +161,7 @@ class Cases:
 
     # what the chain's runs above do not come to: whole powers −n, the value that a branch looks at, a function without a rule
     def mixed_numbers(self):
-        down, value, rule = self.c.get("slopes", "Mixed", "downM"), self.c.get("slopes", "Mixed", "valueOf"), self.c.get("slopes", "Rules", "noRule")
+        down, value, rule = self.c.get("slopes", "Mixed", "down_m"), self.c.get("slopes", "Mixed", "value_of"), self.c.get("slopes", "Rules", "no_rule")
         d = self.c.record(re=2.0, eps=3.0)
         yield compared("2 to the power -3, plain", down(("plain", 2.0), 3), ("plain", 0.125))
         yield compared("2 to the power -3, with a slope", down(("sloped", d), 3), ("sloped", self.c.record(re=0.125, eps=-0.5625)))
@@ -175,17 +174,17 @@ class Cases:
         at = lambda h: self.unsloped(q, *moved(h))
         said, six = q.sloped(self.state(t, x, rho, *slopes), True, 6)
         yield compared(f"the values with slopes {slopes}", (said, six[::2]), ("held", at(0.0)))
-        port, values = self.c.get("elementary", "Port", "port")(), self.c.get("slopes_values", "Energies", "dualsValues")
-        e = values(self.c.get("saftvrqmie_slopes", "Operation", "energiesSlopesBy")(port, q.record(), self.state(t, x, rho, *slopes), True)[1])
-        yield compared(f"the operation's values with slopes {slopes}", e, self.c.record(**dict(zip(("hard-sphere", "dispersion", "non-additive"), at(0.0)))))
+        port, values = self.c.get("elementary", "Port", "port")(), self.c.get("slopes_values", "Energies", "duals_values")
+        e = values(self.c.get("saftvrqmie_slopes", "Operation", "energies_slopes_by")(port, q.record(), self.state(t, x, rho, *slopes), True)[1])
+        yield compared(f"the operation's values with slopes {slopes}", e, self.c.record(**dict(zip(("hard_sphere", "dispersion", "non_additive"), at(0.0)))))
         h = 1e-4 if slopes[0] else 1e-7
         for k, (up, down) in enumerate(zip(at(h), at(-h))):
             quotient, near = (up - down) / (2 * h), 1e-5 * max(abs(up) / h * 1e-9, abs((up - down) / (2 * h)), 1e-12)
             yield "pressure", None if abs(six[2 * k + 1] - quotient) <= near else f"slope {k} for {slopes}: {six[2 * k + 1]!r} beside {quotient!r}"
 
     def unsloped(self, q, t, x, rho):
-        table = q.at("vrqTable", t, self.c.record(values=(0.5,) * chains.TABLE, numbers=(7,) * chains.COUNTS))[1].values
-        return q.at("vrqEnergies", t, x, rho, table, True, (0.5,) * 3)[1]
+        table = q.at("vrq_table", t, self.c.record(values=(0.5,) * chains.TABLE, numbers=(7,) * chains.COUNTS))[1].values
+        return q.at("vrq_energies", t, x, rho, table, True, (0.5,) * 3)[1]
 
     def state(self, t, x, rho, dt, dx, drho):
         with_slopes = lambda l, d: self.c.record(values=l, slopes=d)
@@ -206,24 +205,24 @@ class Cases:
     # ---- tanks in layers: Python's sum of the definitions' energies, layer by layer, and the outward rules over their ends
     def tanks(self):
         q = chains.Quantum(self.c)
-        one = {"m": 1.0, "sigma": 3.0243, "epsilon-k": 26.706, "lr": 9.0, "la": 6.0, "mass": 3.3476e-27, "k-ij": 0.0, "l-ij": 0.0}
+        one = {"m": 1.0, "sigma": 3.0243, "epsilon_k": 26.706, "lr": 9.0, "la": 6.0, "mass": 3.3476e-27, "k_ij": 0.0, "l_ij": 0.0}
         q.parameters(self.c.record(count=1, fh=(1,), **{n: (x,) for n, x in one.items()}))
         layers = [(30.0, 0.01, 3e9), (33.0, 0.002, 1e30), (300.0, 1e-5, 5e-324)]
         for k in (1, 2, 3):
             for wanted in (False, True):
                 tank = self.tank(layers[:k])
                 expected, ends = self.piled(q, layers[:k], wanted)
-                yield compared(f"a tank of {k} layers, {wanted}", q.tank("vrqTank", tank, wanted, 3), ("held", expected))
-                yield compared(f"the ends of {k} layers, {wanted}", q.tank("vrqTankEnds", tank, wanted, 6), ("held", ends))
+                yield compared(f"a tank of {k} layers, {wanted}", q.tank("vrq_tank", tank, wanted, 3), ("held", expected))
+                yield compared(f"the ends of {k} layers, {wanted}", q.tank("vrq_tank_ends", tank, wanted, 6), ("held", ends))
         for said, tank in self.odd_tanks(layers[0]):
-            for name, out in (("vrqTank", 3), ("vrqTankEnds", 6)):
+            for name, out in (("vrq_tank", 3), ("vrq_tank_ends", 6)):
                 yield compared(f"{name} of {tank}", q.tank(name, tank, True, out), ("refused", said))
-            yield compared("a list of 5 places", q.tank("vrqTank", tank, True, 5), ("refused", 14 if said == 14 else 1))
+            yield compared("a list of 5 places", q.tank("vrq_tank", tank, True, 5), ("refused", 14 if said == 14 else 1))
         fails = self.enclosed_tank(q, layers[:1])
         yield "tanks", f"the exact run of a tank: {fails}" if fails else None
         q.sheets = (0.0,) + q.sheets[1:]
         for said, volumes in ((6, (1.0, 0.0)), (2, (0.0, 1.0))):
-            yield compared("two layers without a table", q.tank("vrqTank", self.tank([(*layers[0][:2], v) for v in volumes]), True, 3), ("refused", said))
+            yield compared("two layers without a table", q.tank("vrq_tank", self.tank([(*layers[0][:2], v) for v in volumes]), True, 3), ("refused", said))
 
     def tank(self, layers):
         t, rho, v = zip(*layers) if layers else ((), (), ())
@@ -246,12 +245,12 @@ class Cases:
         point = lambda x: self.interval(x, x)
         sums, ends = [0.0] * 3, [point(0.0)] * 3
         for t, rho, v in layers:
-            table = q.at("vrqTable", t, self.c.record(values=(0.5,) * chains.TABLE, numbers=(7,) * chains.COUNTS))[1].values
-            energies = q.at("vrqEnergies", t, (1.0,), (rho,), table, wanted, (0.5,) * 3)[1]
-            each = self.c.get("saftvrqmie_energies_ends", "Operation", "energiesEnds")(port, q.record(), t, (1.0,), (rho,), table, wanted)[1]
+            table = q.at("vrq_table", t, self.c.record(values=(0.5,) * chains.TABLE, numbers=(7,) * chains.COUNTS))[1].values
+            energies = q.at("vrq_energies", t, (1.0,), (rho,), table, wanted, (0.5,) * 3)[1]
+            each = self.c.get("saftvrqmie_energies_ends", "Operation", "energies_ends")(port, q.record(), t, (1.0,), (rho,), table, wanted)[1]
             for k in range(3 if wanted else 2):
                 sums[k] += energies[k] * v * t
-                e = getattr(each, spell(parts[k].replace("_", "-")))
+                e = getattr(each, parts[k])
                 scaled = self.outward("mul", self.outward("mul", self.interval(e.lower, e.upper), point(v)), point(t))
                 ends[k] = self.outward("add", ends[k], scaled)
         return tuple(sums), tuple(x for e in ends for x in (e.lower, e.upper))
@@ -260,15 +259,15 @@ class Cases:
     def enclosed_tank(self, q, layers):
         c, tank, s = self.c, self.tank(layers), q.record()
         port, calls = c.get("elementary", "Port", "port")(), c.get("number", "Functions", "calls")
-        tables = lambda l: c.get("saftvrqmie_tank", "Tank", "tablesOf")(s, tank, l)
-        run = lambda a: lambda l: lambda table: c.get("saftvrqmie_energies", "Energies", "contributionsOf")(a, calls(a, port), s, layers[l][0], (1.0,), (layers[l][1],), table, True)
+        tables = lambda l: c.get("saftvrqmie_tank", "Tank", "tables_of")(s, tank, l)
+        run = lambda a: lambda l: lambda table: c.get("saftvrqmie_energies", "Energies", "contributions_of")(a, calls(a, port), s, layers[l][0], (1.0,), (layers[l][1],), table, True)
         exacts = c.get("enclosure", "Exact", "exacts")(choices(c)[0])
-        exact = c.get("saftvrqmie_tank", "Tank", "tankRun")(exacts, tank, tables, True, run(exacts))
+        exact = c.get("saftvrqmie_tank", "Tank", "tank_run")(exacts, tank, tables, True, run(exacts))
         float_run = c.get("saftvrqmie_tank", "Tank", "tank")(s, tank, True)
-        ends = c.get("saftvrqmie_tank_ends", "TankEnds", "tankEnds")(s, tank, True)
+        ends = c.get("saftvrqmie_tank_ends", "TankEnds", "tank_ends")(s, tank, True)
         if {exact[0], float_run[0], ends[0]} != {"held"}:
             return ["a run without a result"]
-        fields = {f: (getattr(float_run[1], spell(f)), getattr(exact[1], spell(f)).exact) for f in ("hard-sphere", "dispersion", "non-additive")}
+        fields = {f: (getattr(float_run[1], f), getattr(exact[1], f).exact) for f in ("hard_sphere", "dispersion", "non_additive")}
         given = {f: {"value": v, "fraction": x[1] if x[0] == "some" else None} for f, (v, x) in fields.items()}
         return c.fails("saftvrqmie_energies_ends", "Encloses", "EachEncloses", (ends[1], float_run, exact), given)
 
@@ -317,7 +316,7 @@ class Cases:
     # ---- Slip 7's constants: their ends beside the decimals of pi and of the rules, the series' bracket, and which choices are fair
     def constants(self):
         c, ends = self.c, {name: self.c.get("enclosure", "Constants", name) for name in ("below", "above")}
-        low, high = (c.get("pi_as_pi", "Machin", name)(8) for name in ("piLow", "piHigh"))
+        low, high = (c.get("pi_as_pi", "Machin", name)(8) for name in ("pi_low", "pi_high"))
         yield "bracket of pi", None if fraction(low) < PI < fraction(high) < fraction(low) + Fraction(1, 10**22) else f"{float(fraction(low))} to {float(fraction(high))}"
         for p, bad in ((low, []), (high, []), (frac(PI), []), (frac(fraction(low) - Fraction(1, 10**30)), ["low"]), (frac(fraction(high) + Fraction(1, 10**30)), ["high"])):
             said = c.fails("pi_as_pi", "Statement", "InBracket", (8, p), {})
@@ -352,20 +351,20 @@ class Cases:
     def table(self):
         c = self.c
         rows = c.statements("proved_table", "Table", "Table")
-        for row in ("root", "root-zero", "whole-power", "ln-1p", "ends"):
+        for row in ("root", "root_zero", "whole_power", "ln_1p", "ends"):
             said = rows[row](*[None] * list(rows).index(row))
             yield "table to be proved", None if said is True else f"the row {row} is {said}"
-        alike, quantum = c.get("proved_table", "Table", "alike"), c.get("saftvrqmie_parameters", "Parameters", "saftVRQMiePars")
+        alike, quantum = c.get("proved_table", "Table", "alike"), c.get("saftvrqmie_parameters", "Parameters", "saft_vrq_mie_pars")
         for fh, m, number in (((0, 1), None, 0), ((1, 2), None, 5), ((1, 2, 3), None, 5), ((1, 3, 2), None, 4), ((0, 3), None, 4), ((3, 0), (1.0, 2.0), 3)):
             lists = alike(fh)
             lists.m = m or lists.m
             yield compared(f"orders {fh}, m {lists.m}", chains.refusal(quantum(lists)), number)
-        mie, names = c.get("saftvrmie_parameters", "Parameters", "saftVRMiePars"), ["m", "sigma", "epsilon-k", "lr", "la", "k-ij", "gamma-ij"]
+        mie, names = c.get("saftvrmie_parameters", "Parameters", "saft_vr_mie_pars"), ["m", "sigma", "epsilon_k", "lr", "la", "k_ij", "gamma_ij"]
         for count in (0, SIDE + 1):
             lists = alike((0,) * count)
             yield compared(f"count {count}", chains.refusal(quantum(lists)), 1)
             yield compared(f"VR Mie, count {count}", chains.refusal(mie(c.record(count=count, **{n: () for n in names}))), 1)
-        power = c.get("power", "Power", "powfOf")
+        power = c.get("power", "Power", "powf_of")
         yield compared("base 32", power(32.0, 2.0), ("held", 1024.0))
         yield compared("the base above 32", power(math.nextafter(32.0, 64.0), 2.0), ("refused", 6))
 
@@ -376,22 +375,22 @@ class Cases:
         powf = c.get("number", "Functions", "calls")(floats, c.get("elementary", "Port", "port")()).powf
         three, six, twelve, four = (c.get("power_corners", "Corners", name)() for name in ("three", "six", "twelve", "four"))
         yield compared("its numbers", (three, six, twelve, four), (3.0, 6.0, 12.0, 4.0))
-        ilambda, zero = c.get("saftvrqmie_dispersion_terms", "Terms", "ilambda"), c.get("power_corners", "Corners", "zeroAt")
+        ilambda, zero = c.get("saftvrqmie_dispersion_terms", "Terms", "ilambda"), c.get("power_corners", "Corners", "zero_at")
         for x in (math.nextafter(3.0, 4.0), math.nextafter(3.0, 2.0), 0.0, -0.0, 6.0, 12.0, 195.0, -189.0):
             yield compared(f"ilambda of {x!r} at ratio 1", (ilambda(floats, x, powf(1.0)), zero(x)), (("held", -0.0 if x > 3 else 0.0), -0.0 if x > 3 else 0.0))
         for gamma, stays in ((0.0, True), (-0.0, True), (2.0**-54, True), (2.0**-53, False), (0.5, False)):
             yield compared(f"gamma_ij of {gamma!r}", c.get("power_corners", "Corners", "Leaves")(gamma), stays)
         lists = c.get("proved_table", "Table", "alike")((0, 1))
         shared = {name: getattr(lists, name) for name in ("count", "m", "sigma", "lr", "la")}
-        mie = c.record(**shared, **{"epsilon-k": (30.0, 35.0), "k-ij": (0.0, 0.1, 0.1, 0.0), "gamma-ij": (0.0, -0.0, -0.0, 0.0)})
-        for crate, name, given, places in (("saftvrqmie_parameters", "saftVRQMiePars", lists, (3, 4, 2)), ("saftvrmie_parameters", "saftVRMiePars", mie, (2, 3, 4))):
+        mie = c.record(**shared, **{"epsilon_k": (30.0, 35.0), "k_ij": (0.0, 0.1, 0.1, 0.0), "gamma_ij": (0.0, -0.0, -0.0, 0.0)})
+        for crate, name, given, places in (("saftvrqmie_parameters", "saft_vrq_mie_pars", lists, (3, 4, 2)), ("saftvrmie_parameters", "saft_vr_mie_pars", mie, (2, 3, 4))):
             sheets = c.get(crate, "Parameters", name)(given)[1].sheets
             for e in (0, 1, SIDE, SIDE + 1):
                 yield compared(f"{crate}: lr, la and c at {e}", tuple(sheets[k * SIDE**2 + e] for k in places), (twelve, six, four))
 
     # ---- how the order lists fall: each list walked here too, as the words of document 01 have it
     def orders(self):
-        names = {"order_counts": ("ticked", "below4", "same"), "domthelv": ("orderCountsOut",)}
+        names = {"order_counts": ("ticked", "below4", "same"), "domthelv": ("order_counts_out",)}
         ticked, below4, alike, counts = (self.c.get(crate, "Counts" if crate == "order_counts" else "Operations", name) for crate in names for name in names[crate])
         for n in range(1, 6 if self.whole else 5):
             lists = tuple(product(range(4), repeat=n))
@@ -405,10 +404,10 @@ class Cases:
 
     # ---- fuel cards: the cases of tools/cards, whose writer and answers are its own
     def cards(self):
-        whole = self.c.get("card_parameters", "Parameters", "cardParameters")
-        forms = [self.c.get("card", "Card", name)() for name in ("older", "newerForm")]
+        whole = self.c.get("card_parameters", "Parameters", "card_parameters")
+        forms = [self.c.get("card", "Card", name)() for name in ("older", "newer_form")]
         made = SourceFileLoader("cards", os.path.join(os.path.dirname(os.path.abspath(__file__)), "..", "cards")).load_module()
-        moved = self.c.get("card_writer", "Writing", "cardMoved")
+        moved = self.c.get("card_writer", "Writing", "card_moved")
         for name, task, card, wanted, room in made.cases():
             if task > 1:
                 lent = self.c.record(card=(0xA5,) * room, length=9999)
@@ -423,14 +422,14 @@ class Cases:
             yield compared(name, f"{number} {told.model} {told.count} " + " ".join(f"{made.pattern(x):016x}" for x in told.sheets[:2]), wanted)
         for name, model, lists, wanted, room in made.written():
             lent = self.c.record(card=(0xA5,) * room, length=9999)
-            q = self.c.get("card_of_lists", "Cards", "vrCard" if model else "vrqCard")(self.c.record(**lists), lent)
+            q = self.c.get("card_of_lists", "Cards", "vr_card" if model else "vrq_card")(self.c.record(**lists), lent)
             told = q[1] if q[0] == "held" else lent
             yield compared(name, f"{0 if q[0] == 'held' else q[1]} {told.length} {bytes(told.card).hex()}", wanted)
         verdict = self.c.get("mie_parameters", "Answer", "verdict")
         for q in (("held", 0), ("refused", 1), ("refused", 5), ("refused", 6)):
-            answers = [self.c.get("card_of_lists", "Cards", name) for name in ("passedAnswer", "passed")]
+            answers = [self.c.get("card_of_lists", "Cards", name) for name in ("passed_answer", "passed")]
             yield compared(f"what passes of {q}", answers[0](verdict(q)), verdict(answers[1](q)))
-        spared = self.c.get("card", "Fields", "readSpared")
+        spared = self.c.get("card", "Fields", "read_spared")
         for bits, wanted in (("01", (0, "1")), ("10110", (3, "0")), ("1000", 15), ("", 9), ("101", 9)):
             q = spared(3, tuple(b == "1" for b in bits))
             told = q[1] if q[0] == "refused" else (q[1].value, "".join("01"[b] for b in q[1].rest))
@@ -444,7 +443,7 @@ class Cases:
         c = self.c
         a = c.get("enclosure", "Exact", "exacts")(choices(c)[0])
         exactly, g = c.get("enclosure", "Exact", "exactly"), Random(0x56)
-        rule = {name: c.get("dual", "Dual", name) for name in ("addD", "subD", "negD", "mulD", "divD", "powD", "downD", "afterD", "plainD")}
+        rule = {name: c.get("dual", "Dual", name) for name in ("add_d", "sub_d", "neg_d", "mul_d", "div_d", "pow_d", "down_d", "after_d", "plain_d")}
 
         def dual(*x):
             return c.record(re=exactly(x[0]), eps=exactly(x[1]))
@@ -453,12 +452,12 @@ class Cases:
             n = g.next() % 5
             fx, fdx, fy, fdy = map(Fraction, (x, dx, y, dy))
             wanted = {
-                "addD": (fx + fy, fdx + fdy), "subD": (fx - fy, fdx - fdy), "mulD": (fx * fy, fdx * fy + fx * fdy),
-                "divD": (fx / fy, (fdx * fy - fx * fdy) / fy**2), "afterD": (fy, fdy),
+                "add_d": (fx + fy, fdx + fdy), "sub_d": (fx - fy, fdx - fdy), "mul_d": (fx * fy, fdx * fy + fx * fdy),
+                "div_d": (fx / fy, (fdx * fy - fx * fdy) / fy**2), "after_d": (fy, fdy),
             }
             got = {name: rule[name](a, dual(x, dx), dual(y, dy)) for name in wanted}
-            wanted |= {"negD": (-fx, -fdx), "powD": (fx**n, n * fx**n / fx * fdx), "downD": (1 / fx**n, -n / fx**n / fx * fdx), "plainD": (fx, Fraction(0))}
-            got |= {"negD": rule["negD"](a, dual(x, dx)), "powD": rule["powD"](a, dual(x, dx), n), "downD": rule["downD"](a, dual(x, dx), n), "plainD": rule["plainD"](a, exactly(x))}
+            wanted |= {"neg_d": (-fx, -fdx), "pow_d": (fx**n, n * fx**n / fx * fdx), "down_d": (1 / fx**n, -n / fx**n / fx * fdx), "plain_d": (fx, Fraction(0))}
+            got |= {"neg_d": rule["neg_d"](a, dual(x, dx)), "pow_d": rule["pow_d"](a, dual(x, dx), n), "down_d": rule["down_d"](a, dual(x, dx), n), "plain_d": rule["plain_d"](a, exactly(x))}
             for name, d in got.items():
                 said = tuple(Fraction(q.exact[1][1] - q.exact[1][2], q.exact[1][3]) for q in (d.re, d.eps))
                 yield "slopes", None if said == wanted[name] else f"{name} of {x}, {dx} and {y}, {dy}: {said}, and not {wanted[name]}"
@@ -471,7 +470,7 @@ class Cases:
     # ---- the desk: queries of one and two components among each other, what each call tells, and the door, beside the direct calls' definitions
     def desk(self):
         c = self.c
-        begun, submitted, served, directly = (c.get("desk", "Desk", name) for name in ("begun", "submitted", "servedOnce", "directly"))
+        begun, submitted, served, directly = (c.get("desk", "Desk", name) for name in ("begun", "submitted", "served_once", "directly"))
         long, short = 23632, 2369
 
         def query(n, **other):
@@ -504,7 +503,7 @@ class Cases:
 
     # what a call at the boundary leaves in the places that it is lent; `desk` is idle
     def desk_calls(self, desk, submitted, directly, query):
-        c, call = self.c, self.c.get("desk_calls", "Calls", "servedCall")
+        c, call = self.c, self.c.get("desk_calls", "Calls", "served_call")
         slip = c.record(outcome=9, place=99, number=9, energies=(1.0, 2.0, 3.0))
         shown = lambda s: (s.outcome, s.place, s.number, tuple(s.energies))
         yield compared("an idle call", shown(call(c.record(desk=desk, slip=slip))[1].slip), (0, 99, 9, (1.0, 2.0, 3.0)))
@@ -516,7 +515,7 @@ class Cases:
             lent = call(c.record(desk=desk, slip=slip))[1]
             desk, slip = lent.desk, lent.slip
             lines.append(shown(slip))
-        e = tuple(getattr(e, spell(f)) for f in ("hard-sphere", "dispersion", "non-additive"))
+        e = tuple(getattr(e, f) for f in ("hard_sphere", "dispersion", "non_additive"))
         # place 1 was served last, so that place 0 is next
         yield compared("what is told in the lent places", repr(lines), repr([(1, 99, 9, (1.0, 2.0, 3.0)), (2, 1, 0, e), (1, 1, 0, e), (1, 1, 0, e), (2, 0, 7, e)]))
         yield compared("energies of 2 places", call(c.record(desk=desk, slip=c.record(outcome=9, place=99, number=9, energies=(1.0, 2.0)))), ("refused", 1))
@@ -555,7 +554,7 @@ def fraction(q):
 
 def all_constants(c):
     """Slip 7's constants, each with its exact value; pi's as far as 40 digits have it."""
-    yield from ((("pi",), PI), (("frac-pi-6",), PI / 6), (("tau",), 2 * PI))
+    yield from ((("pi",), PI), (("frac_pi_6",), PI / 6), (("tau",), 2 * PI))
     for crate, names in (("saftvrqmie_searches", ("abscissas", "weights")), ("saftvrmie_diameter", ("positions", "weights"))):
         for e in (e for name in names for e in c.get(crate, "Diameter", name)()):
             yield ("node", e.minus, e.digits, e.places), Fraction((-1 if e.minus else 1) * e.digits, 10**e.places)
@@ -563,7 +562,7 @@ def all_constants(c):
 
 def choices(c):
     """Fair choices: every lower end, every upper end, the constants themselves."""
-    value, below, above = c.get("number", "Frac", "valF"), c.get("enclosure", "Constants", "below"), c.get("enclosure", "Constants", "above")
+    value, below, above = c.get("number", "Frac", "val_f"), c.get("enclosure", "Constants", "below"), c.get("enclosure", "Constants", "above")
     truly = c.get("pi_as_pi", "Statement", "truly")
     return [lambda x: value(below(x)), lambda x: value(above(x)), lambda x: truly(frac(PI), x)]
 
@@ -610,12 +609,12 @@ class Exact:
         if call.what in (8, 13):
             crate = "saftvrmie" if call.what == 13 else "saftvrqmie"
             handed = (s, *call.lengths[:2], chains.number(call.value), *chains.floats(call.listed))
-            self.ends, self.float = c.get(crate + "_diameter_ends", "Operations", "diameterEnds")(port, *handed), c.get(crate, "Pairs", "diameterIj")()
-            self.run, self.exact = (c.get(crate, "Pairs", "diameterRun")(a, calls(a, port), *handed) for a in runs)
+            self.ends, self.float = c.get(crate + "_diameter_ends", "Operations", "diameter_ends")(port, *handed), c.get(crate, "Pairs", "diameter_ij")()
+            self.run, self.exact = (c.get(crate, "Pairs", "diameter_run")(a, calls(a, port), *handed) for a in runs)
         else:
             lent = m.diameters[:call.lengths[2]] if call.what == 9 else m.table[:chains.lent(call.lengths[2], chains.TABLE)]
             handed = (s, chains.number(call.value), *map(chains.floats, call.cut(2)), lent, call.flag == 1)
-            crate, ends, run = ("saftvrmie_energies", "dispersionEnds", "energyRun") if call.what == 9 else ("saftvrqmie_energies", "energiesEnds", "contributionsOf")
+            crate, ends, run = ("saftvrmie_energies", "dispersion_ends", "energy_run") if call.what == 9 else ("saftvrqmie_energies", "energies_ends", "contributions_of")
             self.ends = c.get(crate + "_ends", "Operation", ends)(port, *handed)
             self.float = c.get(crate, "Energies", "energy" if call.what == 9 else "energies")()
             self.run, self.exact = (c.get(crate, "Energies", run)(a, calls(a, port), *handed) for a in runs)
@@ -627,13 +626,13 @@ class Exact:
         c, three = self.c, self.call.what == 7
         if {self.float[0], self.run[0], self.exact[0], self.ends[0]} != {"held"}:
             return ["a run without a result"]
-        crate, module, sound, ends = ("saftvrqmie_energies_ends", "Operation", "allSound", "eachEnds") if three else ("demand_three", "Demand", "isSound", None)
-        expected = c.get(crate, module, ends)(self.run[1]) if three else c.get("enclosure", "Ends", "endsIn")(self.run[1])
+        crate, module, sound, ends = ("saftvrqmie_energies_ends", "Operation", "all_sound", "each_ends") if three else ("demand_three", "Demand", "is_sound", None)
+        expected = c.get(crate, module, ends)(self.run[1]) if three else c.get("enclosure", "Ends", "ends_in")(self.run[1])
         if not c.get(crate, module, sound)(self.run[1]) or not same(self.ends[1], expected):
             return ["ends that are not the enclosures'"]
         if not three:
             return c.fails("enclosure", "Ends", "Encloses", (self.ends[1], self.float, self.exact), self.given(self.float[1], self.exact[1]))
-        given = {f: self.given(getattr(self.float[1], spell(f)), getattr(self.exact[1], spell(f))) for f in ("hard-sphere", "dispersion", "non-additive")}
+        given = {f: self.given(getattr(self.float[1], f), getattr(self.exact[1], f)) for f in ("hard_sphere", "dispersion", "non_additive")}
         return c.fails("saftvrqmie_energies_ends", "Encloses", "EachEncloses", (self.ends[1], self.float, self.exact), given)
 
     def given(self, value, exact):

@@ -98,9 +98,9 @@ class Quantum:
 
     def __init__(self, c):
         self.c = c
-        self.number = c.get("saftvrqmie_potential", "Potential", "orderNumber")
+        self.number = c.get("saftvrqmie_potential", "Potential", "order_number")
         self.stored = c.get("mie_parameters", "Answer", "stored")
-        self.keep(c.get("saftvrqmie_parameters", "Parameters", "emptySet")())
+        self.keep(c.get("saftvrqmie_parameters", "Parameters", "empty_set")())
         self.table, self.counts = (0.0,) * TABLE, (0,) * COUNTS
 
     def keep(self, s):
@@ -108,7 +108,7 @@ class Quantum:
 
     # the set as the definitions have it
     def record(self):
-        of = self.c.get("saftvrqmie_parameters", "Parameters", "orderOf")
+        of = self.c.get("saftvrqmie_parameters", "Parameters", "order_of")
         return self.c.record(count=self.count, m=self.m, sheets=self.sheets, orders=tuple(self.c.record(order=of(o)) for o in self.orders))
 
     # a call of the boundary on the set
@@ -116,9 +116,9 @@ class Quantum:
         return boundary(self.c, name, {"count": self.count, "m": self.m, "sheets": self.sheets, "orders": self.orders}, more)
 
     def lists(self, call):
-        names = ["m", "sigma", "epsilon-k", "lr", "la", "mass", "k-ij", "l-ij"]
+        names = ["m", "sigma", "epsilon_k", "lr", "la", "mass", "k_ij", "l_ij"]
         *parts, fh = call.cut(9)
-        return self.c.record(**{"count": call.count, "fh": tuple(fh)}, **{n: floats(p) for n, p in zip(names, parts)})
+        return self.c.record(count=call.count, fh=tuple(fh), **{n: floats(p) for n, p in zip(names, parts)})
 
     def changed(self, call):
         m, sheets, orders, table = list(self.m), list(self.sheets), list(self.orders), list(self.table)
@@ -143,18 +143,18 @@ class Quantum:
         if call.what == 2:
             values, numbers = lent(call.lengths[0], TABLE), lent(call.lengths[1], COUNTS)
             before = self.c.record(values=self.table[:values], numbers=self.counts[:numbers])
-            a = self.at("vrqTable", t, before)
+            a = self.at("vrq_table", t, before)
             after = self.stored(before, a)
             self.table = after.values + self.table[values:]
             self.counts = after.numbers + self.counts[numbers:]
             return refusal(a), [hashed(filled(WORKED, patterns(self.table))), hashed(filled(SPENT, self.counts))]
         if call.what == 8:
             handed = (*call.lengths[:2], t, *floats(call.listed))
-            return around(self.at("vrqDiameter", *handed), self.at("vrqDiameterEnds", *handed, OUT[:2]))
+            return around(self.at("vrq_diameter", *handed), self.at("vrq_diameter_ends", *handed, OUT[:2]))
         if call.what == 14:
-            a = self.at("vrqRadii", *call.lengths[:2], t, self.c.record(values=OUT[:6], numbers=(7,) * 3))
+            a = self.at("vrq_radii", *call.lengths[:2], t, self.c.record(values=OUT[:6], numbers=(7,) * 3))
             return refusal(a), patterns(a[1].values) + list(a[1].numbers) if a[0] == "held" else []
-        name, out = {3: ("vrqEnergies", OUT[:3]), 7: ("vrqEnergiesEnds", OUT[:6])}[call.what]
+        name, out = {3: ("vrq_energies", OUT[:3]), 7: ("vrq_energies_ends", OUT[:6])}[call.what]
         handed = (t, *map(floats, call.cut(2)), self.table[:lent(call.lengths[2], TABLE)], call.flag == 1)
         a = self.at(name, *handed, out)
         if call.what == 3 and not same(self.total(*handed), totalled(a, call.flag == 1)):
@@ -163,12 +163,12 @@ class Quantum:
 
     def total(self, *handed):
         s = self.c.record(count=self.count, m=self.m, sheets=self.sheets, orders=self.orders)
-        return self.c.get("domthelv", "Total", "vrqTotal")(s, *handed, OUT[:4])
+        return self.c.get("domthelv", "Total", "vrq_total")(s, *handed, OUT[:4])
 
     # the set's energies with slopes, by the boundary's definition
     def sloped(self, state, wanted, out):
         s = self.c.record(count=self.count, m=self.m, sheets=self.sheets, orders=self.orders)
-        return self.c.get("slopes_calls", "Calls", "vrqEnergiesSlopes")(s, state, wanted, OUT[:out])
+        return self.c.get("slopes_calls", "Calls", "vrq_energies_slopes")(s, state, wanted, OUT[:out])
 
     # a tank over the set, by the boundary's definition
     def tank(self, name, tank, wanted, out):
@@ -176,16 +176,16 @@ class Quantum:
         return self.c.get("domthelv", "Tank", name)(s, tank, wanted, OUT[:out])
 
     def parameters(self, lists):
-        a = self.c.get("saftvrqmie_parameters", "Parameters", "saftVRQMiePars")(lists)
+        a = self.c.get("saftvrqmie_parameters", "Parameters", "saft_vrq_mie_pars")(lists)
         self.keep(self.c.get("saftvrqmie_parameters", "Parameters", "given")(a).set)
-        written = operation(self.c, "vrqParameters")(lists, self.c.record(m=OUT[:SIDE], sheets=OUT, orders=(7,) * SHEET))
+        written = operation(self.c, "vrq_parameters")(lists, self.c.record(m=OUT[:SIDE], sheets=OUT, orders=(7,) * SHEET))
         if refusal(written) != refusal(a) or (a[0] == "held" and not same((written[1].m, written[1].sheets, written[1].orders), (self.m, self.sheets, self.orders))):
             return None, []
         return refusal(a), [hashed(filled_lists(patterns(self.m)), filled(SET, patterns(self.sheets)), filled(ORDERS, self.orders))]
 
     # parameters, a table and energies in one, for the lists, state and part of two calls
     def stage(self, first, last):
-        return told(operation(self.c, "vrqStage")(self.lists(first), number(last.value), *map(floats, last.cut(2)), last.flag == 1, OUT[:3]))
+        return told(operation(self.c, "vrq_stage")(self.lists(first), number(last.value), *map(floats, last.cut(2)), last.flag == 1, OUT[:3]))
 
 
 class Mie:
@@ -196,11 +196,11 @@ class Mie:
     def __init__(self, c):
         self.c = c
         self.stored = c.get("mie_parameters", "Answer", "stored")
-        self.keep(c.get("saftvrmie_parameters", "Parameters", "emptySet")())
+        self.keep(c.get("saftvrmie_parameters", "Parameters", "empty_set")())
         self.diameters = (0.0,) * SIDE
 
     def keep(self, s):
-        self.count, self.lists, self.sheets = s.count, s.m + s.sigma + s.epsilon_5f_k + s.lr + s.la, s.sheets
+        self.count, self.lists, self.sheets = s.count, s.m + s.sigma + s.epsilon_k + s.lr + s.la, s.sheets
 
     def record(self):
         five = {n: self.lists[SIDE * k:SIDE * (k + 1)] for k, n in enumerate(self.FIVE)}
@@ -223,8 +223,8 @@ class Mie:
         self.lists, self.sheets, self.diameters = tuple(lists), tuple(sheets), tuple(d)
 
     def handed(self, call):
-        names = ["m", "sigma", "epsilon-k", "lr", "la", "k-ij", "gamma-ij"]
-        return self.c.record(**{"count": call.count}, **{n: floats(p) for n, p in zip(names, call.cut(7))})
+        names = ["m", "sigma", "epsilon_k", "lr", "la", "k_ij", "gamma_ij"]
+        return self.c.record(count=call.count, **{n: floats(p) for n, p in zip(names, call.cut(7))})
 
     def worked(self, call):
         t = number(call.value)
@@ -232,29 +232,29 @@ class Mie:
             return self.parameters(self.handed(call))
         if call.what == 5:
             before = self.diameters[:call.lengths[0]]
-            a = self.at("vrDiameters", t, before)
+            a = self.at("vr_diameters", t, before)
             self.diameters = self.stored(before, a) + self.diameters[call.lengths[0]:]
             return refusal(a), [hashed(filled(WORKED, patterns(self.diameters)))]
         if call.what == 13:
             handed = (*call.lengths[:2], t, *floats(call.listed))
-            return around(self.at("vrDiameter", *handed), self.at("vrDiameterEnds", *handed, OUT[:2]))
+            return around(self.at("vr_diameter", *handed), self.at("vr_diameter_ends", *handed, OUT[:2]))
         if call.what == 15:
-            return told(self.at("vrRadius", *call.lengths[:2], t))
+            return told(self.at("vr_radius", *call.lengths[:2], t))
         state = (t, *map(floats, call.cut(2)), self.diameters[:call.lengths[2]], call.flag == 1)
         if call.what == 6:
-            return told(self.at("vrDispersion", *state))
-        return told(self.at("vrDispersionEnds", *state, OUT[:2])) if call.what == 9 else None
+            return told(self.at("vr_dispersion", *state))
+        return told(self.at("vr_dispersion_ends", *state, OUT[:2])) if call.what == 9 else None
 
     def parameters(self, lists):
-        a = self.c.get("saftvrmie_parameters", "Parameters", "saftVRMiePars")(lists)
+        a = self.c.get("saftvrmie_parameters", "Parameters", "saft_vr_mie_pars")(lists)
         self.keep(self.c.get("saftvrmie_parameters", "Parameters", "given")(a).set)
-        written = operation(self.c, "vrParameters")(lists, self.c.record(lists=OUT[:LISTS], sheets=OUT))
+        written = operation(self.c, "vr_parameters")(lists, self.c.record(lists=OUT[:LISTS], sheets=OUT))
         if refusal(written) != refusal(a) or (a[0] == "held" and not same((written[1].lists, written[1].sheets), (self.lists, self.sheets))):
             return None, []
         return refusal(a), [hashed(filled_lists(patterns(self.lists)), filled(SET, patterns(self.sheets)))]
 
     def stage(self, first, last):
-        return told(self.c.get("stages", "Stages", "mieStage")(self.handed(first), number(last.value), *map(floats, last.cut(2)), last.flag == 1))
+        return told(self.c.get("stages", "Stages", "mie_stage")(self.handed(first), number(last.value), *map(floats, last.cut(2)), last.flag == 1))
 
 
 def operation(c, name):

@@ -5,7 +5,6 @@ from fractions import Fraction
 from .library import same
 from .promises import frac
 from .sizes import SIDE
-from .terms import spell
 
 HERE = "chain_derivatives"
 
@@ -63,7 +62,7 @@ class Derivatives:
             for name, it, wanted in (
                 ("itself", first, (y, dy)), ("sum", numbers.add(first)(second), (y + z, dy + dz)), ("difference", numbers.sub(first)(second), (y - z, dy - dz)),
                 ("product", numbers.mul(first)(second), (y * z, dy * z + y * dz)), ("quotient", numbers.div(first)(second), (y / z, (dy * z - y * dz) / z**2)), ("negative", numbers.neg(first), (-y, -dy)),
-                (f"power {n}", numbers.pow(second)(n), (z**n, n * z**n / z * dz)), (f"power -{n}", numbers.powDown(second)(n), (1 / z**n, -n / z**n / z * dz)),
+                (f"power {n}", numbers.pow(second)(n), (z**n, n * z**n / z * dz)), (f"power -{n}", numbers.pow_down(second)(n), (1 / z**n, -n / z**n / z * dz)),
                 ("number of the source", numbers.lit(0.75), (Fraction(3, 4), 0)), ("constant", numbers.constant(("pi",)), (read(choice(("pi",))), 0)), ("density", self.get("Quotient", "variable")(), (x, 1)), ("unused work", numbers.after(first)(second), (z, dz)),
             ):
                 bad = self.fails(it, x, *wanted)
@@ -76,11 +75,11 @@ class Derivatives:
 
     # the state of a component: k_hs as a quotient, and with slopes
     def fluids(self):
-        dual, exacts = self.c.get("saftvrmie_dispersion", "Chain", "fluidDual"), self.c.get("enclosure", "Exact", "exacts")
+        dual, exacts = self.c.get("saftvrmie_dispersion", "Chain", "fluid_dual"), self.c.get("enclosure", "Exact", "exacts")
         for i in range(20):
             choice = self.choices[i % 2]
             x, ratio = abs(self.some()) + 1, abs(self.some()) / 64
-            k, q = (getattr(w, spell("k-hs")) for w in (dual(exacts(choice), self.exact(ratio * x), self.exact(x)), self.get("Chain", "fluidQuotient")(choice, frac(ratio))))
+            k, q = (w.k_hs for w in (dual(exacts(choice), self.exact(ratio * x), self.exact(x)), self.get("Chain", "fluid_quotient")(choice, frac(ratio))))
             bad = self.fails(q, x, *(read(n.exact[1]) for n in (k.re, k.eps)))
             yield bad and f"k_hs at density {x} and ratio {ratio}: {bad}"
 
@@ -94,17 +93,17 @@ class Derivatives:
         numbers = {"sigma": 3.5, "epsilon_k": 120.0, "lr": 12.0, "la": 6.0}
         fluid = self.c.record(count=1, m=(2.0,) * SIDE, sheets=tuple(v for v in (*numbers.values(), 4.0, 1.0) for _ in range(SIDE**2)), **{n: (v,) * SIDE for n, v in numbers.items()})
         p = self.get("Chain", "component")(fluid, 0)
-        w = self.get("Chain", "propertiesOf")(choice, port, fluid, 150.0, (1.0,), (0.0078125,), (3.4375,))[1]
-        x, z = (read(n.exact[1]) for n in (getattr(w, spell("segment-density")), getattr(w, spell("zeta-x"))))
+        w = self.get("Chain", "properties_of")(choice, port, fluid, 150.0, (1.0,), (0.0078125,), (3.4375,))[1]
+        x, z = (read(n.exact[1]) for n in (w.segment_density, w.zeta_x))
         yield None if x == Fraction(1, 64) else f"the segment density is {x}"
         h = x / 2**30
-        low, at, high = (self.get("Chain", "slopedOrders")(choice, port, self.exact(z / x * y), self.exact(y), p, 3.4375)[1] for y in (x - h, x, x + h))
+        low, at, high = (self.get("Chain", "sloped_orders")(choice, port, self.exact(z / x * y), self.exact(y), p, 3.4375)[1] for y in (x - h, x, x + h))
         for order in ("a1", "a2"):
             below, above, said = (read(part.exact[1]) for part in (getattr(low, order).re, getattr(high, order).re, getattr(at, order).eps))
             wanted = (above - below) / (2 * h)
             yield None if said and abs(said - wanted) < abs(wanted) / 2**50 else f"the slope of {order} is {float(said)}, and values differ by {float(wanted)} times the density"
         silent = self.c.record(powf=lambda x: lambda y: ("refused", 6), **{n: lambda x: ("refused", 6) for n in ("sqrt", "ln", "ln1p", "exp", "expm1", "tanh")})
-        both = self.get("Chain", "slopedOrders")(choice, silent, self.exact(z), self.exact(x), p, 3.4375), self.get("Chain", "quotientOrders")(choice, silent, frac(z / x), p, 3.4375)
+        both = self.get("Chain", "sloped_orders")(choice, silent, self.exact(z), self.exact(x), p, 3.4375), self.get("Chain", "quotient_orders")(choice, silent, frac(z / x), p, 3.4375)
         yield None if both == (("refused", 6), ("refused", 6)) else f"a refused power: {both}"
 
     # numbers with histories: with answers that do not look at them they are the plain ones
@@ -116,14 +115,14 @@ class Derivatives:
         p, d = c.record(sigma=3.5, epsilon_k=120.0, lr=12.0, la=6.0, c=4.0, alpha=1.0), 3.4375
         plain = self.exact(Fraction(1, 4)), self.exact(Fraction(1, 64))
         noted = (c.record(history=("lit", n.value), number=n) for n in plain)
-        by, alone = self.get("Chain", "slopedBy")(traced, functions, *noted, p, d)[1], self.get("Chain", "slopedOrders")(choice, port, *plain, p, d)[1]
+        by, alone = self.get("Chain", "sloped_by")(traced, functions, *noted, p, d)[1], self.get("Chain", "sloped_orders")(choice, port, *plain, p, d)[1]
         for order in ("a1", "a2"):
-            got, wanted = self.get("Chain", "plainDual")(getattr(by, order)), getattr(alone, order)
+            got, wanted = self.get("Chain", "plain_dual")(getattr(by, order)), getattr(alone, order)
             yield None if same(got, wanted) else f"{order} with histories is another"
         exp, x = functions.exp(traced.lit(0.5)), c.get("number", "Functions", "calls")(exacts, port).exp(exacts.lit(0.5))
         yield None if same(exp[1].number, x[1]) else "a call with a history is answered otherwise"
         silent = c.record(one=lambda f: lambda h: lambda x: ("refused", 6), powf=lambda h: lambda k: lambda x: lambda y: ("refused", 6))
-        said = self.get("Chain", "quotientsBy")(traced, asks(exacts, silent), choice, lambda x: x.number, frac(Fraction(16)), p, d)
+        said = self.get("Chain", "quotients_by")(traced, asks(exacts, silent), choice, lambda x: x.number, frac(Fraction(16)), p, d)
         yield None if said == ("refused", 6) else f"a refused power with histories: {said}"
 
     def run(self):

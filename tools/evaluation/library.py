@@ -8,7 +8,7 @@ class Refused(Exception):
     """An evaluation met what the library leaves open, or what is no f64."""
 
 
-# ---- Prim.Native.Nat
+# ---- natural numbers
 def minus(a, b):
     return a - b if a > b else 0
 
@@ -21,8 +21,8 @@ def remainder(a, b):
     return a % b if b else a
 
 
-# ---- lib.ListN
-def get_d(l, n, d):
+# ---- lists
+def get_or(l, n, d):
     return l[n] if n < len(l) else d
 
 
@@ -30,12 +30,12 @@ def set_at(l, n, b):
     return l[:n] + (b,) + l[n + 1:] if n < len(l) else l
 
 
-# ---- lib.Count
+# ---- counts of bits
 def leading_zeros(k, n):
     return max(0, k - n.bit_length())
 
 
-# ---- lib.Ieee, binary64 alone
+# ---- floats, binary64 alone
 TOP, HID, ONES, LOW = 2**63, 2**52, 2047, 1074
 
 
@@ -176,58 +176,55 @@ def both(a, b):
     return Stated("×")
 
 
-# name: how many arguments, the Python text with them, or the function where it is not called on all of them
+PRELUDE, FLOAT, IEEE, OPTION = "Rattle.std.specs.Prelude", "Rattle.std.specs.Float", "Rattle.std.specs.Float.Ieee", "Rattle.std.proofs.Math.Option"
+# module, and in it name: how many arguments, the Python text with them, or the function where it is not called on all of them
 NATIVE = {
-    "Prim.Native.Nat": {
-        "suc": (1, "({0} + 1)"), "_+_": (2, "({0} + {1})"), "_-_": (2, "minus({0}, {1})"), "_*_": (2, "({0} * {1})"),
-        "_/_": (2, "quotient({0}, {1})"), "_%_": (2, "remainder({0}, {1})"), "_^_": (2, "({0} ** {1})"), "max": (2, "max({0}, {1})"), "min": (2, "min({0}, {1})"),
-        "_≤_": (2, "({0} <= {1})"), "_<_": (2, "({0} < {1})"), "zero": (0, "0"),
-    },
-    "mathlib.Core.Bool": {
+    PRELUDE: {
+        "zero": (0, "0"), "suc": (1, "({0} + 1)"), "◌+◌": (2, "({0} + {1})"), "◌-◌": (2, "minus({0}, {1})"), "◌*◌": (2, "({0} * {1})"),
+        "◌/◌": (2, "quotient({0}, {1})"), "◌%◌": (2, "remainder({0}, {1})"), "◌^◌": (2, "({0} ** {1})"), "max": (2, "max({0}, {1})"), "min": (2, "min({0}, {1})"),
+        "◌≤◌": (2, "({0} <= {1})"), "◌<◌": (2, "({0} < {1})"),
         "true": (0, "True"), "false": (0, "False"), "cond": (3, "({1} if {0} else {2})"), "not": (1, "(not {0})"),
-        "_&&_": (2, "({0} and {1})"), "_||_": (2, "({0} or {1})"), "Bool·beq": (2, "({0} is {1})"),
-    },
-    "mathlib.Core.List": {"[]": (0, "()"), "_∷_": (2, "(({0},) + {1})"), "_++_": (2, "({0} + {1})"), "map": (2, "tuple(map({0}, {1}))")},
-    "mathlib.Core.Option": {"none": (0, "('none',)"), "some": (1, "('some', {0})")},
-    "mathlib.Core.Path": {"_≡_": (2, "same({0}, {1})")},
-    "lib.Dec": {"T": (1, "{0}"), "eqb": (2, "({0} == {1})"), "leb": (2, "({0} <= {1})"), "ltb": (2, "({0} < {1})")},
-    "lib.ListN": {
-        "length": (1, "len({0})"), "getD": (3, "get_d({0}, {1}, {2})"), "set": (3, "set_at({0}, {1}, {2})"),
+        "◌&&◌": (2, "({0} and {1})"), "◌||◌": (2, "({0} or {1})"), "T": (1, "{0}"),
+        "eqb": (2, "({0} == {1})"), "leb": (2, "({0} <= {1})"), "ltb": (2, "({0} < {1})"),
+        "◌==◌": (2, "({0} == {1})"), "nat_eq": (2, "({0} == {1})"), "nat_le": (2, "({0} <= {1})"), "nat_lt": (2, "({0} < {1})"),
+        "[]": (0, "()"), "◌∷◌": (2, "(({0},) + {1})"), "◌++◌": (2, "({0} + {1})"), "map": (2, "tuple(map({0}, {1}))"),
+        "length": (1, "len({0})"), "get_or": (3, "get_or({0}, {1}, {2})"), "set": (3, "set_at({0}, {1}, {2})"),
+        "slice_index_or": (3, "get_or({0}, {1}, {2})"), "slice_set": (3, "set_at({0}, {1}, {2})"),
         "replicate": (2, "(({1},) * {0})"), "take": (2, "{1}[:{0}]"), "drop": (2, "{1}[{0}:]"),
+        "pos": (1, "{0}"), "negsuc": (1, "(-1 - {0})"), "◌≡◌": (2, "same({0}, {1})"),
+        "from_bits": (2, "of_bits({0}, {1})"), "to_bits": (2, "to_bits({0}, {1})"), "is_nan": (1, "({0} != {0})"),
     },
-    "lib.IntN": {"pos": (1, "{0}"), "negsuc": (1, "(-1 - {0})")},
-    "lib.Count": {"leadingZeros": (2, "leading_zeros({0}, {1})")},
-    "lib.Ieee": {
-        "binary64": (0, "BINARY64"), "nan": (0, "NAN"), "inf": (1, "inf({0})"), "fin": (3, "fin({0}, {1}, {2})"),
+    "Rattle.std.specs.Bool": {"beq": (2, "({0} is {1})")},
+    "Rattle.std.specs.Int.Count": {"count_leading_zeros": (2, "leading_zeros({0}, {1})")},
+    OPTION: {"none": (0, "('none',)"), "some": (1, "('some', {0})")},
+    FLOAT: {"binary64": (0, "BINARY64"), "nan": (0, "NAN"), "inf": (1, "inf({0})"), "fin": (3, "fin({0}, {1}, {2})")},
+    IEEE: {
         "add": (3, "add({0}, {1}, {2})"), "sub": (3, "sub({0}, {1}, {2})"), "mul": (3, "mul({0}, {1}, {2})"), "div": (3, "div({0}, {1}, {2})"),
-        "neg": (1, "(-{0})"), "lt": (2, "({0} < {1})"), "le": (2, "({0} <= {1})"), "eq": (2, "({0} == {1})"), "isNan": (1, "({0} != {0})"),
-        "ofBits": (2, "of_bits({0}, {1})"), "toBits": (2, "to_bits({0}, {1})"), "ofInt": (2, "of_int({0}, {1})"),
+        "neg": (1, "(-{0})"), "lt": (2, "({0} < {1})"), "le": (2, "({0} <= {1})"), "eq": (2, "({0} == {1})"), "is_nan": (1, "({0} != {0})"),
+        "of_bits": (2, "of_bits({0}, {1})"), "to_bits": (2, "to_bits({0}, {1})"), "of_int": (2, "of_int({0}, {1})"),
         "round": (4, "round64({0}, {1}, {2}, {3})"), "fits": (2, "fits({0}, {1})"), "size": (1, "{0}.bit_length()"), "up": (1, "up({0})"), "down": (1, "down({0})"),
     },
-    "lib.Ieee.Scale": {"finite": (1, "isfinite({0})")},
+    f"{IEEE}.Scale": {"finite": (1, "isfinite({0})")},
 }
-TYPES = {
-    "Prim.Native.Nat": {"ℕ"}, "mathlib.Core.Bool": {"Bool"}, "mathlib.Core.List": {"List"}, "mathlib.Core.Option": {"Option"},
-    "lib.IntN": {"ℤ"}, "lib.Ieee": {"Float"},
-}
+TYPES = {PRELUDE: {"ℕ", "Bool", "List", "ℤ", "Float"}, OPTION: {"Option"}}
 FIXITY = {
-    ("Prim.Native.Nat", "_+_"): ("infixl", 65), ("Prim.Native.Nat", "_-_"): ("infixl", 65), ("Prim.Native.Nat", "_*_"): ("infixl", 70),
-    ("Prim.Native.Nat", "_/_"): ("infixl", 70), ("Prim.Native.Nat", "_%_"): ("infixl", 70), ("Prim.Native.Nat", "_^_"): ("infixr", 75),
-    ("Prim.Native.Nat", "_≤_"): ("infix", 50), ("Prim.Native.Nat", "_<_"): ("infix", 50), ("mathlib.Core.Bool", "_&&_"): ("infixl", 35),
-    ("mathlib.Core.Bool", "_||_"): ("infixl", 30), ("mathlib.Core.List", "_∷_"): ("infixr", 67), ("mathlib.Core.List", "_++_"): ("infixl", 65), ("mathlib.Core.Path", "_≡_"): ("infix", 4),
+    (PRELUDE, "◌+◌"): ("infixl", 65), (PRELUDE, "◌-◌"): ("infixl", 65), (PRELUDE, "◌*◌"): ("infixl", 70),
+    (PRELUDE, "◌/◌"): ("infixl", 70), (PRELUDE, "◌%◌"): ("infixl", 70), (PRELUDE, "◌^◌"): ("infixr", 75),
+    (PRELUDE, "◌≤◌"): ("infix", 50), (PRELUDE, "◌<◌"): ("infix", 50), (PRELUDE, "◌==◌"): ("infix", 40), (PRELUDE, "◌&&◌"): ("infixl", 35),
+    (PRELUDE, "◌||◌"): ("infixl", 30), (PRELUDE, "◌∷◌"): ("infixr", 67), (PRELUDE, "◌++◌"): ("infixl", 65), (PRELUDE, "◌≡◌"): ("infix", 4),
 }
 # a constructor in a pattern: the test of a value, and its arguments
 PATTERN = {
-    "Prim.Native.Nat.zero": ("{0} == 0", []), "Prim.Native.Nat.suc": ("{0} > 0", ["{0} - 1"]),
-    "mathlib.Core.Bool.true": ("{0} is True", []), "mathlib.Core.Bool.false": ("{0} is False", []),
-    "mathlib.Core.List.[]": ("len({0}) == 0", []), "mathlib.Core.List._∷_": ("len({0}) > 0", ["{0}[0]", "{0}[1:]"]),
-    "lib.IntN.pos": ("{0} >= 0", ["{0}"]), "lib.IntN.negsuc": ("{0} < 0", ["-1 - {0}"]),
-    "lib.Ieee.nan": ("{0} != {0}", []), "lib.Ieee.inf": ("isinf({0})", ["{0} < 0"]),
-    "lib.Ieee.fin": ("isfinite({0})", ["parts({0})[0]", "parts({0})[1]", "parts({0})[2]"]),
-    "mathlib.Core.Option.none": ("{0}[0] == 'none'", []), "mathlib.Core.Option.some": ("{0}[0] == 'some'", ["{0}[1]"]),
+    f"{PRELUDE}.zero": ("{0} == 0", []), f"{PRELUDE}.suc": ("{0} > 0", ["{0} - 1"]),
+    f"{PRELUDE}.true": ("{0} is True", []), f"{PRELUDE}.false": ("{0} is False", []),
+    f"{PRELUDE}.[]": ("len({0}) == 0", []), f"{PRELUDE}.◌∷◌": ("len({0}) > 0", ["{0}[0]", "{0}[1:]"]),
+    f"{PRELUDE}.pos": ("{0} >= 0", ["{0}"]), f"{PRELUDE}.negsuc": ("{0} < 0", ["-1 - {0}"]),
+    f"{FLOAT}.nan": ("{0} != {0}", []), f"{FLOAT}.inf": ("isinf({0})", ["{0} < 0"]),
+    f"{FLOAT}.fin": ("isfinite({0})", ["parts({0})[0]", "parts({0})[1]", "parts({0})[2]"]),
+    f"{OPTION}.none": ("{0}[0] == 'none'", []), f"{OPTION}.some": ("{0}[0] == 'some'", ["{0}[1]"]),
 }
 NAMES = {
-    "minus": minus, "quotient": quotient, "remainder": remainder, "get_d": get_d, "set_at": set_at, "leading_zeros": leading_zeros,
+    "minus": minus, "quotient": quotient, "remainder": remainder, "get_or": get_or, "set_at": set_at, "leading_zeros": leading_zeros,
     "of_bits": of_bits, "to_bits": to_bits, "round64": round64, "of_int": of_int, "add": add, "sub": sub, "mul": mul, "div": div, "fits": fits,
     "parts": parts, "fin": fin, "inf": inf, "up": up, "down": down, "same": same, "both": both, "isfinite": math.isfinite, "isinf": math.isinf,
     "NAN": math.nan, "BINARY64": ("binary64",), "Stated": Stated, "Refused": Refused, "cache": functools.cache,

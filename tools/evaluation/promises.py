@@ -42,7 +42,7 @@ class Promises:
     def __init__(self, c):
         self.c = c
         self.near, self.within = c.get("series", "Distance", "near"), c.get("series", "Distance", "within")
-        self.value = c.get("number", "Frac", "valF")
+        self.value = c.get("number", "Frac", "val_f")
         self.middle = self.worked("middle")
         self.ln2 = rounded(self.middle, 170)
 
@@ -58,14 +58,14 @@ class Promises:
         while w < Fraction(2, 3):
             k, w = k - 1, w * 2
         z = (w - 1) / (w + 1)
-        odds = self.worked("twiceOdds", 24, frac(z))
+        odds = self.worked("twice_odds", 24, frac(z))
         tail = 0 if z == 0 else 50 * (z.denominator.bit_length() - z.numerator.bit_length() + 1)
         return rounded(odds + k * self.middle, 170 + tail), {"neg": k < 0, "k": abs(k), "w": frac(w)}
 
     # exp of v = k M + t with -M/2 <= t < M/2, at a short fraction of the bracket of ln 2
     def of_exp(self, v):
         k = math.floor(v / self.middle + Fraction(1, 2))
-        e = self.worked("expSum", frac(self.worked("rest", frac(v), k < 0, abs(k), frac(self.ln2))))
+        e = self.worked("exp_sum", frac(self.worked("rest", frac(v), k < 0, abs(k), frac(self.ln2))))
         return e * Fraction(2) ** k, {"neg": k < 0, "k": abs(k), "l": frac(self.ln2)}
 
     # of a function at its arguments: the record of its exact values with its arguments, the bracket's middle, the parts that go with a value, and the value by `decimal`
@@ -78,14 +78,14 @@ class Promises:
         if which == "powf":
             (l, of_ln), power = self.of_ln(q), Fraction(y)
             e, of_exp = self.of_exp(power * l)
-            return "PowerValue", (frac(q), frac(power)), e, lambda v: {"l": frac(l), "isLn": of_ln, "isExp": of_exp}, exp(power * ln(q, digits), digits)
+            return "PowerValue", (frac(q), frac(power)), e, lambda v: {"l": frac(l), "is_ln": of_ln, "is_exp": of_exp}, exp(power * ln(q, digits), digits)
         e, parts = self.of_exp(2 * q if which == "tanh" else q)
         by = exp(2 * q if which == "tanh" else q, digits)
         if which == "exp":
             return "ExpValue", (frac(q),), e, lambda v: parts, by
         if which == "expm1":
-            return "ExpM1Value", (frac(q),), e - 1, lambda v: {"e": frac(v + 1), "isExp": parts}, by - 1
-        return "TanhValue", (frac(q),), (e - 1) / (e + 1), lambda v: {"e": frac((1 + v) / (1 - v)), "isExp": parts}, (by - 1) / (by + 1)
+            return "ExpM1Value", (frac(q),), e - 1, lambda v: {"e": frac(v + 1), "is_exp": parts}, by - 1
+        return "TanhValue", (frac(q),), (e - 1) / (e + 1), lambda v: {"e": frac((1 + v) / (1 - v)), "is_exp": parts}, (by - 1) / (by + 1)
 
     # what of a record's statements fails; `Ln1pValue` is a name for one at other arguments
     def fails(self, record, arguments, v, parts):
@@ -110,7 +110,7 @@ class Promises:
 
     # the root is nearer than its neighbours, by the text of `Nearest`
     def root(self, x, r):
-        midpoint, square, less = (self.c.get("root", "Root", "midpoint"), self.c.get("root", "Root", "squareF"), self.c.get("number", "Frac", "ltF"))
+        midpoint, square, less = (self.c.get("root", "Root", "midpoint"), self.c.get("root", "Root", "square_f"), self.c.get("number", "Frac", "lt_f"))
         above, below = math.nextafter(r, math.inf), math.nextafter(r, 0.0)
         said = [] if less(self.value(x), square(midpoint(r, above))) else [f"{above!r} is as near"]
         return said + ([] if r == 0.0 or less(square(midpoint(below, r)), self.value(x)) else [f"{below!r} is as near"])

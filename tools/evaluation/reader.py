@@ -1,9 +1,9 @@
 """Reads the text of crates/*/specs: lines to statements by their indentation, a statement's words to expressions. What it does not know it refuses with the place."""
 import re
 
-# an escaped name, a name with the modules before it, a projection (a dot after a space), a bracket or a mark
+# an escaped name, a name with the modules before it or the projections behind it, a projection behind a bracket, a bracket or a mark
 PART = r"(?:«[^»]*»|[^\s(){}.;,@\"«»]+)"
-TOKEN = re.compile(rf"(?P<space>\s+)|(?P<name>{PART}(?:\.{PART})*)|(?P<field>(?<=\s)\.{PART})|(?P<mark>[(){{}};,.])")
+TOKEN = re.compile(rf"(?P<space>\s+)|(?P<name>{PART}(?:\.{PART})*)|(?P<field>(?<=\))\.{PART}(?:\.{PART})*)|(?P<mark>[(){{}};,.])")
 NUMERAL = re.compile(r"0x[0-9a-f]+(?:_[0-9a-f]+)*$|[0-9]+(?:_[0-9]+)*$")
 RESERVED = {"data", "record", "module", "where", "use", "mod", "pub", "using", "open", "as", "unfoldable", "abbrev", "axiom", "unfold", "unfolding", "ruleset", "mutual", "infix", "infixl", "infixr", "elim", "let", "in", "do", "λ", "∀", "Type", "=", ":", "→"}
 
@@ -41,7 +41,7 @@ def lines_of(path, text):
         if "{-" in line or "\t" in line:
             raise NotUnderstood(f"{path}:{number}: {line}")
         if line:
-            found.append((number, len(line) - len(line.lstrip()), words_of(path, number, " " + line)))
+            found.append((number, len(line) - len(line.lstrip()), words_of(path, number, line)))
     return found
 
 
@@ -80,13 +80,13 @@ def is_name(word):
 
 
 class Expressions:
-    """Reads expressions and types of a statement. `fixity(name)` gives (side, level) of an operator in scope, or None.
+    """Reads expressions and types of a statement. `fixity(name)` gives (side, level) of an operator in scope, or None; `is_module(name)` says whether what stands behind the name's dot is of a module, and no projection.
 
     Nodes: ("name", n) ("num", n) ("app", f, x) ("field", e, f) ("λ", names, e) ("let", n, e, body) ("record", [(f, e)]) ("type",) ("→", names, domain, codomain) ("×", names, a, b) ("implicit", f, e).
     """
 
-    def __init__(self, statement, words, fixity):
-        self.statement, self.words, self.fixity, self.at = statement, words, fixity, 0
+    def __init__(self, statement, words, fixity, is_module=lambda _: False):
+        self.statement, self.words, self.fixity, self.is_module, self.at = statement, words, fixity, is_module, 0
 
     def peek(self, k=0):
         return self.words[self.at + k] if self.at + k < len(self.words) else None
@@ -160,13 +160,13 @@ class Expressions:
         left = self.operand()
         while True:
             word = self.peek()
-            found = self.fixity(f"_{word}_") if word is not None and is_name(word) else None
+            found = self.fixity(f"◌{word}◌") if word is not None and is_name(word) else None
             if not found or found[1] < level:
                 return left
             self.take()
             side, own = found
             right = self.expression(own if side == "infixr" else own + 1)
-            left = ("app", ("app", ("name", f"_{word}_"), left), right)
+            left = ("app", ("app", ("name", f"◌{word}◌"), left), right)
 
     def operand(self):
         word = self.peek()
@@ -174,25 +174,23 @@ class Expressions:
             return self.function()
         if word == "let":
             return self.local()
-        found = self.fixity(f"{word}_") if word is not None and is_name(word) else None
+        found = self.fixity(f"{word}◌") if word is not None and is_name(word) else None
         if found:
             self.take()
-            return ("app", ("name", f"{word}_"), self.expression(found[1]))
+            return ("app", ("name", f"{word}◌"), self.expression(found[1]))
         return self.application()
 
     def begins(self):
         word = self.peek()
         if word is None or word in (")", "}", ";", ",", ".", "in", "=", ":", "→", "×"):
             return False
-        return not (is_name(word) and (self.fixity(f"_{word}_") or self.fixity(f"{word}_")))
+        return not (is_name(word) and (self.fixity(f"◌{word}◌") or self.fixity(f"{word}◌")))
 
     def application(self):
         e = self.atom()
         while self.begins():
             word = self.peek()
-            if word[0] == "." and len(word) > 1:
-                e = ("field", e, self.take()[1:])
-            elif word in ("λ", "let"):
+            if word in ("λ", "let"):
                 return ("app", e, self.operand())
             elif word == "{":
                 e = self.implicit(e)
@@ -215,6 +213,8 @@ class Expressions:
         if word == "(":
             e = self.type()
             self.take(")")
+            if self.peek() is not None and self.peek()[0] == "." and len(self.peek()) > 1:
+                e = self.projected(e, self.take()[1:].split("."))
             return e
         if word == "record":
             return self.record()
@@ -228,7 +228,13 @@ class Expressions:
             return ("num", n)
         if not is_name(word):
             self.statement.refuse(f"`{word}` where an expression is wanted")
-        return ("name", word)
+        head, *fields = word.split(".")
+        return ("name", word) if self.is_module(head) else self.projected(("name", head), fields)
+
+    def projected(self, e, fields):
+        for f in fields:
+            e = ("field", e, f)
+        return e
 
     def record(self):
         self.take("{")
@@ -284,5 +290,5 @@ class Expressions:
             p = ("app", p, self.pattern())
         if self.peek() == "∷":
             self.take()
-            p = ("app", ("app", ("name", "_∷_"), p), self.inner())
+            p = ("app", ("app", ("name", "◌∷◌"), p), self.inner())
         return p

@@ -3,9 +3,9 @@ import re
 
 from . import library
 from .reader import Expressions, NotUnderstood, is_name, read
-from .terms import bare, mentioned, spell
+from .terms import bare, mentioned, spell, spine
 
-MODULE = re.compile(r"Rattle·(\w+?)(?:·specs)?\.specs\.(.+)$")
+MODULE = re.compile(r"Rattle\.(\w+)\.specs\.(.+)$")
 TYPE = ("type",)
 
 
@@ -77,7 +77,7 @@ class Names:
             statement.refuse(f"a module that is not known, `{path}`")
         crate, rest = m.group(1), m.group(2).split(".")
         if rest[0] == "declared":
-            variants = rest[-1] == "the-variants"
+            variants = rest[-1] == "TheVariants"
             declared = ".".join(rest[1:-1] if variants else rest[1:])
             if declared not in self.declared.get(crate, {}):
                 statement.refuse(f"crate {crate} declares no `{declared}`")
@@ -149,7 +149,7 @@ class Names:
                 return found
             if name in b.opened:
                 return ("opened", *b.opened[name])
-            for kind, p, python in b.parameters:
+            for _, p, python, _ in b.parameters:
                 if p == name:
                     return ("local", python)
             b = b.outer
@@ -157,7 +157,7 @@ class Names:
             head, *rest = name.split(".")
             if head in file.modules:
                 module = file.modules[head]
-                if len(rest) == 2 and rest[0] == "the-variants" and module[0] == "declared":
+                if len(rest) == 2 and rest[0] == "TheVariants" and module[0] == "declared":
                     return self.member(("variants", *module[1:]), bare(rest[1]), s)
                 if len(rest) == 1:
                     return self.member(module, bare(rest[0]), s)
@@ -207,6 +207,9 @@ class Names:
             return None
         return look
 
+    def expressions(self, file, s, words, block):
+        return Expressions(s, words, self.fixity(block), lambda name: name in file.modules)
+
     # ---- declarations
     def declarations(self, file, block, statements):
         for s in statements:
@@ -239,28 +242,29 @@ class Names:
             if kind[0] == "definition" and kind[1].block is block and not kind[1].clauses:
                 raise NotUnderstood(f"{file.path}: {kind[1].name} has no clause")
 
-    # open Arith A using (x, y as z): fields of a parameter, which is of that record
+    # open A use {x, y as z}: fields of a parameter, whose type is a record
     def open(self, file, block, s):
         w = s.words
-        if w[3:5] != ["using", "("] or w[-1] != ")":
+        if w[2:4] != ["use", "{"] or w[-1] != "}":
             s.refuse("an `open` line that is not known")
-        kind = self.find(file, block, {}, w[2], s)
-        if kind[0] != "local":
+        found = next((p for b in reversed(block.chain()) for p in b.parameters if p[1] == bare(w[1])), None)
+        if not found:
             s.refuse("what is opened is no parameter")
-        record = self.find(file, block, {}, w[1], s)
+        head = spine(found[3])[0]
+        record = self.find(file, block, {}, head[1], s) if head[0] == "name" else ("none",)
         if record[0] != "type" or not isinstance(record[2], RecordType):
             s.refuse("what is opened is no record")
-        for part in " ".join(w[5:-1]).split(" , "):
+        for part in " ".join(w[4:-1]).split(" , "):
             item = part.split()
             if len(item) == 3 and item[1] == "as":
                 item = [item[0], item[2]]
             if len(item) not in (1, 2) or item[0] not in record[2].fields:
-                s.refuse(f"no field of {w[1]}: {part}")
-            block.opened[item[-1]] = (kind[1], item[0])
+                s.refuse(f"no field of {record[1]}: {part}")
+            block.opened[item[-1]] = (found[2], item[0])
 
-    # the explicit parameters, as (kind, name, Python name); an implicit one is a type
-    def parameters(self, block, s, words):
-        reader = Expressions(s, words, self.fixity(block))
+    # the explicit parameters, as (kind, name, Python name, type); an implicit one is a type
+    def parameters(self, file, block, s, words):
+        reader = self.expressions(file, s, words, block)
         found = []
         while reader.peek() in ("(", "{"):
             names = reader.binder()
@@ -269,13 +273,13 @@ class Names:
             for kind, name in names:
                 if kind == "implicit" and reader.bound != TYPE:
                     s.refuse("an implicit parameter that is no type")
-                found.append((kind, bare(name), self.fresh(name)))
+                found.append((kind, bare(name), self.fresh(name), reader.bound))
         return found, reader
 
     def section(self, file, block, s):
         if s.words[:2] != ["module", "_"] or s.words[-1] != "where":
             s.refuse("a module that is not known")
-        found, reader = self.parameters(block, s, s.words[2:-1])
+        found, reader = self.parameters(file, block, s, s.words[2:-1])
         if reader.peek() is not None:
             s.refuse("a module that is not known")
         inner = Block(block, found)
@@ -286,19 +290,19 @@ class Names:
                     s.refuse(f"a name that the block outside has already, `{name}`")
                 block.names[name] = kind
 
-    def head(self, block, s, word):
+    def head(self, file, block, s, word):
         w = s.words
         at = w.index(word)
         if w[:at] not in ([], ["pub"]) or w[-1] != "where":
             s.refuse(f"a `{word}` that is not known")
-        found, reader = self.parameters(block, s, w[at + 2:-1])
+        found, reader = self.parameters(file, block, s, w[at + 2:-1])
         reader.take(":")
         if reader.whole(reader.type) != TYPE:
             s.refuse(f"a `{word}` that is no type")
         return bare(w[at + 1]), found, "public" if w[0] == "pub" else "private"
 
     def record_type(self, file, block, s):
-        name, found, public = self.head(block, s, "record")
+        name, found, public = self.head(file, block, s, "record")
         r = RecordType(name, file, Block(block, found))
         block.names[name] = ("type", name, r, public)
         for f in s.below:
@@ -306,15 +310,15 @@ class Names:
             if w[1] != ":" or not is_name(w[0]):
                 f.refuse("a field that is not known")
             r.fields[bare(w[0])] = f
-            reader = Expressions(f, w[2:], self.fixity(r.block))
+            reader = self.expressions(file, f, w[2:], r.block)
             r.types[bare(w[0])] = reader.whole(reader.type)
 
     def data(self, file, block, s):
-        name, found, public = self.head(block, s, "data")
+        name, found, public = self.head(file, block, s, "data")
         block.names[name] = ("type", name, None, public)
         for c in s.below:
             at = c.words.index(":")
-            reader = Expressions(c, c.words[at + 1:], self.fixity(block))
+            reader = self.expressions(file, c, c.words[at + 1:], block)
             t, arity = reader.whole(reader.type), 0
             while t[0] == "→":
                 t, arity = t[3], arity + 1
@@ -327,7 +331,7 @@ class Names:
         while w[0] in ("pub", "abbrev", "unfoldable"):
             marks.append(w.pop(0))
         if len(w) > 1 and w[1] == ":" and not s.below:
-            reader = Expressions(s, w[2:], self.fixity(block))
+            reader = self.expressions(file, s, w[2:], block)
             t, domains = reader.whole(reader.type), []
             while t[0] == "→":
                 domains += [t[2]] * len([n for n in t[1] or [("explicit", "_")] if n[0] == "explicit"])
@@ -354,7 +358,7 @@ class Names:
             s.refuse("clauses with different numbers of arguments")
         d.arity = len(patterns)
         scope = self.locals_of(file, block, s, patterns)
-        reader = Expressions(s, w[w.index("=") + 1:], self.fixity(scope))
+        reader = self.expressions(file, s, w[w.index("=") + 1:], scope)
         d.clauses.append(Clause(s, patterns, reader.whole(reader.type if d.is_type else reader.expression), scope))
 
     # the scope of a clause: its block, or one more with what stands below its `where`, which takes the clause's arguments
@@ -363,6 +367,6 @@ class Names:
             return block
         if any(p[0] != "name" for p in patterns):
             s.refuse("`where` below a clause whose arguments are not all names")
-        inner = Block(block, [("explicit", bare(p[1]), self.fresh(p[1])) for p in patterns], True)
+        inner = Block(block, [("explicit", bare(p[1]), self.fresh(p[1]), TYPE) for p in patterns], True)
         self.declarations(file, inner, s.below)
         return inner

@@ -6,7 +6,7 @@ import re
 from .compiler import Compiler
 
 # worked once for the same arguments: the elementary functions are asked for the same numbers again and again
-REMEMBERED = {"root.Root.root", "logarithm.Logarithm.lnOf", "logarithm.Logarithm.ln1pOf", "exponential.Exp.expOf", "exponential.ExpM1.expM1Of", "exponential.Tanh.tanhOf", "power.Power.powfOf", "power.Power.exponentOf", "binary_log.BinaryLog.logOf"}
+REMEMBERED = {"root.Root.root", "logarithm.Logarithm.ln_of", "logarithm.Logarithm.ln1p_of", "exponential.Exp.exp_of", "exponential.ExpM1.exp_m1_of", "exponential.Tanh.tanh_of", "power.Power.powf_of", "power.Power.exponent_of", "binary_log.BinaryLog.log_of"}
 MANY = 200_000
 
 

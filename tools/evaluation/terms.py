@@ -3,7 +3,7 @@ import keyword
 
 
 def spell(name):
-    spelled = "".join(c if c.isascii() and c.isalnum() else f"_{ord(c):x}_" for c in name.strip("«»"))
+    spelled = "".join(c if c.isascii() and c.isalnum() or c == "_" else f"_{ord(c):x}_" for c in name.strip("«»"))
     return spelled + "_" if keyword.iskeyword(spelled) else spelled
 
 
@@ -50,7 +50,7 @@ def needed(name, e):
         head, args = spine(e)
         if head == ("name", "cond") and len(args) == 3:
             return needed(name, args[0]) or (needed(name, args[1]) and needed(name, args[2]))
-        if head in (("name", "_&&_"), ("name", "_||_")):
+        if head in (("name", "◌&&◌"), ("name", "◌||◌")):
             return needed(name, args[0])
         return any(needed(name, x) for x in [head] + args)
     if e[0] in ("field", "implicit"):

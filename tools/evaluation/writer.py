@@ -21,8 +21,8 @@ class Function:
 
     def write(self):
         d = self.d
-        taken = [p for b in d.block.chain() for kind, _, p in b.parameters if kind == "explicit"]
-        hidden = [p for b in d.block.chain() for kind, _, p in b.parameters if kind == "implicit"]
+        taken = [p for b in d.block.chain() for kind, _, p, _ in b.parameters if kind == "explicit"]
+        hidden = [p for b in d.block.chain() for kind, _, p, _ in b.parameters if kind == "implicit"]
         names = [self.c.fresh("a") for _ in range(d.arity)]
         lines = [f"def {d.python}({', '.join(taken + names)}):"]
         lines.append(f"    reached({d.file.name + '.' + d.name!r})")
@@ -30,7 +30,7 @@ class Function:
         for c in d.clauses:
             self.s, self.scope = c.statement, c.scope
             if c.scope is not d.block:  # a `where`
-                lines += [f"    {p} = {name}" for (_, _, p), name in zip(c.scope.parameters, names)]
+                lines += [f"    {p} = {name}" for (_, _, p, _), name in zip(c.scope.parameters, names)]
             self.clause(lines, names, c.patterns, c.body)
         if not lines[-1].startswith("    return"):
             lines.append(f"    raise Refused('no clause of {d.name}')")
@@ -111,7 +111,7 @@ class Function:
                 inner[bare(name)] = f"{self.waiting(lines, depth, local, worked)}()"
             return self.body(lines, depth, inner, rest)
         head, args = spine(e)
-        if head[0] == "name" and len(args) == 3 and self.kind(local, head[1])[:3] == ("native", "mathlib.Core.Bool", "cond"):
+        if head[0] == "name" and len(args) == 3 and self.kind(local, head[1])[:3] == ("native", library.PRELUDE, "cond"):
             lines.append(f"{pad}if {self.text(lines, depth, local, args[0])}:")
             self.body(lines, depth + 1, local, args[1])
             lines.append(f"{pad}else:")
@@ -141,7 +141,7 @@ class Function:
     # the parameters of the blocks that this definition and another one stand in
     def shared(self, d):
         own = self.scope.chain()
-        return [p for b in d.block.chain() if any(b is x for x in own) for kind, _, p in b.parameters if kind == "explicit"]
+        return [p for b in d.block.chain() if any(b is x for x in own) for kind, _, p, _ in b.parameters if kind == "explicit"]
 
     # ---- an expression as Python text; what it needs is written before it
     def text(self, lines, depth, local, e):
@@ -235,7 +235,7 @@ class Function:
     # the parameters that this definition shares with another, and how many arguments that takes beside them
     def wanted(self, d):
         shared = self.shared(d)
-        return shared, sum(k == "explicit" for b in d.block.chain() for k, _, _ in b.parameters) - len(shared) + d.arity
+        return shared, sum(k == "explicit" for b in d.block.chain() for k, *_ in b.parameters) - len(shared) + d.arity
 
     def late_call(self, lines, depth, local, d, args):
         shared, wanted = self.wanted(d)
@@ -249,10 +249,10 @@ class Function:
 
     # x ∷ y ∷ .. as one tuple
     def literal(self, lines, depth, local, head, args):
-        if head != ("name", "_∷_") or len(args) != 2:
+        if head != ("name", "◌∷◌") or len(args) != 2:
             return None
         items, rest = [args[0]], args[1]
-        while spine(rest)[0] == ("name", "_∷_") and len(spine(rest)[1]) == 2:
+        while spine(rest)[0] == ("name", "◌∷◌") and len(spine(rest)[1]) == 2:
             items.append(spine(rest)[1][0])
             rest = spine(rest)[1][1]
         front = "(" + ", ".join(self.text(lines, depth, local, x) for x in items) + ",)"
