@@ -2,16 +2,15 @@
 use mathlib.Core.Path.{◌≡◌, refl, sym, ap, ◌∙◌, subst}
 use mathlib.Core.Logic.{◌⊎◌, inl, inr}
 use mathlib.Core.Bool.{Bool, true, false, cond, beq}
-use Prim.Native.Nat.{ℕ, ◌*◌, ◌≤◌}
 use native.Mathlib.Nat.{zero-lt-suc}
 use native.Mathlib.Omega.{arith}
-use lib.IntN.{ℤ, pos}
+use lib.IntN.{pos}
 use lib.Dec.{T}
-use lib.Ieee.{Float, nan, inf, fin, Format, binary64, add, sub, fits, lt, of_bits}
+use lib.Ieee.{Float, nan, inf, fin, binary64, add, sub, fits, lt, of_bits}
 use lib.Ieee.Bits.{is_true}
 use lib.Ieee.Scale.{finite}
 use Rattle.number.specs.Arith.{zero64}
-use Rattle.number.specs.Frac.{Frac, frac, Pos, le_f, lt_f, add_f, sub_f, neg_f, zero_f, sgn, val_f}
+use Rattle.number.specs.Frac.{Frac, frac, Pos, le_f, lt_f, add_f, neg_f, zero_f, sgn, val_f}
 use Rattle.number.specs.Neighbour.{absolute}
 use Rattle.number.proofs.Frac.{ring, val_f_pos, add_f_pos, neg_f_pos, lt_le_f, le_trans_f, le_or_lt}
 use Rattle.number.proofs.Round.{Rounds}
@@ -20,7 +19,7 @@ use Rattle.number.proofs.Order.{lt_yes, lt_no}
 use Rattle.rounded_sum.specs.declared.RoundedSum.{RoundedSum}
 use Rattle.rounded_sum.specs.RoundedSum.{Same, left_of, nearest_to, rounded_sum, SumsExactly}
 use Rattle.rounded_sum.proofs.Same.{same_refl, same_sym, same_trans, same_add, same_sub, add_turn, put_back, nearest_same, plus_zero}
-use Rattle.rounded_sum.proofs.Held.{Stands, Exactly, exactly}
+use Rattle.rounded_sum.proofs.Held.{Exactly, exactly}
 use Rattle.rounded_sum.proofs.Left.{left_exact}
 
 pub zero_is : zero64 ≡ fin false 0 (pos 0)

@@ -1,14 +1,14 @@
 -- Floats by their units: which a finite float has, which float a number of units is, and that an operation whose exact result is a float gives that float. Assumes nothing.
-use mathlib.Core.Path.{◌≡◌, refl, sym, ap, ◌∙◌, subst}
+use mathlib.Core.Path.{◌≡◌, sym, ap, ◌∙◌, subst}
 use mathlib.Core.Bool.{Bool, true, false, ◌&&◌}
 use Prim.Native.Nat.{ℕ, zero, suc, ◌+◌, ◌-◌, ◌*◌, ◌/◌, ◌%◌, ◌^◌, ◌≤◌, ◌<◌}
-use native.Mathlib.Nat.{le_of_eq, le_of_lt, lt_of_not-le, zero-mul, zero-div, mul-div_cancel, mul-le-mul_right, le_of_mul-le-mul_right, mul-pos}
+use native.Mathlib.Nat.{le_of_lt, lt_of_not-le, zero-mul, zero-div, mul-div_cancel, mul-le-mul_right, le_of_mul-le-mul_right, mul-pos}
 use native.Mathlib.Decide.{dec_le}
 use native.Mathlib.Omega.{arith}
 use lib.IntN.{ℤ}
 use lib.Dec.{T, ltb, leb, eqb, ltb→lt, leb→le}
 use lib.Pow.{pow-add, pow_pos}
-use lib.Ieee.{Float, nan, inf, fin, Format, prec, emax, low, up, down, round, fits}
+use lib.Ieee.{Float, fin, Format, prec, emax, low, up, down, round, fits}
 use lib.Ieee.Fits.{down_pos, and_l, and_r, round-fits}
 use lib.Ieee.Exact.{HasValue, round_exact}
 use lib.Ieee.Scale.{finite}

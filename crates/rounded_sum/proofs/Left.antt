@@ -1,28 +1,24 @@
 -- The remainder of a rounded sum: the two differences are exact, for every finite sum. Assumes nothing.
-use mathlib.Core.Path.{◌≡◌, refl, sym, ap, ◌∙◌, subst}
-use mathlib.Core.Logic.{◌⊎◌, inl, inr}
-use mathlib.Core.Bool.{Bool, true, false, not, cond, beq}
-use Prim.Native.Nat.{ℕ, zero, suc, ◌+◌, ◌-◌, ◌*◌, ◌^◌, ◌≤◌, ◌<◌}
-use native.Mathlib.Nat.{le_of_eq, lt_of_le_of_lt}
+use mathlib.Core.Path.{◌≡◌, sym, subst}
+use mathlib.Core.Bool.{Bool, true, false, not}
+use Prim.Native.Nat.{ℕ, ◌+◌, ◌-◌, ◌*◌, ◌≤◌, ◌<◌}
+use native.Mathlib.Nat.{lt_of_le_of_lt}
 use native.Mathlib.Omega.{arith}
-use lib.IntN.{ℤ, pos}
 use lib.Dec.{T}
 use lib.Pow.{pow_pos}
-use lib.Ieee.{Float, nan, inf, fin, Format, binary64, low, up, down, add, sub, fits, lt}
-use lib.Ieee.Fits.{add-fits}
+use lib.Ieee.{Float, nan, inf, fin, Format, low, up, down, sub, fits}
 use lib.Ieee.Scale.{finite, grid}
 use Rattle.number.specs.Frac.{Frac, frac, Pos, le_f, add_f, sub_f, neg_f, sgn, val_f}
 use Rattle.number.specs.Neighbour.{absolute}
 use Rattle.number.proofs.Frac.{ring, val_f_pos, add_f_pos, neg_f_pos, lt_le_f}
 use Rattle.number.proofs.Round.{Rounds, has_le, has_ge, worth, signed_mono, grid_pos}
-use Rattle.number.proofs.Ops.{add_rounds, sub_rounds}
-use Rattle.number.proofs.Order.{lt_yes, lt_no}
+use Rattle.number.proofs.Ops.{sub_rounds}
 use Rattle.number.proofs.Units.{in_units, known}
-use Rattle.rounded_sum.specs.RoundedSum.{Same, left_of, nearest_to, rounded_sum}
+use Rattle.rounded_sum.specs.RoundedSum.{Same, left_of}
 use Rattle.rounded_sum.proofs.Multiples.{Digits}
 use Rattle.rounded_sum.proofs.Nearest.{L, p, rounded}
 use Rattle.rounded_sum.proofs.Parts.{Parts, parts_added, parts_taken}
-use Rattle.rounded_sum.proofs.Same.{same_refl, same_sym, same_trans, same_add, same_sub, add_turn, put_back, nearest_same, plus_zero}
+use Rattle.rounded_sum.proofs.Same.{same_refl, same_sym, same_trans, same_add, same_sub}
 use Rattle.rounded_sum.proofs.Held.{Under, digits_of, units_of, units_order, Stands, stands, Exactly, exactly}
 
 -- ± (a - b) / l: `true` is minus

@@ -1,12 +1,12 @@
 -- Multiples of a power of two, and the whole numbers of units that a format holds. Assumes nothing.
 use mathlib.Core.Path.{◌≡◌, refl, sym, ap, ◌∙◌, subst}
 use mathlib.Core.Logic.{◌⊎◌, inl, inr}
-use Prim.Native.Nat.{ℕ, zero, suc, ◌+◌, ◌-◌, ◌*◌, ◌/◌, ◌%◌, ◌^◌, ◌≤◌, ◌<◌, zero-le, compare, Ordering}
+use Prim.Native.Nat.{ℕ, suc, ◌+◌, ◌-◌, ◌*◌, ◌^◌, ◌≤◌, ◌<◌}
 use native.Mathlib.Nat.{le_trans, le_of_eq, le_of_lt, lt_of_lt_of_le, lt_of_le_of_lt, lt_of_not-le, eq-or-lt_of_le, lt_irrefl, mul-sub, mul_comm, mul_assoc, mul-one, zero-mul, add-mul, mul-pos, mul-le-mul_right, le_of_mul-le-mul_right, lt_of_mul-lt-mul_right, mul-div_cancel, mul-mod_left, div-add-mod', zero-lt-suc}
 use native.Mathlib.Omega.{arith}
 use lib.Pow.{pow-add, pow_pos, pow_mono, shl_lt}
 use lib.Ieee.{size}
-use lib.Ieee.Digits.{back, size-lt, size-le, size_reaches}
+use lib.Ieee.Digits.{back, size-lt, size-le}
 
 -- 2 ^ k divides n
 abbrev pub Multiple : ℕ → ℕ → Type 0

@@ -1,21 +1,18 @@
 -- A whole number of units, rounded to a format: how far it moves. Assumes nothing.
 use mathlib.Core.Path.{◌≡◌, refl, sym, ap, ◌∙◌, subst}
-use mathlib.Core.Logic.{◌⊎◌, inl, inr}
 use mathlib.Core.Bool.{not}
 use Prim.Native.Nat.{ℕ, zero, suc, ◌+◌, ◌-◌, ◌*◌, ◌/◌, ◌%◌, ◌^◌, ◌≤◌, ◌<◌, compare, Ordering}
 use native.Mathlib.Nat.{le_trans, le_of_eq, le_of_lt, lt_of_lt_of_le, lt_irrefl, mul_comm, mul_assoc, add-mul, mul-pos, mul-div_cancel, mul-mod_left, div-add-mod', le_antisymm, mod-lt}
 use native.Mathlib.Decide.{dec_le}
 use native.Mathlib.Omega.{arith}
 use lib.Dec.{T, is_le, compare_is_eq, leb→le, nleb→lt, eqb→eq}
-use lib.Pow.{pow-add, pow_pos, pow_mono}
+use lib.Pow.{pow_pos}
 use lib.Ieee.{Format, prec, low, size, nearest}
-use lib.Ieee.Digits.{size-lt, size_reaches}
 use lib.Ieee.Nearest.{closest, closest_same}
-use lib.Ieee.Order.{drop, kept}
 use lib.Ieee.Scale.{grid}
 use lib.Ieee.Fits.{two, two-le_pos}
-use Rattle.number.proofs.Grid.{grid_le, size_mono}
-use Rattle.rounded_sum.proofs.Multiples.{Multiple, mult_lower, mult_le, Digits, spare, own_multiple}
+use Rattle.number.proofs.Grid.{grid_le}
+use Rattle.rounded_sum.proofs.Multiples.{Multiple, mult_le, Digits, spare, own_multiple}
 
 -- ---- x is n moved to a nearest multiple of u: down from it, or up
 pub data Near (n u x : ℕ) : Type 0 where

@@ -1,6 +1,6 @@
 -- Two whole numbers of units, added or taken from each other and rounded: what the larger lacks of the result, and what the result lacks, are held by the format. Assumes nothing.
 use mathlib.Core.Path.{◌≡◌, refl, sym, ap, ◌∙◌, subst}
-use Prim.Native.Nat.{ℕ, zero, suc, ◌+◌, ◌-◌, ◌*◌, ◌^◌, ◌≤◌, ◌<◌}
+use Prim.Native.Nat.{ℕ, suc, ◌+◌, ◌-◌, ◌*◌, ◌^◌, ◌≤◌, ◌<◌}
 use native.Mathlib.Nat.{le_trans, le_of_eq, le_of_lt, lt_of_lt_of_le, lt_of_not-le, mul-le-mul_right, mul_comm, two-pow-succ, mul-add}
 use native.Mathlib.Decide.{dec_le}
 use native.Mathlib.Omega.{arith}
@@ -9,7 +9,7 @@ use lib.Ieee.{Format, size}
 use lib.Ieee.Digits.{size-lt, size_reaches}
 use Rattle.number.proofs.Grid.{size_mono, fewer}
 use Rattle.rounded_sum.proofs.Multiples.{Multiple, mult_add, mult_sub, mult_lower, Digits, held, held_zero, held_twice, own_multiple, below_all}
-use Rattle.rounded_sum.proofs.Nearest.{Near, near_below, near_above, p, p_pos, unit, rounded, rounded_near, rounded_multiple, rounded_mono, rounded_multiple_is, rounded_held}
+use Rattle.rounded_sum.proofs.Nearest.{near_below, near_above, p, p_pos, unit, rounded, rounded_near, rounded_multiple, rounded_mono, rounded_multiple_is, rounded_held}
 
 -- n is exact, S is n rounded; both differences either way, of which one is 0
 pub record Parts (q A B n S : ℕ) : Type 0 where

@@ -1,18 +1,17 @@
 -- Fractions that are the same: each at most the other. Assumes nothing.
-use mathlib.Core.Path.{◌≡◌, refl, sym, ap, ◌∙◌, subst}
+use mathlib.Core.Path.{◌≡◌, ap, ◌∙◌, subst}
 use mathlib.Core.Logic.{◌⊎◌, inl, inr}
-use mathlib.Core.Bool.{Bool, true, false, not, ◌&&◌, cond}
-use Prim.Native.Nat.{ℕ, zero, suc, ◌+◌, ◌-◌, ◌*◌, ◌≤◌, ◌<◌}
-use native.Mathlib.Nat.{le_antisymm, eq-zero-or-pos, mul-pos, mul_comm, not-le_of_lt, lt_of_not-le, eq_of_mul-eq-mul_right}
+use mathlib.Core.Bool.{true, false, ◌&&◌, cond}
+use Prim.Native.Nat.{ℕ, ◌+◌, ◌-◌, ◌*◌, ◌≤◌, ◌<◌}
+use native.Mathlib.Nat.{le_antisymm, eq-zero-or-pos, mul-pos, not-le_of_lt, lt_of_not-le}
 use native.Mathlib.Decide.{dec_le}
 use native.Mathlib.Omega.{arith}
-use lib.IntN.{ℤ, pos}
-use lib.Dec.{T, ltb, ltb→lt, lt→ltb, nltb→le, not_T}
-use lib.Ieee.{Float, nan, inf, fin, Format, binary64, round, add, sum, up, down}
+use lib.IntN.{pos}
+use lib.Dec.{T, ltb, ltb→lt, lt→ltb, not_T}
+use lib.Ieee.{Float, nan, inf, fin, binary64, round, add, sum, up, down}
 use lib.Ieee.Bits.{is_true, is_false}
-use lib.Ieee.Fits.{down_pos}
 use lib.Ieee.Scale.{finite, round_same}
-use Rattle.number.specs.Frac.{Frac, frac, Pos, le_f, add_f, sub_f, neg_f, sgn, val_f}
+use Rattle.number.specs.Frac.{Frac, frac, Pos, add_f, sub_f, neg_f, val_f}
 use Rattle.number.proofs.Frac.{ring, le_refl_f, le_trans_f, add_mono_f, neg_anti_f}
 use Rattle.rounded_sum.specs.RoundedSum.{Same, nearest_to}
 

@@ -1,5 +1,4 @@
 -- `base_inside` meets its contract. Assumes nothing.
-use borrow.Author.Tests.{not-true, not-false}
 use Rattle.binary_log.proofs.Base.{below, above}
 use Rattle.binary_log.proofs.base_inside.Goals as goal
 

@@ -1,9 +1,7 @@
-use Prim.Native.Nat.{◌+◌, ◌*◌, ◌%◌, ◌/◌, ◌-◌, ◌≤◌, ◌<◌}
+use Prim.Native.Nat.{◌+◌, ◌/◌}
 use native.Mathlib.Omega.{arith}
-use mathlib.Core.Path.{◌≡◌, refl, sym, ap, ◌∙◌}
-use lib.ListN.{length, take, drop}
-use Rattle.card.proofs.Reading.{known_newer, known_older, filling_over, filling_none, filling_last}
-use borrow.Author.Rules.{rules}
+use lib.ListN.{length}
+use Rattle.card.proofs.Reading.{filling_over, filling_none, filling_last}
 use Rattle.card.proofs.filling.Reads as reads
 use Rattle.card.proofs.filling.Lts as lts
 use Rattle.bit_fields.proofs.field.Reads as field-reads

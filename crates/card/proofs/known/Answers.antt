@@ -1,8 +1,4 @@
-use Prim.Native.Nat.{◌+◌, ◌*◌, ◌%◌, ◌/◌, ◌-◌, ◌≤◌, ◌<◌}
-use native.Mathlib.Omega.{arith}
-use mathlib.Core.Path.{◌≡◌, refl, sym, ap, ◌∙◌}
-use Rattle.card.proofs.Reading.{known_newer, known_older, filling_over, filling_none, filling_last}
-use borrow.Author.Rules.{rules}
+use Rattle.card.proofs.Reading.{known_newer, known_older}
 use Rattle.card.proofs.known.Reads as reads
 use Rattle.card.proofs.known.Lts as lts
 use Rattle.card.proofs.known.Goals as goal

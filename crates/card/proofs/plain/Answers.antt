@@ -1,8 +1,7 @@
-use Prim.Native.Nat.{◌+◌, ◌*◌, ◌%◌, ◌/◌, ◌-◌, ◌≤◌, ◌<◌}
+use Prim.Native.Nat.{◌+◌, ◌/◌, ◌≤◌}
 use native.Mathlib.Omega.{arith}
-use mathlib.Core.Path.{◌≡◌, refl, sym, ap, ◌∙◌}
-use lib.ListN.{length, take, drop}
-use Rattle.card.proofs.Reading.{ends, plain_short, plain_held, flag_short, flag_zero, stored_short, stored_zero, stored_held, field_spared, field_plain}
+use lib.ListN.{length}
+use Rattle.card.proofs.Reading.{plain_short, plain_held}
 use borrow.Author.Rules.{rules}
 use Rattle.card.proofs.plain.Reads as reads
 use Rattle.card.proofs.plain.Lts as lts

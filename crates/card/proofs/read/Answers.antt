@@ -1,11 +1,7 @@
-use Prim.Native.Nat.{◌+◌, ◌*◌, ◌%◌, ◌/◌, ◌-◌, ◌≤◌, ◌<◌}
 use native.Mathlib.Omega.{arith}
-use mathlib.Core.Path.{◌≡◌, refl, sym, ap, ◌∙◌}
-use lib.ListN.{length, take, drop, length-set}
-use Rattle.card.proofs.Whole.{Known, knows, twelve, reach, model_short, count_short, not_known, values_refused, left_over, whole}
+use Rattle.card.proofs.Whole.{knows, twelve, reach, model_short, count_short, not_known, values_refused, left_over, whole}
 use Rattle.card.proofs.Reading.{ends}
 use Rattle.number.proofs.Walk.{told}
-use borrow.Author.Tests.{not-true, not-false, ne_eqb}
 use Rattle.card.specs.Card.{form_of}
 use borrow.Author.Rules.{rules}
 use Rattle.card.proofs.read.Reads as reads

@@ -1,8 +1,6 @@
-use Prim.Native.Nat.{◌+◌, ◌*◌, ◌%◌, ◌-◌, ◌≤◌, ◌<◌}
 use native.Mathlib.Omega.{arith}
-use mathlib.Core.Path.{◌≡◌, refl, sym, ap, ◌∙◌}
-use Rattle.card.proofs.Reading.{plain_short, plain_held, flag_short, flag_zero, stored_short, stored_zero, stored_held, field_spared, field_plain}
-use borrow.Author.Rules.{rules}
+use mathlib.Core.Path.{◌∙◌}
+use Rattle.card.proofs.Reading.{field_spared, field_plain}
 use Rattle.card.proofs.read_field.Reads as reads
 use Rattle.card.proofs.read_field.Lts as lts
 use Rattle.card.proofs.plain.Reads as plain-reads

@@ -1,10 +1,8 @@
-use Prim.Native.Nat.{◌+◌, ◌*◌, ◌%◌, ◌/◌, ◌-◌, ◌≤◌, ◌<◌}
+use Prim.Native.Nat.{◌<◌}
 use native.Mathlib.Omega.{arith}
-use mathlib.Core.Path.{◌≡◌, refl, sym, ap, ◌∙◌}
-use lib.ListN.{length, take, drop, length-set}
-use Rattle.card.proofs.Reading.{On, on_start, on_next, on_stop, on_end, ends, total_small, in_layout, value_at, refusal_at}
+use lib.ListN.{length, length-set}
+use Rattle.card.proofs.Reading.{on_start, on_next, on_stop, on_end, ends, total_small, in_layout, value_at, refusal_at}
 use Rattle.card.specs.Card.{form_of, layout, float, value_count}
-use Rattle.bit_fields.specs.Bits.{bits_of}
 use Rattle.card.proofs.Fields.{layout_length}
 use borrow.Author.Rules.{rules}
 use Rattle.card.proofs.read_values.Reads as reads

@@ -1,12 +1,9 @@
-use Prim.Native.Nat.{◌+◌, ◌*◌, ◌%◌, ◌/◌, ◌-◌, ◌≤◌, ◌<◌}
-use native.Mathlib.Omega.{arith}
-use mathlib.Core.Path.{◌≡◌, refl, sym, ap, ◌∙◌}
-use lib.ListN.{length, take, drop, length-set}
-use Rattle.card.proofs.Reading.{On, on_start, on_next, on_stop, on_end, ends, total_small, in_layout, value_at, refusal_at}
-use Rattle.card.specs.Card.{form_of, layout, float, value_count}
+use Prim.Native.Nat.{◌+◌, ◌*◌, ◌-◌, ◌≤◌}
+use mathlib.Core.Path.{◌≡◌}
+use lib.ListN.{length, drop}
+use Rattle.card.proofs.Reading.{On}
+use Rattle.card.specs.Card.{form_of, layout}
 use Rattle.bit_fields.specs.Bits.{bits_of}
-use Rattle.card.proofs.Fields.{layout_length}
-use borrow.Author.Rules.{rules}
 use Rattle.card.proofs.read_values.Reads as reads
 use Rattle.card.proofs.read_values.Lts as lts
 use Rattle.card.proofs.field_at.Reads as field-at-reads

@@ -1,8 +1,5 @@
-use Prim.Native.Nat.{◌+◌, ◌*◌, ◌%◌, ◌/◌, ◌-◌, ◌≤◌, ◌<◌}
 use native.Mathlib.Omega.{arith}
-use mathlib.Core.Path.{◌≡◌, refl, sym, ap, ◌∙◌}
-use lib.ListN.{length, take, drop}
-use Rattle.card.proofs.Reading.{ends, plain_short, plain_held, flag_short, flag_zero, stored_short, stored_zero, stored_held, field_spared, field_plain}
+use Rattle.card.proofs.Reading.{ends, flag_short, flag_zero, stored_short, stored_zero, stored_held}
 use borrow.Author.Rules.{rules}
 use Rattle.card.proofs.spared.Reads as reads
 use Rattle.card.proofs.spared.Lts as lts

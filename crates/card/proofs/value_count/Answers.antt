@@ -1,9 +1,7 @@
-use Prim.Native.Nat.{◌+◌, ◌*◌, ◌%◌, ◌/◌, ◌-◌, ◌≤◌, ◌<◌}
 use native.Mathlib.Omega.{arith}
-use mathlib.Core.Path.{◌≡◌, refl, sym, ap, ◌∙◌}
-use borrow.Author.Tests.{not-true, not-false, ne_eqb}
+use mathlib.Core.Path.{refl}
+use borrow.Author.Tests.{ne_eqb}
 use Rattle.card.proofs.Reading.{pairs_small}
-use borrow.Author.Rules.{rules}
 use Rattle.card.proofs.value_count.Reads as reads
 use Rattle.card.proofs.value_count.Lts as lts
 use Rattle.card.proofs.value_count.Goals as goal

@@ -1,10 +1,7 @@
 -- `card_writer::card_length` meets its contract. Assumes nothing.
-use Prim.Native.Nat.{◌+◌, ◌*◌, ◌-◌, ◌≤◌}
 use native.Mathlib.Omega.{arith}
-use mathlib.Core.Path.{◌≡◌}
-use lib.ListN.{length}
 use Rattle.card.specs.Card.{form_of, layout}
-use Rattle.card_writer.proofs.Writing.{part, total_below, next_length, all_is, none_length}
+use Rattle.card_writer.proofs.Writing.{total_below, next_length, all_is, none_length}
 use borrow.Author.Rules.{rules}
 use Rattle.card_writer.proofs.card_length.Goals as goal
 

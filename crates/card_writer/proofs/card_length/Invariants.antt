@@ -1,11 +1,9 @@
 -- `card_writer::card_length` meets its contract. Assumes nothing.
 use Prim.Native.Nat.{◌+◌, ◌*◌, ◌-◌, ◌≤◌}
-use native.Mathlib.Omega.{arith}
 use mathlib.Core.Path.{◌≡◌}
 use lib.ListN.{length}
 use Rattle.card.specs.Card.{form_of, layout}
-use Rattle.card_writer.proofs.Writing.{part, total_below, next_length, all_is, none_length}
-use borrow.Author.Rules.{rules}
+use Rattle.card_writer.proofs.Writing.{part}
 use Rattle.card_writer.proofs.card_length.Given as goal
 
 abbrev pub invariant-loop-k : goal.invariant-loop-k

@@ -1,6 +1,5 @@
 -- `card_writer::model_of` meets its contract. Assumes nothing.
 use Rattle.card_writer.proofs.Writing.{model_newer, model_older}
-use borrow.Author.Rules.{rules}
 use Rattle.card_writer.proofs.model_of.Goals as goal
 
 pub returns-then-newer : goal.returns-then-newer

@@ -7,7 +7,6 @@ use Rattle.card.proofs.Reading.{total_small}
 use Rattle.card.proofs.Whole.{twelve}
 use Rattle.card_writer.specs.Writing.{CardRoom}
 use Rattle.card_writer.proofs.Stored.{refused_verdict, refused_stored, counts, moved_refused, moved_many, moved_goes, too_many, few_enough, part_many}
-use borrow.Author.Rules.{rules}
 use Rattle.card_writer.proofs.moved.Goals as goal
 
 pub returns-in_default : goal.returns-in_default

@@ -4,7 +4,6 @@ use mathlib.Core.Path.{ap}
 use Rattle.card.specs.Card.{form_of}
 use Rattle.card_writer.specs.Writing.{CardRoom}
 use Rattle.card_writer.proofs.Stored.{store_short, store_held, refused_verdict, refused_stored, held_verdict, held_stored}
-use borrow.Author.Rules.{rules}
 use Rattle.card_writer.proofs.store.Goals as goal
 
 pub returns-then-card-bytes : goal.returns-then-card-bytes

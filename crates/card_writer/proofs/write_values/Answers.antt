@@ -1,12 +1,11 @@
 -- `card_writer::write_values` meets its contract. Assumes nothing.
-use Prim.Native.Nat.{◌+◌, ◌*◌, ◌-◌, ◌≤◌}
 use native.Mathlib.Omega.{arith}
-use mathlib.Core.Path.{◌≡◌, sym}
-use lib.ListN.{length, get_or}
-use Rattle.bit_fields.specs.Bits.{bits_of, over}
+use mathlib.Core.Path.{sym}
+use lib.ListN.{get_or}
+use Rattle.bit_fields.specs.Bits.{bits_of}
 use Rattle.bit_fields.proofs.Bytes.{bits_length}
 use Rattle.card.specs.Card.{form_of, layout}
-use Rattle.card_writer.proofs.Writing.{length_small, part, total_below, next_length, next_fits, next_over, all_is, none_over, none_length}
+use Rattle.card_writer.proofs.Writing.{length_small, total_below, next_length, next_fits, next_over, all_is, none_over, none_length}
 use borrow.Author.Rules.{rules}
 use Rattle.card_writer.proofs.write_values.Goals as goal
 

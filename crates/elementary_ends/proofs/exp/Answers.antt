@@ -1,5 +1,4 @@
 -- `elementary_ends::exp` meets its contract. Assumes nothing.
-use borrow.Author.Rules.{rules}
 use Rattle.elementary_ends.proofs.exp.Goals as goal
 
 pub returns : goal.returns

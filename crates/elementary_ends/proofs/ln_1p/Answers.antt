@@ -1,5 +1,4 @@
 -- `elementary_ends::ln_1p` meets its contract. Assumes nothing.
-use borrow.Author.Rules.{rules}
 use Rattle.elementary_ends.proofs.ln_1p.Goals as goal
 
 pub returns : goal.returns

@@ -1,6 +1,5 @@
 -- `enclosure::add` meets its contract. Assumes nothing.
 use Rattle.enclosure.specs.Enclosure.{add_e}
-use borrow.Author.Rules.{rules}
 use Rattle.enclosure.proofs.add.Goals as goal
 
 pub returns : goal.returns

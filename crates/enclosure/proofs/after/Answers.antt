@@ -1,6 +1,5 @@
 -- `enclosure::after` meets its contract. Assumes nothing.
 use Rattle.enclosure.specs.Enclosure.{after_e}
-use borrow.Author.Rules.{rules}
 use Rattle.enclosure.proofs.after.Goals as goal
 
 pub returns : goal.returns

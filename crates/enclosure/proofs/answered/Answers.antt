@@ -1,7 +1,5 @@
 -- `enclosure::answered` meets its contract. Assumes nothing.
-use Rattle.number.specs.Ans.{◌>>=◌}
 use Rattle.number.specs.Functions.{answered}
-use borrow.Author.Rules.{rules}
 use Rattle.enclosure.proofs.answered.Goals as goal
 
 pub returns-in_default : goal.returns-in_default

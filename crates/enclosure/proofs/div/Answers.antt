@@ -1,6 +1,5 @@
 -- `enclosure::div` meets its contract. Assumes nothing.
 use Rattle.enclosure.specs.Enclosure.{div_e}
-use borrow.Author.Rules.{rules}
 use Rattle.enclosure.proofs.div.Goals as goal
 
 pub returns : goal.returns

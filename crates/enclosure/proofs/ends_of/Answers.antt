@@ -2,7 +2,6 @@
 use mathlib.Core.Path.{sym, ◌∙◌}
 use borrow.Author.Tests.{not-true, not-false}
 use Rattle.enclosure.proofs.TwoEnds.{alone_6, alone_7, alone_8, alone_held}
-use borrow.Author.Rules.{rules}
 use Rattle.enclosure.proofs.ends_of.Goals as goal
 
 pub returns-in_default : goal.returns-in_default

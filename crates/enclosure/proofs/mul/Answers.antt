@@ -1,6 +1,5 @@
 -- `enclosure::mul` meets its contract. Assumes nothing.
 use Rattle.enclosure.specs.Enclosure.{mul_e}
-use borrow.Author.Rules.{rules}
 use Rattle.enclosure.proofs.mul.Goals as goal
 
 pub returns : goal.returns

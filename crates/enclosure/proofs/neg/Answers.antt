@@ -1,6 +1,5 @@
 -- `enclosure::neg` meets its contract. Assumes nothing.
 use Rattle.enclosure.specs.Enclosure.{neg_e}
-use borrow.Author.Rules.{rules}
 use Rattle.enclosure.proofs.neg.Goals as goal
 
 pub returns : goal.returns

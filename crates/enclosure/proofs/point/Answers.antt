@@ -1,6 +1,5 @@
 -- `enclosure::point` meets its contract. Assumes nothing.
 use Rattle.enclosure.specs.Enclosure.{point}
-use borrow.Author.Rules.{rules}
 use Rattle.enclosure.proofs.point.Goals as goal
 
 pub returns : goal.returns

@@ -1,6 +1,5 @@
 -- `enclosure::pow_down` meets its contract. Assumes nothing.
 use Rattle.enclosure.specs.Enclosure.{down_e}
-use borrow.Author.Rules.{rules}
 use Rattle.enclosure.proofs.pow_down.Goals as goal
 
 pub returns : goal.returns

@@ -1,6 +1,5 @@
 -- `enclosure::pow_up` meets its contract. Assumes nothing.
 use Rattle.enclosure.specs.Enclosure.{pow_e}
-use borrow.Author.Rules.{rules}
 use Rattle.enclosure.proofs.pow_up.Goals as goal
 
 pub returns : goal.returns

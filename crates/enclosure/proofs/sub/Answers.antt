@@ -1,6 +1,5 @@
 -- `enclosure::sub` meets its contract. Assumes nothing.
 use Rattle.enclosure.specs.Enclosure.{sub_e}
-use borrow.Author.Rules.{rules}
 use Rattle.enclosure.proofs.sub.Goals as goal
 
 pub returns : goal.returns

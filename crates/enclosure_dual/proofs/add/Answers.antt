@@ -1,7 +1,6 @@
 -- `enclosure_dual::add` meets its contract. Assumes nothing.
 use Rattle.enclosure_dual.specs.Value.{dual_of}
 use Rattle.dual.specs.Dual.{add_d}
-use borrow.Author.Rules.{rules}
 use Rattle.enclosure_dual.proofs.add.Goals as goal
 
 pub returns : goal.returns

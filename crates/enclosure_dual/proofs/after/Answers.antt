@@ -1,7 +1,6 @@
 -- `enclosure_dual::after` meets its contract. Assumes nothing.
 use Rattle.enclosure_dual.specs.Value.{dual_of}
 use Rattle.dual.specs.Dual.{after_d}
-use borrow.Author.Rules.{rules}
 use Rattle.enclosure_dual.proofs.after.Goals as goal
 
 pub returns : goal.returns

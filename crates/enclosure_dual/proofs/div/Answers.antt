@@ -1,7 +1,6 @@
 -- `enclosure_dual::div` meets its contract. Assumes nothing.
 use Rattle.enclosure_dual.specs.Value.{dual_of}
 use Rattle.dual.specs.Dual.{div_d}
-use borrow.Author.Rules.{rules}
 use Rattle.enclosure_dual.proofs.div.Goals as goal
 
 pub returns : goal.returns

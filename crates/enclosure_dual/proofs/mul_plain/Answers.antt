@@ -1,7 +1,6 @@
 -- `enclosure_dual::mul_plain` meets its contract. Assumes nothing.
 use Rattle.dual.specs.Dual.{mul_d, plain_d}
 use Rattle.enclosure_dual.specs.Value.{dual_of}
-use borrow.Author.Rules.{rules}
 use Rattle.enclosure_dual.proofs.mul_plain.Goals as goal
 
 pub returns : goal.returns

@@ -2,7 +2,6 @@
 use Rattle.enclosure.specs.Enclosure.{enclosures}
 use Rattle.dual.proofs.Power.{down_zero, down_above}
 use Rattle.enclosure_dual.specs.Value.{dual_of}
-use borrow.Author.Rules.{rules}
 use Rattle.enclosure_dual.proofs.pow_down.Goals as goal
 
 pub returns-then-n-eq0 : goal.returns-then-n-eq0

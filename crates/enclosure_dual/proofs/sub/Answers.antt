@@ -1,7 +1,6 @@
 -- `enclosure_dual::sub` meets its contract. Assumes nothing.
 use Rattle.enclosure_dual.specs.Value.{dual_of}
 use Rattle.dual.specs.Dual.{sub_d}
-use borrow.Author.Rules.{rules}
 use Rattle.enclosure_dual.proofs.sub.Goals as goal
 
 pub returns : goal.returns

@@ -1,7 +1,5 @@
 -- `enclosure_dual::times_zero` meets its contract. Assumes nothing.
-use borrow.Author.Tests.{not-false}
 use Rattle.enclosure_dual.proofs.Zero.{right_is}
-use borrow.Author.Rules.{rules}
 use Rattle.enclosure_dual.proofs.times_zero.Goals as goal
 
 pub returns-then-not-is_finite : goal.returns-then-not-is_finite

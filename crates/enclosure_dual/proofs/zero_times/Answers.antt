@@ -1,7 +1,5 @@
 -- `enclosure_dual::zero_times` meets its contract. Assumes nothing.
-use borrow.Author.Tests.{not-false}
 use Rattle.enclosure_dual.proofs.Zero.{left_is}
-use borrow.Author.Rules.{rules}
 use Rattle.enclosure_dual.proofs.zero_times.Goals as goal
 
 pub returns-then-not-is_finite : goal.returns-then-not-is_finite

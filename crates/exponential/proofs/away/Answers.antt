@@ -1,5 +1,4 @@
 -- `exponential::away` meets its contract. Assumes nothing.
-use borrow.Author.Rules.{rules}
 use mathlib.Core.Path.{subst, sym}
 use lib.Dec.{T}
 use Rattle.exponential.proofs.Argument.{no_nan}

@@ -1,5 +1,4 @@
 -- `exponential::exp` meets its contract. Assumes nothing.
-use borrow.Author.Rules.{rules}
 use Rattle.exponential.proofs.Argument.{value_is, outside_is, accepted}
 use Rattle.exponential.proofs.exp.Goals as goal
 

@@ -1,6 +1,4 @@
 -- `exponential::exp_m1` meets its contract. Assumes nothing.
-use borrow.Author.Rules.{rules}
-use borrow.Author.Tests.{not-true, not-false}
 use Rattle.exponential.proofs.Argument.{no_nan, accepted}
 use Rattle.exponential.proofs.LargePart.{m1_outside, m1_tiny, m1_away}
 use Rattle.exponential.proofs.exp_m1.Goals as goal

@@ -1,5 +1,4 @@
 -- `exponential::over` meets its contract. Assumes nothing.
-use borrow.Author.Rules.{rules}
 use Rattle.fixed_point.specs.Horner.{horner}
 use Rattle.fixed_point.proofs.Chain.{on, last}
 use Rattle.exponential.proofs.SmallPart.{first_last}

@@ -1,5 +1,4 @@
 -- `exponential::raise_core` meets its contract. Assumes nothing.
-use borrow.Author.Rules.{rules}
 use mathlib.Core.Path.{ap}
 use Prim.Native.Nat.{ℕ, ◌+◌, ◌-◌, ◌*◌, ◌/◌, ◌^◌}
 use lib.Ieee.{binary64, of_bits}

@@ -1,5 +1,4 @@
 -- `exponential::small` meets its contract. Assumes nothing.
-use borrow.Author.Rules.{rules}
 use mathlib.Core.Path.{ap, ◌∙◌}
 use Prim.Native.Nat.{ℕ, ◌/◌, ◌^◌}
 use Rattle.exponential.specs.ExpM1.{digits_of}

@@ -1,5 +1,4 @@
 -- `exponential::tanh_inside` meets its contract. Assumes nothing.
-use borrow.Author.Tests.{not-true, not-false}
 use Rattle.exponential.proofs.TanhPart.{tanh_below, tanh_above}
 use Rattle.exponential.proofs.tanh_inside.Goals as goal
 

@@ -1,5 +1,4 @@
 -- `exponential::tanh_ratio` meets its contract. Assumes nothing.
-use borrow.Author.Rules.{rules}
 use Rattle.exponential.proofs.TanhPart.{exp_fits, one_fits, tanh_ratio_is}
 use Rattle.exponential.proofs.tanh_ratio.Goals as goal
 

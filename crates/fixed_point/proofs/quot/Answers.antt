@@ -1,4 +1,3 @@
-use borrow.Author.Rules.{rules}
 use native.Mathlib.Nat.{lt_of_le_of_lt}
 use mir.Facts.{Fits-bits}
 use mathlib.Core.Path.{refl}

@@ -1,4 +1,3 @@
-use borrow.Author.Rules.{rules}
 use mathlib.Core.Path.{sym}
 use native.Mathlib.Nat.{lt_of_lt_of_le, div-eq_of_lt}
 use native.Mathlib.Omega.{arith}

@@ -1,7 +1,5 @@
 -- `interval_bench::domthelv_bench_float` meets its contract. Assumes nothing.
-use borrow.Author.Rules.{rules}
 use Rattle.number.specs.Walk.{turns}
-use Rattle.number.proofs.Walk.{turns_none, turns_next, turns_end}
 use Prim.Native.Nat.{ℕ, ◌≤◌, ◌-◌}
 use mathlib.Core.Path.{◌≡◌}
 use Rattle.interval_bench.specs.Repeat.{float_step}

@@ -1,11 +1,6 @@
 -- `interval_bench::domthelv_bench_interval` meets its contract. Assumes nothing.
 use borrow.Author.Rules.{rules}
-use Rattle.number.specs.Walk.{turns}
 use Rattle.number.proofs.Walk.{turns_none, turns_next, turns_end}
-use Prim.Native.Nat.{ℕ, ◌≤◌, ◌-◌}
-use mathlib.Core.Path.{◌≡◌}
-use Rattle.interval_bench.specs.Repeat.{interval_step}
-use Rattle.interval.specs.declared.Interval.{Interval}
 use Rattle.interval_bench.proofs.domthelv_bench_interval.Goals as goal
 
 pub loop-i-init : goal.loop-i-init

@@ -1,7 +1,6 @@
 -- `interval_bench::interval_step` meets its contract. Assumes nothing.
 use borrow.Author.Tests.{eq-eqb, ne_eqb}
 use Rattle.interval_bench.specs.Repeat.{interval_step}
-use borrow.Author.Rules.{rules}
 use Rattle.interval_bench.proofs.interval_step.Goals as goal
 
 pub returns-then-op-eq0 : goal.returns-then-op-eq0

@@ -1,13 +1,9 @@
 -- `limits::all_one` meets its contract. Assumes nothing.
 use Rattle.limits.specs.Limits.{all_one}
 use Rattle.number.proofs.Walk.{every_none, every_next, every_end}
-use Prim.Native.Nat.{◌≤◌, ◌-◌}
-use mathlib.Core.Path.{◌≡◌, refl}
-use Rattle.number.specs.Walk.{every}
-use Rattle.number.specs.Lists.{at}
+use mathlib.Core.Path.{refl}
 use lib.Ieee.{of_bits}
 use Rattle.number.specs.Arith.{decimal}
-use lib.Ieee.{eq}
 use mathlib.Core.Bool.{false}
 use borrow.Author.Rules.{rules}
 use Rattle.limits.proofs.all_one.Goals as goal

@@ -1,15 +1,11 @@
 -- `limits::all_one` meets its contract. Assumes nothing.
-use Rattle.limits.specs.Limits.{all_one}
-use Rattle.number.proofs.Walk.{every_none, every_next, every_end}
 use Prim.Native.Nat.{◌≤◌, ◌-◌}
-use mathlib.Core.Path.{◌≡◌, refl}
+use mathlib.Core.Path.{◌≡◌}
 use Rattle.number.specs.Walk.{every}
 use Rattle.number.specs.Lists.{at}
-use lib.Ieee.{of_bits}
 use Rattle.number.specs.Arith.{decimal}
 use lib.Ieee.{eq}
 use mathlib.Core.Bool.{false}
-use borrow.Author.Rules.{rules}
 use Rattle.limits.proofs.all_one.Given as goal
 
 abbrev pub invariant-loop-i : goal.invariant-loop-i

@@ -1,10 +1,6 @@
 -- `limits::all_within` meets its contract. Assumes nothing.
-use Rattle.limits.specs.Limits.{in_limits, all_within}
+use Rattle.limits.specs.Limits.{all_within}
 use Rattle.number.proofs.Walk.{every_none, every_next, every_end}
-use Prim.Native.Nat.{◌≤◌, ◌-◌}
-use mathlib.Core.Path.{◌≡◌}
-use Rattle.number.specs.Walk.{every}
-use Rattle.number.specs.Lists.{at}
 use borrow.Author.Rules.{rules}
 use Rattle.limits.proofs.all_within.Goals as goal
 

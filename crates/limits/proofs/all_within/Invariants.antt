@@ -1,11 +1,9 @@
 -- `limits::all_within` meets its contract. Assumes nothing.
-use Rattle.limits.specs.Limits.{in_limits, all_within}
-use Rattle.number.proofs.Walk.{every_none, every_next, every_end}
+use Rattle.limits.specs.Limits.{in_limits}
 use Prim.Native.Nat.{◌≤◌, ◌-◌}
 use mathlib.Core.Path.{◌≡◌}
 use Rattle.number.specs.Walk.{every}
 use Rattle.number.specs.Lists.{at}
-use borrow.Author.Rules.{rules}
 use Rattle.limits.proofs.all_within.Given as goal
 
 abbrev pub invariant-loop-i : goal.invariant-loop-i

@@ -1,9 +1,7 @@
 -- `limits::components_within` meets its contract. Assumes nothing.
-use Rattle.limits.specs.Limits.{components, component_within, components_within}
+use Rattle.limits.specs.Limits.{component_within, components_within}
 use Rattle.number.proofs.Walk.{every_none, every_next, every_end}
-use Prim.Native.Nat.{◌≤◌, ◌-◌}
-use mathlib.Core.Path.{◌≡◌, ap, ◌∙◌}
-use Rattle.number.specs.Walk.{every}
+use mathlib.Core.Path.{ap, ◌∙◌}
 use borrow.Author.Rules.{rules}
 use Rattle.limits.proofs.components_within.Goals as goal
 

@@ -1,10 +1,8 @@
 -- `limits::components_within` meets its contract. Assumes nothing.
-use Rattle.limits.specs.Limits.{components, component_within, components_within}
-use Rattle.number.proofs.Walk.{every_none, every_next, every_end}
+use Rattle.limits.specs.Limits.{components, component_within}
 use Prim.Native.Nat.{◌≤◌, ◌-◌}
-use mathlib.Core.Path.{◌≡◌, ap, ◌∙◌}
+use mathlib.Core.Path.{◌≡◌}
 use Rattle.number.specs.Walk.{every}
-use borrow.Author.Rules.{rules}
 use Rattle.limits.proofs.components_within.Given as goal
 
 abbrev pub invariant-loop-i : goal.invariant-loop-i

@@ -1,6 +1,5 @@
 -- `limits::index_within` meets its contract. Assumes nothing.
 use Rattle.limits.specs.Limits.{index_within}
-use borrow.Author.Rules.{rules}
 use Rattle.limits.proofs.index_within.Goals as goal
 
 pub returns : goal.returns

@@ -6,7 +6,6 @@ use Rattle.limits.proofs.Square.{cell_below, cell_small}
 use borrow.Author.Tests.{eq-eqb, ne_eqb}
 use lib.Ieee.{of_bits}
 use Rattle.number.specs.Arith.{decimal}
-use borrow.Author.Rules.{rules}
 use Rattle.limits.proofs.pair_within.Goals as goal
 
 pub overflow_mul-x : goal.overflow_mul-x

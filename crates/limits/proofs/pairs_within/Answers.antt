@@ -1,9 +1,6 @@
 -- `limits::pairs_within` meets its contract. Assumes nothing.
-use Rattle.limits.specs.Limits.{square, pair_within, pairs_within}
+use Rattle.limits.specs.Limits.{pairs_within}
 use Rattle.number.proofs.Walk.{every_none, every_next, every_end}
-use Prim.Native.Nat.{◌≤◌, ◌-◌}
-use mathlib.Core.Path.{◌≡◌}
-use Rattle.number.specs.Walk.{every}
 use borrow.Author.Rules.{rules}
 use Rattle.limits.proofs.pairs_within.Goals as goal
 

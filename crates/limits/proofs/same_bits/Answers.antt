@@ -1,7 +1,6 @@
 -- `limits::same_bits` meets its contract. Assumes nothing.
 use Rattle.limits.specs.Limits.{same_bits}
 use Rattle.number.proofs.Bits.{own_is}
-use borrow.Author.Rules.{rules}
 use Rattle.limits.proofs.same_bits.Goals as goal
 
 pub returns : goal.returns

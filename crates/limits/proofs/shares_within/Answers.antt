@@ -2,7 +2,6 @@
 use Rattle.limits.specs.Limits.{shares_within}
 use lib.Ieee.{of_bits}
 use Rattle.number.specs.Arith.{decimal}
-use borrow.Author.Rules.{rules}
 use Rattle.limits.proofs.shares_within.Goals as goal
 
 pub returns : goal.returns

@@ -1,6 +1,5 @@
 -- `limits::state_within` meets its contract. Assumes nothing.
 use Rattle.limits.specs.Limits.{state_within}
-use borrow.Author.Rules.{rules}
 use Rattle.limits.proofs.state_within.Goals as goal
 
 pub returns : goal.returns

@@ -1,5 +1,4 @@
 -- `logarithm::bits_1p` meets its contract. Assumes nothing.
-use borrow.Author.Rules.{rules}
 use borrow.Author.Tests.{lt-ltb, le-ltb}
 use Rattle.logarithm.specs.Logarithm.{bits1p}
 use Rattle.logarithm.proofs.bits_1p.Goals as goal

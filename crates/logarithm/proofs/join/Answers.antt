@@ -1,5 +1,4 @@
 -- `logarithm::join` meets its contract. Assumes nothing.
-use borrow.Author.Rules.{rules}
 use borrow.Author.Tests.{eq-eqb, ne_eqb, lt-ltb, le-ltb}
 use Rattle.logarithm.specs.Logarithm.{join}
 use Rattle.logarithm.proofs.join.Goals as goal

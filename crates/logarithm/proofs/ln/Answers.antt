@@ -1,6 +1,4 @@
 -- `logarithm::ln` meets its contract. Assumes nothing.
-use borrow.Author.Rules.{rules}
-use borrow.Author.Tests.{not-true, not-false}
 use Rattle.logarithm.proofs.Domain.{no_nan, ln_below, ln_above, ln_inside}
 use Rattle.logarithm.proofs.ln.Goals as goal
 

@@ -1,7 +1,6 @@
 -- `logarithm::ln_1p` meets its contract. Assumes nothing.
 use mathlib.Core.Path.{sym, subst}
 use lib.Dec.{T}
-use borrow.Author.Tests.{not-true, not-false}
 use Rattle.logarithm.proofs.Domain.{no_nan, range_1p, ln_1p_below, ln_1p_above, ln_1p_inside}
 use Rattle.logarithm.proofs.ln_1p.Goals as goal
 

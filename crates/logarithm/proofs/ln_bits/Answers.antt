@@ -1,5 +1,4 @@
 -- `logarithm::ln_bits` meets its contract. Assumes nothing.
-use borrow.Author.Rules.{rules}
 use Rattle.logarithm.specs.Logarithm.{ln_bits}
 use Rattle.logarithm.proofs.ln_bits.Goals as goal
 

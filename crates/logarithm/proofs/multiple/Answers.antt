@@ -1,5 +1,4 @@
 -- `logarithm::multiple` meets its contract. Assumes nothing.
-use borrow.Author.Rules.{rules}
 use mathlib.Core.Path.{refl}
 use native.Mathlib.Nat.{lt_of_le_of_lt}
 use lib.Dec.{lit<}

@@ -1,5 +1,4 @@
 -- `logarithm::reduced` meets its contract. Assumes nothing.
-use borrow.Author.Rules.{rules}
 use borrow.Author.Tests.{lt-ltb, le-ltb}
 use Rattle.logarithm.specs.Logarithm.{reduced}
 use Rattle.logarithm.proofs.reduced.Goals as goal

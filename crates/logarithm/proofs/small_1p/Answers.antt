@@ -1,11 +1,10 @@
 -- `logarithm::small_1p` meets its contract. Assumes nothing.
-use borrow.Author.Rules.{rules}
 use mathlib.Core.Path.{sym, ap, ◌∙◌, subst}
 use Prim.Native.Nat.{ℕ, ◌+◌, ◌-◌, ◌*◌, ◌/◌, ◌^◌, ◌≤◌, ◌<◌}
 use native.Mathlib.Omega.{arith}
 use mir.Facts.{Fits-bits}
 use borrow.Author.Tests.{eq-eqb, ne_eqb}
-use Rattle.logarithm.specs.Logarithm.{core, join, small1p}
+use Rattle.logarithm.specs.Logarithm.{join, small1p}
 use Rattle.logarithm.proofs.Ranges.{part_of_two, two_le, asked_1p, part_small}
 use Rattle.logarithm.proofs.small_1p.Goals as goal
 

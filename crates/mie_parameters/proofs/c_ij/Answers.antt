@@ -2,11 +2,9 @@
 use Rattle.mie_parameters.specs.Combine.{c_ij}
 use lib.Ieee.{of_bits}
 use Rattle.number.specs.Arith.{decimal}
-use Rattle.number.specs.Ans.{◌>>=◌}
 use Rattle.number.specs.Answer.{answer}
 use Rattle.number.specs.Functions.{answered₂}
 use Rattle.number.proofs.Walk.{via}
-use Rattle.std.proofs.Common.{rules}
 use Rattle.mie_parameters.proofs.c_ij.Goals as goal
 
 pub returns-in_default : goal.returns-in_default

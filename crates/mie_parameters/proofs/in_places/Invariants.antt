@@ -1,7 +1,5 @@
 -- `mie_parameters::in_places` meets its contract. Assumes nothing.
-use Rattle.mie_parameters.specs.Places.{in_places}
-use Rattle.std.proofs.Common.{◌≡◌, ◌-◌, ◌≤◌, set, replicate, refl, rules}
-use Rattle.number.proofs.Walk.{turns_none, turns_next, turns_end}
+use Rattle.std.proofs.Common.{◌≡◌, ◌-◌, ◌≤◌, set, replicate}
 use Rattle.number.specs.Walk.{turns}
 use Rattle.sizes.specs.Sizes.{side}
 use Rattle.number.specs.Lists.{at}

@@ -1,7 +1,6 @@
 -- `patterns::slope` meets its contract. Assumes nothing.
 use Rattle.dual.proofs.Parts.{eps_is, made_is}
 use Rattle.patterns.specs.Formulas.{slope}
-use borrow.Author.Rules.{rules}
 use Rattle.patterns.proofs.slope.Goals as goal
 
 pub returns : goal.returns

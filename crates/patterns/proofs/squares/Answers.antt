@@ -2,11 +2,8 @@
 use borrow.Author.Rules.{rules}
 use Rattle.patterns.specs.Formulas.{squares}
 use Rattle.number.proofs.Walk.{turns_none, turns_next, turns_end}
-use Rattle.number.specs.Arith.{floats}
 use Rattle.number.specs.Lists.{at}
-use lib.ListN.{length}
-use mathlib.Core.Path.{◌≡◌, refl}
-use Prim.Native.Nat.{◌≤◌, ◌-◌}
+use mathlib.Core.Path.{refl}
 use Rattle.patterns.proofs.squares.Goals as goal
 
 pub loop-i-init : goal.loop-i-init

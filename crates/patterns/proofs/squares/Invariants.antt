@@ -1,11 +1,9 @@
 -- `patterns::squares` meets its contract. Assumes nothing.
-use borrow.Author.Rules.{rules}
 use Rattle.patterns.specs.Formulas.{squares}
-use Rattle.number.proofs.Walk.{turns_none, turns_next, turns_end}
 use Rattle.number.specs.Arith.{floats}
 use Rattle.number.specs.Lists.{at}
 use lib.ListN.{length}
-use mathlib.Core.Path.{◌≡◌, refl}
+use mathlib.Core.Path.{◌≡◌}
 use Prim.Native.Nat.{◌≤◌, ◌-◌}
 use Rattle.patterns.proofs.squares.Given as goal
 

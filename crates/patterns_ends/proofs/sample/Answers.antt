@@ -2,8 +2,6 @@
 use Rattle.patterns.specs.Formulas.{sample}
 use Rattle.number.proofs.Walk.{via}
 use Rattle.enclosure.specs.Answer.{answer}
-use Rattle.number.specs.Ans.{◌>>=◌}
-use borrow.Author.Rules.{rules}
 use Rattle.patterns_ends.proofs.sample.Goals as goal
 
 pub returns-in_default : goal.returns-in_default

@@ -1,7 +1,6 @@
 -- `patterns_ends::sample_ends` meets its contract. Assumes nothing.
 use Rattle.patterns_ends.proofs.Encloses.{sample_alone}
 use Rattle.patterns.specs.Formulas.{root_alone}
-use borrow.Author.Rules.{rules}
 use Rattle.patterns_ends.proofs.sample_ends.Goals as goal
 
 pub returns : goal.returns

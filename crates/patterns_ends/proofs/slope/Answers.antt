@@ -1,7 +1,6 @@
 -- `patterns_ends::slope` meets its contract. Assumes nothing.
 use Rattle.enclosure_dual.proofs.Parts.{eps_is, made_is}
 use Rattle.patterns.specs.Formulas.{slope}
-use borrow.Author.Rules.{rules}
 use Rattle.patterns_ends.proofs.slope.Goals as goal
 
 pub returns : goal.returns

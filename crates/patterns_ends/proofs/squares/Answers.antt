@@ -2,11 +2,7 @@
 use borrow.Author.Rules.{rules}
 use Rattle.patterns.specs.Formulas.{squares}
 use Rattle.number.proofs.Walk.{turns_none, turns_next, turns_end}
-use Rattle.enclosure.specs.Enclosure.{enclosures, point}
 use Rattle.number.specs.Lists.{at}
-use lib.ListN.{length}
-use mathlib.Core.Path.{◌≡◌}
-use Prim.Native.Nat.{◌≤◌, ◌-◌}
 use Rattle.patterns_ends.proofs.squares.Goals as goal
 
 pub loop-i-init : goal.loop-i-init

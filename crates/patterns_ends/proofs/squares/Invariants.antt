@@ -1,7 +1,5 @@
 -- `patterns_ends::squares` meets its contract. Assumes nothing.
-use borrow.Author.Rules.{rules}
 use Rattle.patterns.specs.Formulas.{squares}
-use Rattle.number.proofs.Walk.{turns_none, turns_next, turns_end}
 use Rattle.enclosure.specs.Enclosure.{enclosures, point}
 use Rattle.number.specs.Lists.{at}
 use lib.ListN.{length}

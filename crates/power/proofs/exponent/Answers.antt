@@ -1,6 +1,4 @@
 -- `exponent` meets its contract. Assumes nothing.
-use borrow.Author.Rules.{rules}
-use borrow.Author.Tests.{not-true, not-false}
 use mathlib.Core.Path.{subst, sym}
 use lib.Dec.{T}
 use Rattle.power.proofs.Exponents.{no_nan, field_le, accepted, outside_is, value_is}

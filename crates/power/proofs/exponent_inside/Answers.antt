@@ -1,5 +1,4 @@
 -- `exponent_inside` meets its contract. Assumes nothing.
-use borrow.Author.Tests.{not-true, not-false}
 use Rattle.power.proofs.Exponents.{below, above}
 use Rattle.power.proofs.exponent_inside.Goals as goal
 

@@ -1,6 +1,4 @@
 -- `powf` meets its contract. Assumes nothing.
-use borrow.Author.Rules.{rules}
-use borrow.Author.Tests.{not-true, not-false}
 use Rattle.power.proofs.Stages.{no_base, no_exponent, value_is}
 use Rattle.power.proofs.powf.Goals as goal
 

@@ -1,5 +1,4 @@
 -- `product` meets its contract. Assumes nothing.
-use borrow.Author.Rules.{rules}
 use Prim.Native.Nat.{◌*◌, ◌^◌}
 use native.Mathlib.Nat.{le_refl, le_of_lt}
 use Rattle.power.proofs.Stages.{product_is, limit_is}

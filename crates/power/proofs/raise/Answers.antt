@@ -1,5 +1,4 @@
 -- `raise` meets its contract. Assumes nothing.
-use borrow.Author.Rules.{rules}
 use Rattle.power.proofs.Stages.{base_is, raised_is}
 use Rattle.power.proofs.raise.Goals as goal
 

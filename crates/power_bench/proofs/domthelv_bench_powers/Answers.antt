@@ -1,13 +1,6 @@
 -- `power_bench::domthelv_bench_powers` meets its contract. Assumes nothing.
 use Rattle.power_bench.specs.Powers.{fourteen_powers}
-use mathlib.Core.Path.{◌≡◌}
-use Prim.Native.Nat.{ℕ, ◌≤◌, ◌-◌}
-use Rattle.number.specs.Walk.{turns}
 use Rattle.number.proofs.Walk.{turns_none, turns_next, turns_end}
-use Rattle.number.specs.Lists.{at}
-use lib.Ieee.{Float}
-use Rattle.number.specs.Arith.{floats, zero64}
-use Rattle.power.specs.Power.{exponent_of, power_of}
 use borrow.Author.Rules.{rules}
 use Rattle.power_bench.proofs.domthelv_bench_powers.Goals as goal
 

@@ -1,5 +1,4 @@
 -- `sqrt` meets its contract: the domain's laws, then the root of what the pattern stands for. Assumes nothing.
-use borrow.Author.Rules.{rules}
 use mathlib.Core.Path.{sym, ap, ◌∙◌, subst}
 use native.Mathlib.Omega.{arith}
 use lib.Dec.{T}

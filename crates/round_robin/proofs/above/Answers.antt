@@ -1,6 +1,5 @@
 -- `round_robin::above` meets its contract. Assumes nothing.
 use Rattle.round_robin.proofs.Seek.{above_on, above_round}
-use borrow.Author.Rules.{rules}
 use Rattle.round_robin.proofs.above.Goals as goal
 
 pub returns-then-k : goal.returns-then-k

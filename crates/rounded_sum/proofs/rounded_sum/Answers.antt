@@ -1,13 +1,11 @@
 -- `rounded_sum::rounded_sum` meets its contract. Assumes nothing.
-use mathlib.Core.Path.{◌≡◌, refl, sym, ap, ◌∙◌, subst}
+use mathlib.Core.Path.{◌≡◌, sym, ◌∙◌, subst}
 use mathlib.Core.Bool.{false}
 use lib.Dec.{T}
-use lib.Ieee.{Float, binary64, add, fits}
+use lib.Ieee.{binary64, add, fits}
 use lib.Ieee.Scale.{finite}
 use Rattle.rounded_sum.specs.RoundedSum.{rounded_sum}
 use Rattle.rounded_sum.proofs.Exact.{made, first_is, second_is}
-use borrow.Author.Tests.{not-true, not-false}
-use borrow.Author.Rules.{rules}
 use Rattle.rounded_sum.proofs.rounded_sum.Goals as goal
 use Rattle.rounded_sum.proofs.rounded_sum.Goals.{Else-not-is_finite, Start}
 

@@ -1,6 +1,5 @@
 -- `saftvrmie_diameter::beta_u_mie` meets its contract. Assumes nothing.
 use Rattle.saftvrmie_diameter.specs.Staged.{beta_u_at}
-use borrow.Author.Rules.{rules}
 use Rattle.saftvrmie_diameter.proofs.beta_u_mie.Goals as goal
 
 pub returns : goal.returns

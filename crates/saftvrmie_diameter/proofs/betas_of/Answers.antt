@@ -1,11 +1,6 @@
 -- `saftvrmie_diameter::betas_of` meets its contract. Assumes nothing.
 use Rattle.number.proofs.Walk.{turns_none, turns_next, turns_end}
-use mathlib.Core.Path.{◌≡◌}
-use Prim.Native.Nat.{◌≤◌, ◌-◌}
-use Rattle.number.specs.Walk.{turns}
-use lib.ListN.{get_or, set, replicate}
-use Rattle.number.specs.Arith.{zero64}
-use Rattle.saftvrmie_diameter.specs.Staged.{beta_u_at, beyond, betas_of}
+use Rattle.saftvrmie_diameter.specs.Staged.{betas_of}
 use borrow.Author.Rules.{rules}
 use Rattle.saftvrmie_diameter.proofs.betas_of.Goals as goal
 

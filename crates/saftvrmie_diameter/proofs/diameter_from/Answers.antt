@@ -1,16 +1,8 @@
 -- `saftvrmie_diameter::diameter_from` meets its contract. Assumes nothing.
-use Rattle.saftvrmie_diameter.specs.Diameter.{node_turn, diameter_from}
+use Rattle.saftvrmie_diameter.specs.Diameter.{diameter_from}
 use Rattle.saftvrmie_diameter.proofs.Staged.{node_turn_is, from_refused}
-use borrow.Author.Tests.{not-true, not-false}
-use Rattle.number.specs.Arith.{floats}
-use Rattle.number.specs.Ans.{held, ◌>>=◌}
 use Rattle.number.specs.Answer.{answer}
-use Rattle.number.specs.Functions.{calls}
-use Rattle.elementary.specs.Port.{port}
 use Rattle.number.proofs.Walk.{via, told, walk_none, walk_next, walk_stop, walk_end}
-use mathlib.Core.Path.{◌≡◌}
-use Prim.Native.Nat.{◌≤◌, ◌-◌}
-use Rattle.number.specs.Walk.{walk}
 use borrow.Author.Rules.{rules}
 use Rattle.saftvrmie_diameter.proofs.diameter_from.Goals as goal
 

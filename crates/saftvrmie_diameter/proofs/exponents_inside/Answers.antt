@@ -1,6 +1,5 @@
 -- `saftvrmie_diameter::exponents_inside` meets its contract. Assumes nothing.
 use Rattle.saftvrmie_diameter.specs.Staged.{exponents_inside}
-use borrow.Author.Rules.{rules}
 use Rattle.saftvrmie_diameter.proofs.exponents_inside.Goals as goal
 
 pub returns : goal.returns

@@ -1,6 +1,5 @@
 -- `saftvrmie_diameter::exponents_of` meets its contract. Assumes nothing.
 use Rattle.saftvrmie_diameter.specs.Staged.{exponents_of}
-use borrow.Author.Rules.{rules}
 use Rattle.saftvrmie_diameter.proofs.exponents_of.Goals as goal
 
 pub returns : goal.returns

@@ -1,13 +1,9 @@
 -- `saftvrmie_diameter::halley` meets its contract. Assumes nothing.
 use Rattle.saftvrmie_diameter.specs.Diameter.{halley}
-use Rattle.saftvrmie_diameter.proofs.Laws.{ends, outside, below, on}
 use Rattle.number.specs.Arith.{floats}
 use Rattle.number.specs.Functions.{calls}
 use Rattle.elementary.specs.Port.{port}
-use Rattle.number.proofs.Walk.{via}
-use Rattle.saftvrmie_diameter.specs.Answer.{halley_answer}
-use mathlib.Core.Path.{◌≡◌, refl}
-use borrow.Author.Rules.{rules}
+use mathlib.Core.Path.{◌≡◌}
 use Rattle.saftvrmie_diameter.proofs.halley.Given as goal
 
 abbrev pub invariant-loop-left : goal.invariant-loop-left

@@ -2,9 +2,7 @@
 use lib.Ieee.{of_bits}
 use Rattle.number.specs.Arith.{decimal}
 use Rattle.saftvrmie_diameter.proofs.Staged.{step_outside, step_is}
-use borrow.Author.Tests.{not-true, not-false}
 use Rattle.number.proofs.Walk.{told}
-use borrow.Author.Rules.{rules}
 use Rattle.saftvrmie_diameter.proofs.halley_step.Goals as goal
 
 pub returns-then-not-base_inside : goal.returns-then-not-base_inside

@@ -1,9 +1,7 @@
 -- `saftvrmie_diameter::hs_diameter_ij` meets its contract. Assumes nothing.
 use Rattle.saftvrmie_diameter.specs.Diameter.{hs_diameter}
-use Rattle.number.specs.Ans.{◌>>=◌}
 use Rattle.number.specs.Answer.{answer}
 use Rattle.number.proofs.Walk.{via}
-use borrow.Author.Rules.{rules}
 use Rattle.saftvrmie_diameter.proofs.hs_diameter_ij.Goals as goal
 
 pub returns-in_default : goal.returns-in_default

@@ -2,7 +2,6 @@
 use lib.Ieee.{of_bits}
 use Rattle.number.specs.Arith.{decimal}
 use Rattle.saftvrmie_diameter.specs.Staged.{inverse_at}
-use borrow.Author.Rules.{rules}
 use Rattle.saftvrmie_diameter.proofs.inverse_at.Goals as goal
 
 pub returns : goal.returns

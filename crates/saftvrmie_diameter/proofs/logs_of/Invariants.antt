@@ -1,12 +1,10 @@
 -- `saftvrmie_diameter::logs_of` meets its contract. Assumes nothing.
-use Rattle.number.proofs.Walk.{turns_none, turns_next, turns_end}
 use mathlib.Core.Path.{◌≡◌}
 use Prim.Native.Nat.{◌≤◌, ◌-◌}
 use Rattle.number.specs.Walk.{turns}
 use lib.ListN.{set, replicate}
 use Rattle.binary_log.specs.BinaryLog.{log_of}
-use Rattle.saftvrmie_diameter.specs.Staged.{inverse_at, no_log, logs_of}
-use borrow.Author.Rules.{rules}
+use Rattle.saftvrmie_diameter.specs.Staged.{inverse_at, no_log}
 use Rattle.saftvrmie_diameter.proofs.logs_of.Given as goal
 
 abbrev pub invariant-loop-k : goal.invariant-loop-k

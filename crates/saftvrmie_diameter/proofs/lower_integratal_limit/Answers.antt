@@ -2,13 +2,10 @@
 use Rattle.saftvrmie_diameter.specs.Diameter.{lower_limit}
 use lib.Ieee.{of_bits}
 use Rattle.number.specs.Arith.{decimal}
-use Rattle.number.specs.Ans.{◌>>=◌}
 use Rattle.number.specs.Answer.{answer}
 use Rattle.number.specs.Functions.{answered}
 use Rattle.number.proofs.Walk.{via, told}
 use Rattle.saftvrmie_diameter.proofs.Staged.{ln_epsilon, halley_refused}
-use borrow.Author.Tests.{not-true, not-false}
-use borrow.Author.Rules.{rules}
 use Rattle.saftvrmie_diameter.proofs.lower_integratal_limit.Goals as goal
 
 pub returns-in_default : goal.returns-in_default

@@ -2,11 +2,9 @@
 use lib.Ieee.{of_bits}
 use Rattle.number.specs.Arith.{decimal}
 use Rattle.saftvrmie_diameter.specs.Staged.{node_at}
-use Rattle.number.specs.Ans.{◌>>=◌, demand}
+use Rattle.number.specs.Ans.{demand}
 use Rattle.number.specs.Answer.{answer}
-use borrow.Author.Tests.{not-true, not-false}
 use Rattle.number.proofs.Walk.{told, via}
-use borrow.Author.Rules.{rules}
 use Rattle.saftvrmie_diameter.proofs.node.Goals as goal
 
 pub returns-then-not-base_inside : goal.returns-then-not-base_inside

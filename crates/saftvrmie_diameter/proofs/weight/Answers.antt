@@ -1,6 +1,5 @@
 -- `saftvrmie_diameter::weight` meets its contract: each arm is the list's entry, the default arm that beyond it. Assumes nothing.
 use lib.Ieee.{of_bits, neg}
-use borrow.Author.Rules.{rules}
 use Rattle.number.specs.Arith.{decimal, floats}
 use Rattle.fixed_point.proofs.Arms.{above}
 use Rattle.number.specs.Functions.{entry, calls}

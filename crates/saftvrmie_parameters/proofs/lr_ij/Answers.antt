@@ -2,7 +2,6 @@
 use Rattle.saftvrmie_parameters.specs.Combine.{lr_ij}
 use lib.Ieee.{of_bits}
 use Rattle.number.specs.Arith.{decimal}
-use Rattle.number.specs.Ans.{◌>>=◌}
 use Rattle.number.specs.Answer.{answer}
 use Rattle.number.specs.Functions.{answered}
 use Rattle.number.proofs.Walk.{via}

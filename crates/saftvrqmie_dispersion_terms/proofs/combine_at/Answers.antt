@@ -1,12 +1,10 @@
 -- `saftvrqmie_dispersion_terms::combine_at` meets its contract. Assumes nothing.
-use Rattle.number.specs.Ans.{◌>>=◌}
 use Rattle.number.specs.Answer.{answer}
 use Rattle.number.proofs.Walk.{via}
 use Rattle.saftvrqmie_dispersion_terms.specs.Staged.{combine_at}
 use lib.Ieee.{of_bits}
 use Rattle.number.specs.Arith.{decimal}
 use Rattle.saftvrqmie_dispersion_terms.specs.Terms.{sutherland, ilambda, jlambda, b, combine}
-use borrow.Author.Rules.{rules}
 use Rattle.saftvrqmie_dispersion_terms.proofs.combine_at.Goals as goal
 
 pub returns-in_default : goal.returns-in_default

@@ -3,7 +3,6 @@ use Rattle.number.proofs.Walk.{via}
 use Rattle.saftvrqmie_dispersion_terms.specs.Staged.{pair_terms_answer}
 use mathlib.Core.Path.{◌∙◌}
 use Rattle.saftvrqmie_dispersion_terms.proofs.Staged.{combine_held, combine_refused}
-use borrow.Author.Rules.{rules}
 use Rattle.saftvrqmie_dispersion_terms.proofs.combine_sutherland_and_b.Goals as goal
 
 pub returns-in_default : goal.returns-in_default

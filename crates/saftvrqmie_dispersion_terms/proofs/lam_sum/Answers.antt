@@ -3,7 +3,6 @@ use mathlib.Core.Path.{refl}
 use lib.Ieee.{of_bits}
 use Rattle.number.specs.Arith.{decimal}
 use Rattle.saftvrqmie_dispersion_terms.specs.Terms.{lam_sum}
-use borrow.Author.Rules.{rules}
 use Rattle.saftvrqmie_dispersion_terms.proofs.lam_sum.Goals as goal
 
 pub returns : goal.returns

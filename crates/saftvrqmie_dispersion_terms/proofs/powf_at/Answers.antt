@@ -1,8 +1,6 @@
 -- `saftvrqmie_dispersion_terms::powf_at` meets its contract. Assumes nothing.
-use Rattle.number.specs.Ans.{◌>>=◌, demand}
+use Rattle.number.specs.Ans.{demand}
 use Rattle.number.proofs.Walk.{told}
-use borrow.Author.Tests.{not-true, not-false}
-use borrow.Author.Rules.{rules}
 use Rattle.saftvrqmie_dispersion_terms.proofs.powf_at.Goals as goal
 
 pub returns-then-not-exponent_inside : goal.returns-then-not-exponent_inside

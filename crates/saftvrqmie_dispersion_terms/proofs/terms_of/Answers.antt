@@ -1,9 +1,7 @@
 -- `saftvrqmie_dispersion_terms::terms_of` meets its contract. Assumes nothing.
-use Rattle.number.specs.Ans.{◌>>=◌, demand}
+use Rattle.number.specs.Ans.{demand}
 use Rattle.number.proofs.Walk.{told}
 use Rattle.saftvrqmie_dispersion_terms.specs.Staged.{pair_terms_of}
-use borrow.Author.Tests.{not-true, not-false}
-use borrow.Author.Rules.{rules}
 use Rattle.saftvrqmie_dispersion_terms.proofs.terms_of.Goals as goal
 
 pub returns-then-not-base_inside : goal.returns-then-not-base_inside

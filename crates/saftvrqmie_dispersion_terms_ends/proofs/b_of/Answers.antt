@@ -2,7 +2,6 @@
 use Rattle.saftvrqmie_dispersion_terms.specs.Terms.{b_of}
 use Rattle.number.specs.Arith.{decimal}
 use lib.Ieee.{of_bits, neg}
-use borrow.Author.Rules.{rules}
 use Rattle.saftvrqmie_dispersion_terms_ends.proofs.b_of.Goals as goal
 
 pub returns : goal.returns

@@ -3,12 +3,10 @@ use lib.Ieee.{of_bits, neg}
 use Rattle.number.specs.Arith.{decimal}
 use Rattle.saftvrqmie_dispersion_terms.specs.Terms.{sutherland, ilambda, jlambda, b, combine}
 use Rattle.saftvrqmie_dispersion_terms_ends.specs.Shared.{combine_at}
-use Rattle.number.specs.Ans.{◌>>=◌}
 use Rattle.number.proofs.Walk.{via}
 use Rattle.enclosure.specs.Answer.{answer}
 use mathlib.Core.Path.{◌∙◌}
 use Rattle.saftvrqmie_dispersion_terms_ends.proofs.Shared.{sutherland_is, ilambda_is, jlambda_is}
-use borrow.Author.Rules.{rules}
 use Rattle.saftvrqmie_dispersion_terms_ends.proofs.combine_at.Goals as goal
 
 pub returns-in_default : goal.returns-in_default

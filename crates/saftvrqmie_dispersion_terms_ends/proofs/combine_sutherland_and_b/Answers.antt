@@ -2,7 +2,6 @@
 use mathlib.Core.Path.{ap, ◌∙◌}
 use Rattle.number.specs.Ans.{Ans}
 use Rattle.enclosure.specs.declared.Enclosure.{Enclosure}
-use borrow.Author.Rules.{rules}
 use Rattle.saftvrqmie_dispersion_terms_ends.proofs.combine_sutherland_and_b.Goals as goal
 
 pub returns : goal.returns

@@ -3,7 +3,6 @@ use lib.Ieee.{of_bits, neg}
 use Rattle.number.specs.Arith.{decimal}
 use Rattle.saftvrqmie_dispersion_terms.specs.Terms.{eta_eff}
 use Rattle.saftvrqmie_dispersion_terms_ends.proofs.Shared.{second_is, third_is}
-use borrow.Author.Rules.{rules}
 use Rattle.saftvrqmie_dispersion_terms_ends.proofs.eta_eff.Goals as goal
 
 pub returns : goal.returns

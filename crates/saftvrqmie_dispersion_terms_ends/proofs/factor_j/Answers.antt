@@ -2,7 +2,6 @@
 use Rattle.saftvrqmie_dispersion_terms.specs.Terms.{factor_j}
 use Rattle.number.specs.Arith.{decimal}
 use lib.Ieee.{of_bits, neg}
-use borrow.Author.Rules.{rules}
 use Rattle.saftvrqmie_dispersion_terms_ends.proofs.factor_j.Goals as goal
 
 pub returns : goal.returns

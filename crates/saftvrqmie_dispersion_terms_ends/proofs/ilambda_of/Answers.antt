@@ -2,7 +2,6 @@
 use lib.Ieee.{of_bits, neg}
 use Rattle.number.specs.Arith.{decimal}
 use Rattle.saftvrqmie_dispersion_terms_ends.specs.Shared.{ilambda_by}
-use borrow.Author.Rules.{rules}
 use Rattle.saftvrqmie_dispersion_terms_ends.proofs.ilambda_of.Goals as goal
 
 pub returns : goal.returns

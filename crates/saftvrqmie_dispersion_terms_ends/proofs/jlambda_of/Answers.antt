@@ -2,7 +2,6 @@
 use lib.Ieee.{of_bits, neg}
 use Rattle.number.specs.Arith.{decimal}
 use Rattle.saftvrqmie_dispersion_terms_ends.specs.Shared.{jlambda_by}
-use borrow.Author.Rules.{rules}
 use Rattle.saftvrqmie_dispersion_terms_ends.proofs.jlambda_of.Goals as goal
 
 pub returns : goal.returns

@@ -2,7 +2,6 @@
 use Rattle.saftvrqmie_dispersion_terms.specs.Terms.{lam_sum}
 use Rattle.number.specs.Arith.{decimal}
 use lib.Ieee.{of_bits, neg}
-use borrow.Author.Rules.{rules}
 use Rattle.saftvrqmie_dispersion_terms_ends.proofs.lam_sum_3.Goals as goal
 
 pub returns : goal.returns

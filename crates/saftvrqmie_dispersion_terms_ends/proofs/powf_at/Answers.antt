@@ -1,9 +1,8 @@
 -- `saftvrqmie_dispersion_terms_ends::powf_at` meets its contract. Assumes nothing.
-use Rattle.number.specs.Ans.{◌>>=◌, demand}
+use Rattle.number.specs.Ans.{demand}
 use Rattle.number.specs.Functions.{answered₂}
 use borrow.Author.Tests.{not-true, not-false}
 use Rattle.saftvrqmie_dispersion_terms_ends.specs.Shared.{powf_at}
-use borrow.Author.Rules.{rules}
 use Rattle.saftvrqmie_dispersion_terms_ends.proofs.powf_at.Goals as goal
 
 pub returns-then-not-b : goal.returns-then-not-b

@@ -2,7 +2,6 @@
 use mathlib.Core.Path.{fun_ext}
 use Rattle.saftvrqmie_dispersion_terms.specs.Terms.{combine_sutherland_and_b}
 use Rattle.saftvrqmie_dispersion_terms_ends.specs.Shared.{combine_at}
-use borrow.Author.Rules.{rules}
 use Rattle.saftvrqmie_dispersion_terms_ends.proofs.terms_of.Goals as goal
 
 pub returns : goal.returns

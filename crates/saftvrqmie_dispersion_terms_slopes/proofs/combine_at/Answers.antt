@@ -1,11 +1,9 @@
 -- `saftvrqmie_dispersion_terms_slopes::combine_at` meets its contract. Assumes nothing.
 use Rattle.number.proofs.Walk.{via}
-use Rattle.number.specs.Ans.{◌>>=◌}
 use Rattle.saftvrqmie_dispersion_terms_slopes.specs.Staged.{sloped_answer, combine_at}
 use lib.Ieee.{of_bits}
 use Rattle.number.specs.Arith.{decimal}
 use Rattle.saftvrqmie_dispersion_terms.specs.Terms.{sutherland, ilambda, jlambda, b, combine}
-use borrow.Author.Rules.{rules}
 use Rattle.saftvrqmie_dispersion_terms_slopes.proofs.combine_at.Goals as goal
 
 pub returns-in_default : goal.returns-in_default

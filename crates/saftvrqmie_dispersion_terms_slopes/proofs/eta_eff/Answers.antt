@@ -3,7 +3,6 @@ use lib.Ieee.{of_bits}
 use Rattle.number.specs.Arith.{decimal}
 use Rattle.number.specs.Power.{pow_up, pow_digits, digits}
 use Rattle.saftvrqmie_dispersion_terms.specs.Terms.{eta_eff, lam_sum}
-use borrow.Author.Rules.{rules}
 use Rattle.saftvrqmie_dispersion_terms_slopes.proofs.eta_eff.Goals as goal
 
 pub returns : goal.returns

@@ -2,7 +2,6 @@
 use lib.Ieee.{of_bits, neg}
 use Rattle.number.specs.Arith.{decimal}
 use Rattle.saftvrqmie_dispersion_terms.specs.Terms.{factor_i}
-use borrow.Author.Rules.{rules}
 use Rattle.saftvrqmie_dispersion_terms_slopes.proofs.factor_i.Goals as goal
 
 pub returns : goal.returns

@@ -1,9 +1,7 @@
 -- `saftvrqmie_dispersion_terms_slopes::powf_at` meets its contract. Assumes nothing.
-use borrow.Author.Tests.{not-true, not-false}
 use Rattle.number.proofs.Walk.{told}
-use Rattle.number.specs.Ans.{◌>>=◌, demand}
+use Rattle.number.specs.Ans.{demand}
 use Rattle.saftvrqmie_dispersion_terms_slopes.specs.Staged.{sloped_answer}
-use borrow.Author.Rules.{rules}
 use Rattle.saftvrqmie_dispersion_terms_slopes.proofs.powf_at.Goals as goal
 
 pub returns-then-not-exponent_inside : goal.returns-then-not-exponent_inside

@@ -1,10 +1,8 @@
 -- `saftvrqmie_dispersion_terms_slopes_one::combine_sutherland_and_b` meets its contract. Assumes nothing.
 use Rattle.number.proofs.Walk.{via}
-use Rattle.number.specs.Ans.{◌>>=◌}
 use Rattle.saftvrqmie_dispersion_terms_slopes_one.specs.Staged.{pair_slopes_answer, sloped_answer}
 use Rattle.saftvrqmie_dispersion_terms_slopes_one.proofs.Staged.{combine_held, combine_refused}
 use mathlib.Core.Path.{◌∙◌}
-use borrow.Author.Rules.{rules}
 use Rattle.saftvrqmie_dispersion_terms_slopes_one.proofs.combine_sutherland_and_b.Goals as goal
 
 pub returns-in_default : goal.returns-in_default

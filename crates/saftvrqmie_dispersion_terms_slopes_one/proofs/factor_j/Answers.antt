@@ -2,7 +2,6 @@
 use lib.Ieee.{of_bits, neg}
 use Rattle.number.specs.Arith.{decimal}
 use Rattle.saftvrqmie_dispersion_terms.specs.Terms.{factor_j}
-use borrow.Author.Rules.{rules}
 use Rattle.saftvrqmie_dispersion_terms_slopes_one.proofs.factor_j.Goals as goal
 
 pub returns : goal.returns

@@ -1,6 +1,5 @@
 -- `saftvrqmie_parameters::pair_parameters` meets its contract. Assumes nothing.
 use Rattle.saftvrqmie_parameters.specs.Parameters.{pair_parameters}
-use Rattle.number.specs.Ans.{◌>>=◌}
 use Rattle.number.specs.Answer.{answer}
 use Rattle.number.proofs.Walk.{via}
 use Rattle.saftvrqmie_parameters.proofs.pair_parameters.Goals as goal

@@ -2,7 +2,6 @@
 use Rattle.slopes.specs.Staged.{slope_exponent_of}
 use lib.Ieee.{of_bits}
 use Rattle.number.specs.Arith.{decimal}
-use borrow.Author.Rules.{rules}
 use Rattle.slopes.proofs.exponent.Goals as goal
 
 pub returns : goal.returns

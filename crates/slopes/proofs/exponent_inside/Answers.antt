@@ -2,7 +2,6 @@
 use Rattle.slopes.specs.Staged.{slope_inside}
 use lib.Ieee.{of_bits}
 use Rattle.number.specs.Arith.{decimal}
-use borrow.Author.Rules.{rules}
 use Rattle.slopes.proofs.exponent_inside.Goals as goal
 
 pub returns : goal.returns

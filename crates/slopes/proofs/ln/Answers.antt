@@ -1,12 +1,10 @@
 -- `slopes::ln` meets its contract. Assumes nothing.
 use Rattle.number.proofs.Walk.{via}
 use Rattle.number.specs.Answer.{answer}
-use Rattle.number.specs.Ans.{◌>>=◌}
 use Rattle.slopes.specs.Rules.{ln_d}
 use Rattle.dual.specs.Value.{dual_of}
 use lib.Ieee.{of_bits}
 use Rattle.number.specs.Arith.{decimal}
-use borrow.Author.Rules.{rules}
 use Rattle.slopes.proofs.ln.Goals as goal
 
 pub returns-in_default : goal.returns-in_default

@@ -1,10 +1,8 @@
 -- `slopes::powf` meets its contract. Assumes nothing.
-use borrow.Author.Tests.{not-true, not-false}
 use Rattle.number.proofs.Walk.{told}
 use mathlib.Core.Path.{◌∙◌, sym}
 use Rattle.slopes.proofs.Staged.{base_outside, power_tested, power_held}
 use Rattle.dual.specs.Value.{dual_of}
-use borrow.Author.Rules.{rules}
 use Rattle.slopes.proofs.powf.Goals as goal
 
 pub returns-then-not-base_inside : goal.returns-then-not-base_inside

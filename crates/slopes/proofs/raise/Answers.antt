@@ -1,7 +1,6 @@
 -- `slopes::raise` meets its contract. Assumes nothing.
 use Rattle.slopes.specs.Staged.{raised_of}
 use Rattle.dual.specs.Value.{dual_of}
-use borrow.Author.Rules.{rules}
 use Rattle.slopes.proofs.raise.Goals as goal
 
 pub returns : goal.returns

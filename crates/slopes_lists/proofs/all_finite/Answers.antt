@@ -1,11 +1,6 @@
 -- `slopes_lists::all_finite` meets its contract. Assumes nothing.
 use Rattle.slopes_lists.specs.Lists.{all_finite}
-use lib.Ieee.Scale.{finite}
 use Rattle.number.proofs.Walk.{every_none, every_next, every_end}
-use Prim.Native.Nat.{◌≤◌, ◌-◌}
-use mathlib.Core.Path.{◌≡◌}
-use Rattle.number.specs.Walk.{every}
-use Rattle.number.specs.Lists.{at}
 use borrow.Author.Rules.{rules}
 use Rattle.slopes_lists.proofs.all_finite.Goals as goal
 

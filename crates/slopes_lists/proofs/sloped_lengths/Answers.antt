@@ -1,6 +1,5 @@
 -- `slopes_lists::sloped_lengths` meets its contract. Assumes nothing.
 use Rattle.slopes_lists.specs.Lists.{sloped_lengths}
-use borrow.Author.Rules.{rules}
 use Rattle.slopes_lists.proofs.sloped_lengths.Goals as goal
 
 pub returns : goal.returns

@@ -1,7 +1,6 @@
 -- `slopes_lists::supplied_finite` meets its contract. Assumes nothing.
 use Rattle.dual.specs.Value.{dual_of}
 use Rattle.slopes_lists.specs.Lists.{supplied_finite}
-use borrow.Author.Rules.{rules}
 use Rattle.slopes_lists.proofs.supplied_finite.Goals as goal
 
 pub returns : goal.returns

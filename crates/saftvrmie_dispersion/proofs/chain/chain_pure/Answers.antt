@@ -3,7 +3,6 @@ use Rattle.dual.specs.Value.{dual_of}
 use Rattle.number.proofs.Walk.{via}
 use lib.Ieee.{of_bits}
 use Rattle.number.specs.Arith.{decimal}
-use Rattle.number.specs.Ans.{◌>>=◌}
 use Rattle.number.specs.Answer.{answer}
 use Rattle.saftvrmie_dispersion.specs.Answer.{orders_dual_answer}
 use Rattle.saftvrmie_dispersion.specs.Chain.{chain_pure}

@@ -3,7 +3,6 @@ use Rattle.number.proofs.Walk.{via}
 use Rattle.number.specs.Functions.{answered}
 use lib.Ieee.{of_bits}
 use Rattle.number.specs.Arith.{decimal}
-use Rattle.number.specs.Ans.{◌>>=◌}
 use Rattle.number.specs.Answer.{answer}
 use Rattle.saftvrmie_dispersion.specs.Chain.{k_of}
 use Rattle.saftvrmie_dispersion.proofs.chain.k_values.Goals as goal

@@ -2,7 +2,6 @@
 use Rattle.number.proofs.Walk.{via}
 use lib.Ieee.{of_bits}
 use Rattle.number.specs.Arith.{decimal}
-use Rattle.number.specs.Ans.{◌>>=◌}
 use Rattle.number.specs.Answer.{answer}
 use Rattle.saftvrmie_dispersion.specs.Chain.{link_of}
 use Rattle.saftvrmie_dispersion.proofs.chain.link_term.Goals as goal

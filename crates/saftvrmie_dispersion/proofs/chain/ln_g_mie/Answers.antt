@@ -1,7 +1,6 @@
 -- `saftvrmie_dispersion::chain::ln_g_mie` meets its contract. Assumes nothing.
 use Rattle.number.proofs.Walk.{via}
 use Rattle.number.specs.Functions.{answered}
-use Rattle.number.specs.Ans.{◌>>=◌}
 use Rattle.number.specs.Answer.{answer}
 use Rattle.saftvrmie_dispersion.specs.Chain.{ln_g_mie}
 use Rattle.saftvrmie_dispersion.proofs.chain.ln_g_mie.Goals as goal

@@ -2,7 +2,6 @@
 use Rattle.saftvrmie_dispersion.proofs.Staged.{five_tested_is, five_outside}
 use Rattle.number.proofs.Walk.{via, told}
 use Rattle.number.specs.Arith.{floats}
-use Rattle.number.specs.Ans.{◌>>=◌}
 use Rattle.number.specs.Answer.{answer}
 use Rattle.saftvrmie_dispersion.specs.Answer.{five_answer}
 use Rattle.saftvrmie_dispersion.specs.Terms.{term_orders_of, terms_of}

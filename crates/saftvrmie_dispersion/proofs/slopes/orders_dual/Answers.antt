@@ -3,7 +3,6 @@ use Rattle.saftvrmie_dispersion.proofs.Staged.{five_held, five_refused, five_out
 use Rattle.dual.specs.Dual.{duals, plain_d}
 use Rattle.number.proofs.Walk.{told}
 use Rattle.number.specs.Arith.{floats}
-use Rattle.number.specs.Ans.{◌>>=◌}
 use Rattle.saftvrmie_dispersion.specs.Terms.{term_orders_of}
 use Rattle.saftvrmie_dispersion.proofs.slopes.orders_dual.Goals as goal
 

@@ -1,0 +1,58 @@
+-- `saftvrmie_diameter_ends::rule::position_below` meets its contract: each arm is the list's entry, the default arm that beyond it. Assumes nothing.
+use mathlib.Core.Path.{ap}
+use lib.Ieee.{of_bits, to_bits, neg}
+use Rattle.number.specs.Arith.{decimal}
+use Rattle.number.specs.Neighbour.{step_up, step_down, next_up, next_down}
+use Rattle.fixed_point.proofs.Arms.{above}
+use Rattle.number.specs.Functions.{entry, calls}
+use Rattle.number.proofs.Entries.{entry_at, entry_beyond}
+use Rattle.elementary.specs.Port.{port}
+use Rattle.enclosure.specs.Constants as Constants
+use Rattle.enclosure.specs.Enclosure.{enclosures, constant_e}
+use Rattle.saftvrmie_diameter.specs.Diameter.{positions}
+use Rattle.enclosure.proofs.Entries.{lower_of}
+use Rattle.saftvrmie_diameter_ends.proofs.rule.position_below.Goals as goal
+
+pub returns-in-0 : goal.returns-in-0
+unfolding entry constant_e Constants.below next_up next_down step_up step_down to_bits decimal of_bits neg
+returns-in-0 c = ap lower_of (entry_at (calls enclosures port) positions _ 0 c.in-0.is)
+
+pub returns-in-1 : goal.returns-in-1
+unfolding entry constant_e Constants.below next_up next_down step_up step_down to_bits decimal of_bits neg
+returns-in-1 c = ap lower_of (entry_at (calls enclosures port) positions _ 1 c.in-1.is)
+
+pub returns-in-2 : goal.returns-in-2
+unfolding entry constant_e Constants.below next_up next_down step_up step_down to_bits decimal of_bits neg
+returns-in-2 c = ap lower_of (entry_at (calls enclosures port) positions _ 2 c.in-2.is)
+
+pub returns-in-3 : goal.returns-in-3
+unfolding entry constant_e Constants.below next_up next_down step_up step_down to_bits decimal of_bits neg
+returns-in-3 c = ap lower_of (entry_at (calls enclosures port) positions _ 3 c.in-3.is)
+
+pub returns-in-4 : goal.returns-in-4
+unfolding entry constant_e Constants.below next_up next_down step_up step_down to_bits decimal of_bits neg
+returns-in-4 c = ap lower_of (entry_at (calls enclosures port) positions _ 4 c.in-4.is)
+
+pub returns-in-5 : goal.returns-in-5
+unfolding entry constant_e Constants.below next_up next_down step_up step_down to_bits decimal of_bits neg
+returns-in-5 c = ap lower_of (entry_at (calls enclosures port) positions _ 5 c.in-5.is)
+
+pub returns-in-6 : goal.returns-in-6
+unfolding entry constant_e Constants.below next_up next_down step_up step_down to_bits decimal of_bits neg
+returns-in-6 c = ap lower_of (entry_at (calls enclosures port) positions _ 6 c.in-6.is)
+
+pub returns-in-7 : goal.returns-in-7
+unfolding entry constant_e Constants.below next_up next_down step_up step_down to_bits decimal of_bits neg
+returns-in-7 c = ap lower_of (entry_at (calls enclosures port) positions _ 7 c.in-7.is)
+
+pub returns-in-8 : goal.returns-in-8
+unfolding entry constant_e Constants.below next_up next_down step_up step_down to_bits decimal of_bits neg
+returns-in-8 c = ap lower_of (entry_at (calls enclosures port) positions _ 8 c.in-8.is)
+
+pub returns-in-9 : goal.returns-in-9
+unfolding entry constant_e Constants.below next_up next_down step_up step_down to_bits decimal of_bits neg
+returns-in-9 c = ap lower_of (entry_at (calls enclosures port) positions _ 9 c.in-9.is)
+
+pub returns-in_default : goal.returns-in_default
+unfolding entry constant_e Constants.below next_up next_down step_up step_down to_bits decimal of_bits neg
+returns-in_default c = ap lower_of (entry_beyond (calls enclosures port) positions _ (above _ 10 c.in_default.in_default-own.rest))

@@ -1,0 +1,32 @@
+-- `saftvrmie_dispersion_ends::a3` meets its contract. Assumes nothing.
+use Rattle.saftvrmie_dispersion_ends.specs.Shared.{a3_by}
+use Rattle.number.proofs.Walk.{via}
+use Rattle.enclosure.specs.Answer.{answer}
+use lib.Ieee.{of_bits, neg}
+use Rattle.number.specs.Arith.{decimal}
+use Rattle.saftvrmie_dispersion_ends.proofs.a3.Goals as goal
+
+pub returns-in_default : goal.returns-in_default
+unfolding a3_by ◌>>=◌ decimal of_bits neg
+returns-in_default c =
+    rw (
+      ← c.mul.ensures,
+      ← c.add-u.ensures,
+      ← c.mul-2.ensures,
+      via answer c.exp.ensures c.in_default.is,
+    )
+
+pub returns : goal.returns
+unfolding a3_by ◌>>=◌ decimal of_bits neg
+returns c =
+    rw (
+      ← c.mul.ensures,
+      ← c.add-u.ensures,
+      ← c.mul-2.ensures,
+      via answer c.exp.ensures c.in-Value.is,
+      ← c.neg.ensures,
+      ← c.mul-3.ensures,
+      ← c.mul-a.ensures,
+      ← c.pow_up.ensures,
+      ← c.mul-4.ensures,
+    )

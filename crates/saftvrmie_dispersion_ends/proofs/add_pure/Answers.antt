@@ -1,0 +1,21 @@
+-- `saftvrmie_dispersion_ends::add_pure` meets its contract. Assumes nothing.
+use Rattle.saftvrmie_dispersion.specs.Terms.{add_pure}
+use Rattle.number.specs.Arith.{decimal}
+use lib.Ieee.{of_bits, neg}
+use Rattle.saftvrmie_dispersion_ends.proofs.add_pure.Goals as goal
+
+pub returns : goal.returns
+unfolding add_pure decimal of_bits neg
+returns c =
+    rw (
+      c.add-4.ensures,
+      c.mul-3.ensures,
+      c.add-3.ensures,
+      c.add-2.ensures,
+      c.mul-2.ensures,
+      c.mul-corrected.ensures,
+      c.add.ensures,
+      c.mul.ensures,
+      c.mul-xs_ii2.ensures,
+      c.point-one.ensures,
+    )

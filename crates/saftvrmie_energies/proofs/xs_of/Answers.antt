@@ -1,0 +1,17 @@
+-- `saftvrmie_energies::xs_of` meets its contract. Assumes nothing.
+use borrow.Author.Rules.{rules}
+use mathlib.Core.Path.{refl}
+use Rattle.number.proofs.Walk.{turns_none, turns_next, turns_end}
+use Rattle.mie_parameters.specs.Places.{in_places}
+use Rattle.saftvrmie_energies.specs.Properties.{xs_of}
+use Rattle.saftvrmie_energies.proofs.xs_of.Goals as goal
+
+pub loop-i-init : goal.loop-i-init
+loop-i-init c = (search rules, turns_none _ _)
+
+pub loop-i-preserved : goal.loop-i-preserved
+loop-i-preserved c = (search rules, turns_next _ _ _ _ _ c.loop-i.invariant.1 (refl))
+
+pub returns : goal.returns
+unfolding xs_of in_places
+returns c = turns_end _ _ _ _ _ c.loop-i.invariant.0 c.loop-i-test.false c.loop-i.invariant.1
