@@ -1,5 +1,6 @@
 -- `bit_fields::field` meets its contract. Assumes nothing.
 use native.Mathlib.Omega.{arith}
+use mathlib.Core.Path.{◌≡◌}
 use Rattle.bit_fields.proofs.field.Goals as goal
 
 pub returns-then-width-eq64 : goal.returns-then-width-eq64

@@ -1,7 +1,7 @@
 -- `bit_fields::narrow` meets its contract. Assumes nothing.
 use Prim.Native.Nat.{◌+◌, ◌<◌}
 use native.Mathlib.Omega.{arith}
-use mathlib.Core.Path.{refl}
+use mathlib.Core.Path.{refl, ◌≡◌}
 use Rattle.bit_fields.specs.Bits.{numeral, bits_of}
 use Rattle.bit_fields.proofs.Bytes.{bit_below, narrow_next, narrow_fits}
 use borrow.Author.Rules.{rules}

@@ -1,7 +1,7 @@
 -- `bit_fields::word` meets its contract. Assumes nothing.
 use Prim.Native.Nat.{◌+◌}
 use native.Mathlib.Omega.{arith}
-use mathlib.Core.Path.{refl}
+use mathlib.Core.Path.{refl, ◌≡◌}
 use Rattle.bit_fields.specs.Bits.{numeral}
 use Rattle.bit_fields.proofs.Bytes.{word_next, word_fits}
 use borrow.Author.Rules.{rules}

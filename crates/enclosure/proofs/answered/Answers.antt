@@ -1,5 +1,6 @@
 -- `enclosure::answered` meets its contract. Assumes nothing.
 use Rattle.number.specs.Functions.{answered}
+use Rattle.number.specs.Ans.{◌>>=◌}
 use Rattle.enclosure.proofs.answered.Goals as goal
 
 pub returns-in_default : goal.returns-in_default

@@ -1,5 +1,6 @@
 -- `enclosure::answered_two` meets its contract. Assumes nothing.
 use Rattle.number.specs.Functions.{answered₂}
+use Rattle.number.specs.Ans.{◌>>=◌}
 use Rattle.enclosure.proofs.answered_two.Goals as goal
 
 pub returns-in_default : goal.returns-in_default

@@ -5,6 +5,7 @@ use Rattle.number.specs.Arith.{decimal}
 use Rattle.number.specs.Answer.{answer}
 use Rattle.number.specs.Functions.{answered₂}
 use Rattle.number.proofs.Walk.{via}
+use Rattle.number.specs.Ans.{◌>>=◌}
 use Rattle.mie_parameters.proofs.c_ij.Goals as goal
 
 pub returns-in_default : goal.returns-in_default

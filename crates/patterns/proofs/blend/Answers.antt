@@ -3,6 +3,7 @@ use Rattle.patterns.specs.Formulas.{blend}
 use Rattle.number.proofs.Walk.{via}
 use Rattle.number.specs.Functions.{answered}
 use Rattle.number.specs.Answer.{answer}
+use Rattle.number.specs.Ans.{◌>>=◌}
 use Rattle.patterns.proofs.blend.Goals as goal
 
 pub returns-in_default : goal.returns-in_default

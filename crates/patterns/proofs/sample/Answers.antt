@@ -2,6 +2,7 @@
 use Rattle.patterns.specs.Formulas.{sample}
 use Rattle.number.proofs.Walk.{via}
 use Rattle.number.specs.Answer.{answer}
+use Rattle.number.specs.Ans.{◌>>=◌}
 use Rattle.patterns.proofs.sample.Goals as goal
 
 pub returns-in_default : goal.returns-in_default

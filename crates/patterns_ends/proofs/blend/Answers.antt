@@ -4,7 +4,7 @@ use Rattle.enclosure.specs.Enclosure.{enclosures}
 use Rattle.enclosure.specs.Answer.{answer}
 use Rattle.number.proofs.Walk.{via}
 use Rattle.number.specs.Functions.{answered}
-use Rattle.number.specs.Ans.{Ans}
+use Rattle.number.specs.Ans.{Ans, ◌>>=◌}
 use mathlib.Core.Path.{ap, ◌∙◌}
 use lib.Ieee.{Float}
 use Rattle.patterns_ends.proofs.blend.Goals as goal

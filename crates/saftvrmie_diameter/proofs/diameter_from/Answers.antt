@@ -4,6 +4,7 @@ use Rattle.saftvrmie_diameter.proofs.Staged.{node_turn_is, from_refused}
 use Rattle.number.specs.Answer.{answer}
 use Rattle.number.proofs.Walk.{via, told, walk_none, walk_next, walk_stop, walk_end}
 use borrow.Author.Rules.{rules}
+use Rattle.number.specs.Ans.{◌>>=◌}
 use Rattle.saftvrmie_diameter.proofs.diameter_from.Goals as goal
 
 pub returns-then-not-exponents_inside : goal.returns-then-not-exponents_inside

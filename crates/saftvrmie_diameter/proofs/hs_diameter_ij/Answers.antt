@@ -2,6 +2,7 @@
 use Rattle.saftvrmie_diameter.specs.Diameter.{hs_diameter}
 use Rattle.number.specs.Answer.{answer}
 use Rattle.number.proofs.Walk.{via}
+use Rattle.number.specs.Ans.{◌>>=◌}
 use Rattle.saftvrmie_diameter.proofs.hs_diameter_ij.Goals as goal
 
 pub returns-in_default : goal.returns-in_default

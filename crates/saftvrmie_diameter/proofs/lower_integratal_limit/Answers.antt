@@ -6,6 +6,7 @@ use Rattle.number.specs.Answer.{answer}
 use Rattle.number.specs.Functions.{answered}
 use Rattle.number.proofs.Walk.{via, told}
 use Rattle.saftvrmie_diameter.proofs.Staged.{ln_epsilon, halley_refused}
+use Rattle.number.specs.Ans.{◌>>=◌}
 use Rattle.saftvrmie_diameter.proofs.lower_integratal_limit.Goals as goal
 
 pub returns-in_default : goal.returns-in_default

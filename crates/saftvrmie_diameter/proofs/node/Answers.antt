@@ -2,7 +2,7 @@
 use lib.Ieee.{of_bits}
 use Rattle.number.specs.Arith.{decimal}
 use Rattle.saftvrmie_diameter.specs.Staged.{node_at}
-use Rattle.number.specs.Ans.{demand}
+use Rattle.number.specs.Ans.{demand, ◌>>=◌}
 use Rattle.number.specs.Answer.{answer}
 use Rattle.number.proofs.Walk.{told, via}
 use Rattle.saftvrmie_diameter.proofs.node.Goals as goal

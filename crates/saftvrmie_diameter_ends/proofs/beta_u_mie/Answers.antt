@@ -4,6 +4,7 @@ use Rattle.enclosure.specs.Answer.{answer}
 use Rattle.number.proofs.Walk.{via}
 use Rattle.number.specs.Arith.{decimal}
 use lib.Ieee.{of_bits, neg}
+use Rattle.number.specs.Ans.{◌>>=◌}
 use Rattle.saftvrmie_diameter_ends.proofs.beta_u_mie.Goals as goal
 
 pub returns-in_default : goal.returns-in_default

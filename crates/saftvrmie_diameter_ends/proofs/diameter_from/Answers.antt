@@ -3,6 +3,7 @@ use Rattle.saftvrmie_diameter.specs.Diameter.{diameter_from}
 use Rattle.enclosure.specs.Answer.{answer}
 use Rattle.number.proofs.Walk.{via, walk_none, walk_next, walk_stop, walk_end}
 use borrow.Author.Rules.{rules}
+use Rattle.number.specs.Ans.{◌>>=◌}
 use Rattle.saftvrmie_diameter_ends.proofs.diameter_from.Goals as goal
 
 pub loop-k-init : goal.loop-k-init

@@ -6,6 +6,7 @@ use Rattle.enclosure.specs.Answer.{answer}
 use lib.Ieee.{of_bits, neg}
 use Rattle.enclosure.specs.Enclosure.{enclosures}
 use Rattle.number.specs.Arith.{decimal}
+use Rattle.number.specs.Ans.{◌>>=◌}
 use Rattle.saftvrmie_dispersion_ends.proofs.a1s_b_ij.Goals as goal
 
 pub returns-in_default : goal.returns-in_default

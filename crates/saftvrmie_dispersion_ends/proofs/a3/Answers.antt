@@ -4,6 +4,7 @@ use Rattle.number.proofs.Walk.{via}
 use Rattle.enclosure.specs.Answer.{answer}
 use lib.Ieee.{of_bits, neg}
 use Rattle.number.specs.Arith.{decimal}
+use Rattle.number.specs.Ans.{◌>>=◌}
 use Rattle.saftvrmie_dispersion_ends.proofs.a3.Goals as goal
 
 pub returns-in_default : goal.returns-in_default

@@ -4,6 +4,7 @@ use Rattle.saftvrmie_dispersion_ends.specs.Answer.{five_answer}
 use Rattle.saftvrmie_dispersion.specs.Terms.{term_orders_of, terms_of}
 use Rattle.number.proofs.Walk.{via}
 use Rattle.enclosure.specs.Answer.{answer}
+use Rattle.number.specs.Ans.{◌>>=◌}
 use Rattle.saftvrmie_dispersion_ends.proofs.pair_terms.Goals as goal
 
 pub returns-in_default : goal.returns-in_default

@@ -1,6 +1,6 @@
 -- `saftvrmie_dispersion_ends::power_of` meets its contract. Assumes nothing.
 use Rattle.number.proofs.Walk.{told}
-use Rattle.number.specs.Ans.{demand}
+use Rattle.number.specs.Ans.{demand, ◌>>=◌}
 use Rattle.number.specs.Functions.{answered₂}
 use Rattle.saftvrmie_dispersion_ends.specs.Shared.{power_at}
 use Rattle.saftvrmie_dispersion_ends.proofs.power_of.Goals as goal

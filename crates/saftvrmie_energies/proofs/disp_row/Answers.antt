@@ -2,6 +2,7 @@
 use Rattle.number.proofs.Walk.{via}
 use Rattle.saftvrmie_dispersion.specs.Answer.{terms_answer}
 use Rattle.saftvrmie_energies.specs.Dispersion.{disp_row}
+use Rattle.number.specs.Ans.{◌>>=◌}
 use Rattle.saftvrmie_energies.proofs.disp_row.Goals as goal
 
 pub returns-in_default : goal.returns-in_default

@@ -5,6 +5,7 @@ use Rattle.number.proofs.Walk.{via}
 use Rattle.saftvrmie_dispersion.specs.Answer.{sums_answer}
 use Rattle.saftvrmie_energies.proofs.Laws.{properties_held, properties_refused, k_some, k_none}
 use Rattle.saftvrmie_energies.specs.Dispersion.{dispersion}
+use Rattle.number.specs.Ans.{◌>>=◌}
 use Rattle.saftvrmie_energies.proofs.helmholtz_energy_density_disp.Goals as goal
 
 pub returns-then-not-k_inside : goal.returns-then-not-k_inside

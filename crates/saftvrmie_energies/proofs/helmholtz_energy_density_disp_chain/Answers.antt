@@ -6,6 +6,7 @@ use Rattle.number.proofs.Walk.{via}
 use Rattle.saftvrmie_dispersion.specs.Answer.{sums_answer, k_answer}
 use Rattle.saftvrmie_energies.proofs.Laws.{properties_held, properties_refused}
 use Rattle.saftvrmie_energies.specs.Dispersion.{dispersion_chain}
+use Rattle.number.specs.Ans.{◌>>=◌}
 use Rattle.saftvrmie_energies.proofs.helmholtz_energy_density_disp_chain.Goals as goal
 
 pub returns-in_default : goal.returns-in_default

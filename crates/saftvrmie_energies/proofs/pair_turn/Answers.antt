@@ -3,6 +3,7 @@ use Rattle.number.proofs.Walk.{via}
 use Rattle.number.specs.Lists.{at}
 use Rattle.saftvrmie_dispersion.specs.Answer.{terms_answer}
 use Rattle.saftvrmie_energies.specs.Dispersion.{pair_turn}
+use Rattle.number.specs.Ans.{◌>>=◌}
 use Rattle.saftvrmie_energies.proofs.pair_turn.Goals as goal
 
 pub returns-in_default : goal.returns-in_default

@@ -5,6 +5,7 @@ use Rattle.saftvrqmie_dispersion_terms.specs.Staged.{combine_at}
 use lib.Ieee.{of_bits}
 use Rattle.number.specs.Arith.{decimal}
 use Rattle.saftvrqmie_dispersion_terms.specs.Terms.{sutherland, ilambda, jlambda, b, combine}
+use Rattle.number.specs.Ans.{◌>>=◌}
 use Rattle.saftvrqmie_dispersion_terms.proofs.combine_at.Goals as goal
 
 pub returns-in_default : goal.returns-in_default

@@ -1,5 +1,5 @@
 -- `saftvrqmie_dispersion_terms::powf_at` meets its contract. Assumes nothing.
-use Rattle.number.specs.Ans.{demand}
+use Rattle.number.specs.Ans.{demand, ◌>>=◌}
 use Rattle.number.proofs.Walk.{told}
 use Rattle.saftvrqmie_dispersion_terms.proofs.powf_at.Goals as goal
 

@@ -1,5 +1,5 @@
 -- `saftvrqmie_dispersion_terms::terms_of` meets its contract. Assumes nothing.
-use Rattle.number.specs.Ans.{demand}
+use Rattle.number.specs.Ans.{demand, ◌>>=◌}
 use Rattle.number.proofs.Walk.{told}
 use Rattle.saftvrqmie_dispersion_terms.specs.Staged.{pair_terms_of}
 use Rattle.saftvrqmie_dispersion_terms.proofs.terms_of.Goals as goal

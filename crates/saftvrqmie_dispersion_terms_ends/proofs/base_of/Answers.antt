@@ -1,6 +1,6 @@
 -- `saftvrqmie_dispersion_terms_ends::base_of` meets its contract. Assumes nothing.
 use mathlib.Core.Path.{fun_ext}
-use Rattle.number.specs.Ans.{demand}
+use Rattle.number.specs.Ans.{demand, ◌>>=◌}
 use Rattle.power.specs.Power.{powf_of}
 use Rattle.saftvrqmie_dispersion_terms_ends.specs.Shared.{powf_at}
 use Rattle.saftvrqmie_dispersion_terms_ends.proofs.base_of.Goals as goal

@@ -7,6 +7,7 @@ use Rattle.number.proofs.Walk.{via}
 use Rattle.enclosure.specs.Answer.{answer}
 use mathlib.Core.Path.{◌∙◌}
 use Rattle.saftvrqmie_dispersion_terms_ends.proofs.Shared.{sutherland_is, ilambda_is, jlambda_is}
+use Rattle.number.specs.Ans.{◌>>=◌}
 use Rattle.saftvrqmie_dispersion_terms_ends.proofs.combine_at.Goals as goal
 
 pub returns-in_default : goal.returns-in_default

@@ -1,5 +1,5 @@
 -- `saftvrqmie_dispersion_terms_ends::powf_at` meets its contract. Assumes nothing.
-use Rattle.number.specs.Ans.{demand}
+use Rattle.number.specs.Ans.{demand, ◌>>=◌}
 use Rattle.number.specs.Functions.{answered₂}
 use borrow.Author.Tests.{not-true, not-false}
 use Rattle.saftvrqmie_dispersion_terms_ends.specs.Shared.{powf_at}

@@ -4,6 +4,7 @@ use Rattle.saftvrqmie_dispersion_terms_slopes.specs.Staged.{sloped_answer, combi
 use lib.Ieee.{of_bits}
 use Rattle.number.specs.Arith.{decimal}
 use Rattle.saftvrqmie_dispersion_terms.specs.Terms.{sutherland, ilambda, jlambda, b, combine}
+use Rattle.number.specs.Ans.{◌>>=◌}
 use Rattle.saftvrqmie_dispersion_terms_slopes.proofs.combine_at.Goals as goal
 
 pub returns-in_default : goal.returns-in_default

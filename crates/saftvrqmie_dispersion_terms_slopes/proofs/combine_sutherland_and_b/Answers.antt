@@ -3,6 +3,7 @@ use Rattle.number.proofs.Walk.{via}
 use Rattle.saftvrqmie_dispersion_terms_slopes.specs.Staged.{pair_slopes_answer, sloped_answer}
 use Rattle.saftvrqmie_dispersion_terms_slopes.proofs.Staged.{combine_held, combine_refused}
 use mathlib.Core.Path.{◌∙◌}
+use Rattle.number.specs.Ans.{◌>>=◌}
 use Rattle.saftvrqmie_dispersion_terms_slopes.proofs.combine_sutherland_and_b.Goals as goal
 
 pub returns-in_default : goal.returns-in_default

@@ -1,6 +1,6 @@
 -- `saftvrqmie_dispersion_terms_slopes::powf_at` meets its contract. Assumes nothing.
 use Rattle.number.proofs.Walk.{told}
-use Rattle.number.specs.Ans.{demand}
+use Rattle.number.specs.Ans.{demand, ◌>>=◌}
 use Rattle.saftvrqmie_dispersion_terms_slopes.specs.Staged.{sloped_answer}
 use Rattle.saftvrqmie_dispersion_terms_slopes.proofs.powf_at.Goals as goal
 

@@ -1,6 +1,6 @@
 -- `saftvrqmie_dispersion_terms_slopes_one::terms_of` meets its contract. Assumes nothing.
 use Rattle.number.proofs.Walk.{told}
-use Rattle.number.specs.Ans.{demand}
+use Rattle.number.specs.Ans.{demand, ◌>>=◌}
 use Rattle.saftvrqmie_dispersion_terms_slopes_one.specs.Staged.{pair_slopes_of}
 use Rattle.saftvrqmie_dispersion_terms_slopes_one.proofs.Staged.{struct_is}
 use Rattle.saftvrqmie_dispersion_terms_slopes_one.proofs.terms_of.Goals as goal

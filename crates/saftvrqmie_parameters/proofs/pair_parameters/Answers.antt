@@ -2,6 +2,7 @@
 use Rattle.saftvrqmie_parameters.specs.Parameters.{pair_parameters}
 use Rattle.number.specs.Answer.{answer}
 use Rattle.number.proofs.Walk.{via}
+use Rattle.number.specs.Ans.{◌>>=◌}
 use Rattle.saftvrqmie_parameters.proofs.pair_parameters.Goals as goal
 
 pub returns-in_default : goal.returns-in_default

@@ -5,6 +5,7 @@ use Rattle.slopes.specs.Rules.{ln_d}
 use Rattle.dual.specs.Value.{dual_of}
 use lib.Ieee.{of_bits}
 use Rattle.number.specs.Arith.{decimal}
+use Rattle.number.specs.Ans.{◌>>=◌}
 use Rattle.slopes.proofs.ln.Goals as goal
 
 pub returns-in_default : goal.returns-in_default

@@ -6,6 +6,7 @@ use Rattle.number.specs.Arith.{decimal}
 use Rattle.number.specs.Answer.{answer}
 use Rattle.saftvrmie_dispersion.specs.Answer.{orders_dual_answer}
 use Rattle.saftvrmie_dispersion.specs.Chain.{chain_pure}
+use Rattle.number.specs.Ans.{◌>>=◌}
 use Rattle.saftvrmie_dispersion.proofs.chain.chain_pure.Goals as goal
 
 pub returns-in_default : goal.returns-in_default

@@ -4,6 +4,7 @@ use lib.Ieee.{of_bits}
 use Rattle.number.specs.Arith.{decimal}
 use Rattle.number.specs.Answer.{answer}
 use Rattle.saftvrmie_dispersion.specs.Chain.{link_of}
+use Rattle.number.specs.Ans.{◌>>=◌}
 use Rattle.saftvrmie_dispersion.proofs.chain.link_term.Goals as goal
 
 pub returns-in_default : goal.returns-in_default

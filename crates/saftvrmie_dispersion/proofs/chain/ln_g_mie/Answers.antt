@@ -3,6 +3,7 @@ use Rattle.number.proofs.Walk.{via}
 use Rattle.number.specs.Functions.{answered}
 use Rattle.number.specs.Answer.{answer}
 use Rattle.saftvrmie_dispersion.specs.Chain.{ln_g_mie}
+use Rattle.number.specs.Ans.{◌>>=◌}
 use Rattle.saftvrmie_dispersion.proofs.chain.ln_g_mie.Goals as goal
 
 pub returns-in_default : goal.returns-in_default

@@ -5,6 +5,7 @@ use Rattle.number.specs.Arith.{floats}
 use Rattle.number.specs.Answer.{answer}
 use Rattle.saftvrmie_dispersion.specs.Answer.{five_answer}
 use Rattle.saftvrmie_dispersion.specs.Terms.{term_orders_of, terms_of}
+use Rattle.number.specs.Ans.{◌>>=◌}
 use Rattle.saftvrmie_dispersion.proofs.orders.pair_terms.Goals as goal
 
 pub returns-then-not-base_inside : goal.returns-then-not-base_inside

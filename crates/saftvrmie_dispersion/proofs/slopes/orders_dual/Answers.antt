@@ -4,6 +4,7 @@ use Rattle.dual.specs.Dual.{duals, plain_d}
 use Rattle.number.proofs.Walk.{told}
 use Rattle.number.specs.Arith.{floats}
 use Rattle.saftvrmie_dispersion.specs.Terms.{term_orders_of}
+use Rattle.number.specs.Ans.{◌>>=◌}
 use Rattle.saftvrmie_dispersion.proofs.slopes.orders_dual.Goals as goal
 
 pub returns-then-not-base_inside : goal.returns-then-not-base_inside
