@@ -4,12 +4,8 @@ use lib.Ieee.{of_bits}
 use Rattle.number.specs.Arith.{decimal}
 use Rattle.saftvrqmie_potential.proofs.Prefactor.{prefactor_float}
 use Rattle.elementary.specs.Port.{port}
-use Rattle.saftvrqmie_potential.proofs.quantum_d.Statement.{statement}
-use Rattle.saftvrqmie_potential.proofs.quantum_d.Tie as tie
+use Rattle.saftvrqmie_potential.proofs.quantum_d.Goals as goal
 
-returns : tie.Need-returns
+pub returns : goal.returns
 unfolding quantum_d decimal of_bits
 returns c = rw (prefactor_float port)
-
-pub quantum_d_spec : {M : Type 1} → statement M
-quantum_d_spec = tie.close (tie.spec returns)

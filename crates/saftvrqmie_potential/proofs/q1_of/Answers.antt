@@ -3,12 +3,8 @@ use Rattle.saftvrqmie_potential.specs.Potential.{q1}
 use lib.Ieee.{of_bits}
 use Rattle.number.specs.Arith.{decimal}
 use mathlib.Core.Path.{refl}
-use Rattle.saftvrqmie_potential.proofs.q1_of.Statement.{statement}
-use Rattle.saftvrqmie_potential.proofs.q1_of.Tie as tie
+use Rattle.saftvrqmie_potential.proofs.q1_of.Goals as goal
 
-returns : tie.Need-returns
+pub returns : goal.returns
 unfolding q1 decimal of_bits
 returns c = refl
-
-pub q1_of_spec : {M : Type 1} → statement M
-q1_of_spec = tie.close (tie.spec returns)
