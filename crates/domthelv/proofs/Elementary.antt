@@ -1,8 +1,8 @@
 -- From the definition of an elementary function to what its call has answered. Assumes nothing.
 use mathlib.Core.Path.{◌≡◌, refl, sym, ap, ap₂, ◌∙◌, subst}
-use Prim.Native.Nat.{ℕ, suc}
+use Prim.Native.Nat.{ℕ}
 use lib.Ieee.{Float}
-use Rattle.number.specs.Ans.{Ans, held, refused}
+use Rattle.number.specs.Ans.{Ans}
 use Rattle.number.specs.Answer.{answer}
 use Rattle.number.specs.declared.FloatAnswer.{FloatAnswer}
 use Rattle.number.specs.declared.FloatAnswer.TheVariants.{Value, Outside}

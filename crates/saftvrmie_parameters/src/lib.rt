@@ -21,7 +21,7 @@ use number::FloatAnswer;
 use sizes::mie_set::{ALPHA_IJ, C_IJ, EPSILON_K_IJ, LA_IJ, LR_IJ};
 use sizes::{SHEETS, SIDE};
 
-#[derive(Drop)]
+#[derive(Clone, Copy)]
 pub struct SaftVRMiePars {
     pub count: usize,
     pub m: [f64; SIDE],
@@ -32,7 +32,7 @@ pub struct SaftVRMiePars {
     pub sheets: [f64; SHEETS],
 }
 
-#[derive(Drop)]
+#[derive(Clone, Copy)]
 pub struct ParameterSet {
     pub answer: ParameterAnswer,
     pub set: SaftVRMiePars,

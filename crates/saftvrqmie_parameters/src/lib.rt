@@ -30,7 +30,7 @@ pub struct OrderRecord {
     pub order: FeynmanHibbsOrder,
 }
 
-#[derive(Drop)]
+#[derive(Clone, Copy)]
 pub struct SaftVRQMiePars {
     pub count: usize,
     pub m: [f64; SIDE],
@@ -38,7 +38,7 @@ pub struct SaftVRQMiePars {
     pub orders: [OrderRecord; SHEET],
 }
 
-#[derive(Drop)]
+#[derive(Clone, Copy)]
 pub struct ParameterSet {
     pub answer: ParameterAnswer,
     pub set: SaftVRQMiePars,
