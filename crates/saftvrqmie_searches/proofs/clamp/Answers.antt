@@ -1,0 +1,13 @@
+-- `saftvrqmie_searches::clamp` meets its contract. Assumes nothing.
+use Rattle.saftvrqmie_searches.specs.Searches.{clamped}
+use lib.Ieee.{of_bits}
+use Rattle.number.specs.Arith.{decimal}
+use Rattle.saftvrqmie_searches.proofs.clamp.Goals as goal
+
+pub returns-then-size : goal.returns-then-size
+unfolding clamped decimal of_bits
+returns-then-size c = rw (← c.abs-size.ensures, c.if-size.true)
+
+pub returns : goal.returns
+unfolding clamped decimal of_bits
+returns c = rw (← c.abs-size.ensures, c.if-size.false)

@@ -1,0 +1,7 @@
+-- `saftvrqmie_searches::sigma_search` meets its contract. Assumes nothing.
+use Rattle.saftvrqmie_searches.proofs.Loops.{sigma_by}
+use mathlib.Core.Path.{◌∙◌}
+use Rattle.saftvrqmie_searches.proofs.sigma_search.Goals as goal
+
+pub returns : goal.returns
+returns c = c.radius_search.ensures ∙ sigma_by _ _ _ _

@@ -1,0 +1,20 @@
+-- `saftvrqmie_searches_slopes::diameter_by` meets its contract. Assumes nothing.
+use Rattle.saftvrqmie_searches.specs.Diameter.{diameter_by}
+use Rattle.slopes.specs.Answer.{dual_answer}
+use Rattle.number.proofs.Walk.{via, walk_none, walk_next, walk_stop, walk_end}
+use borrow.Author.Rules.{rules}
+use Rattle.saftvrqmie_searches_slopes.proofs.diameter_by.Goals as goal
+
+pub loop-k-init : goal.loop-k-init
+loop-k-init c = (search rules, walk_none _ _)
+
+pub returns-in_default : goal.returns-in_default
+unfolding diameter_by
+returns-in_default c = walk_stop _ _ _ _ _ _ c.loop-k-test.true c.loop-k.invariant.1 (via dual_answer c.node.ensures c.in_default.is)
+
+pub loop-k-preserved : goal.loop-k-preserved
+loop-k-preserved c = (search rules, walk_next _ _ _ _ _ c.loop-k.invariant.1 (via dual_answer c.node.ensures c.in-Value.is))
+
+pub returns : goal.returns
+unfolding diameter_by
+returns c = walk_end _ _ _ _ _ c.loop-k.invariant.0 c.loop-k-test.false c.loop-k.invariant.1
