@@ -2,4 +2,4 @@
 use Rattle.saftvrqmie_potential_ends.proofs.line_plus.Goals as goal
 
 pub returns : goal.returns
-returns c = λ s. rw (c.plus.ensures, c.plus-2.ensures) at (c.line_at_lem.ensures s)
+returns c = λ s. rw (c.plus.ensures, c.plus-2.ensures) at (c.line_at.ensures s)
