@@ -48,11 +48,15 @@ data All {S T : Type 0} (R : S → T → Type 0) : List S → List T → Type 0 
 
 module _ {S T : Type 0} (R : S → T → Type 0) where
   nth_rel : {x : S} {u : T} → R x u → (l : List S) (k : List T) → All R l k → (i : ℕ) → R (get_or l i x) (get_or k i u)
+  nth_rel d [] (u ∷ k) x3 i = elim x3 [ ]
+  nth_rel {u = u} d (x ∷ l) [] x5 i = elim x5 [ ]
   nth_rel d [] [] none i = d
   nth_rel d (x ∷ l) (u ∷ k) (more p q) zero = p
   nth_rel d (x ∷ l) (u ∷ k) (more p q) (suc i) = nth_rel d l k q i
 
   set_rel : (l : List S) (k : List T) (i : ℕ) (y : S) (v : T) → All R l k → R y v → All R (set l i y) (set k i v)
+  set_rel [] (u ∷ k) i y v x4 r = elim x4 [ ]
+  set_rel (x ∷ l) [] i y v x5 r = elim x5 [ ]
   set_rel [] [] i y v none r = none
   set_rel (x ∷ l) (u ∷ k) zero y v (more p q) r = more r q
   set_rel (x ∷ l) (u ∷ k) (suc i) y v (more p q) r = more p (set_rel l k i y v q r)

@@ -14,7 +14,7 @@ use Rattle.saftvrmie_energies.specs.Dispersion.{no_sums, chain_row}
 use Rattle.saftvrmie_energies.proofs.chain_rows.Given as goal
 
 abbrev pub invariant-loop-i : goal.invariant-loop-i
-invariant-loop-i l = (l.i ≤ l.n) × (held (sums_in l.s) ≡ walk l.i (λ i. chain_row floats (calls floats port) l.n (at l.xs) (at l.d) (λ i j. pair_of (pair_at l.sheets i j)) (fluid_in l.w) (bar_in l.bar) (fluid_dual_in l.v) (k_in l.k) (pair_of (pure_at l.sigma l.epsilon_k l.lr l.la l.sheets i)) (record { l.m = at l.m i; fraction = at l.x i; l.t_inv = l.t_inv }) i) (no_sums floats (calls floats port)))
+invariant-loop-i l = (l.i ≤ l.n) × (held (sums_in l.s) ≡ walk l.i (λ i. chain_row floats (calls floats port) l.n (at l.xs) (at l.d) (λ i j. pair_of (pair_at l.sheets i j)) (fluid_in l.w) (bar_in l.bar) (fluid_dual_in l.v) (k_in l.k) (pair_of (pure_at l.sigma l.epsilon_k l.lr l.la l.sheets i)) (record { m = at l.m i; fraction = at l.x i; t_inv = l.t_inv }) i) (no_sums floats (calls floats port)))
 
 abbrev pub decreases-loop-i : goal.decreases-loop-i
 decreases-loop-i l = l.n - l.i

@@ -11,10 +11,10 @@ loop-i-init c = (search rules, walk_none _ _)
 
 pub returns-in_default : goal.returns-in_default
 unfolding disp_rows
-returns-in_default c = walk_stop _ _ _ _ _ _ c.loop-i-test.true c.loop-i.invariant.1 (via sums_answer (rw c.before.before.before.Pure-at.ensures at c.disp_row.ensures) c.in_default.is)
+returns-in_default c = walk_stop _ _ _ _ _ _ c.loop-i-test.true c.loop-i.invariant.1 (via sums_answer (rw c.pure_at-p.ensures at c.disp_row.ensures) c.in_default.is)
 
 pub loop-i-preserved : goal.loop-i-preserved
-loop-i-preserved c = (search rules, walk_next _ _ _ _ _ c.loop-i.invariant.1 (via sums_answer (rw c.before.before.before.before.Pure-at.ensures at c.disp_row.ensures) c.in-At.is))
+loop-i-preserved c = (search rules, walk_next _ _ _ _ _ c.loop-i.invariant.1 (via sums_answer (rw c.pure_at-p.ensures at c.disp_row.ensures) c.in-At.is))
 
 pub returns : goal.returns
 unfolding disp_rows

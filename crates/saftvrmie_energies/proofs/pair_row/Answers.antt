@@ -2,7 +2,7 @@
 use borrow.Author.Rules.{rules}
 use Rattle.number.proofs.Walk.{via, walk_none, walk_next, walk_stop, walk_end}
 use Rattle.saftvrmie_dispersion.specs.Answer.{sums_answer}
-use Rattle.saftvrmie_energies.specs.Dispersion.{pair_row}
+use Rattle.saftvrmie_energies.specs.Dispersion.{pair_turn, pair_row}
 use Rattle.saftvrmie_energies.proofs.pair_row.Goals as goal
 
 pub loop-k-init : goal.loop-k-init
@@ -10,10 +10,10 @@ loop-k-init c = (search rules, walk_none _ _)
 
 pub returns-in_default : goal.returns-in_default
 unfolding pair_row
-returns-in_default c = walk_stop _ _ _ _ _ _ c.loop-k-test.true c.loop-k.invariant.1 (via sums_answer c.before.before.Pair-turn.ensures c.in_default.is)
+returns-in_default c = walk_stop _ _ _ _ _ _ c.loop-k-test.true c.loop-k.invariant.1 (via sums_answer c.pair_turn.ensures c.in_default.is)
 
 pub loop-k-preserved : goal.loop-k-preserved
-loop-k-preserved c = (search rules, walk_next _ _ _ _ _ c.loop-k.invariant.1 (via sums_answer c.before.before.before.Pair-turn.ensures c.in-At.is))
+loop-k-preserved c = (search rules, walk_next _ _ _ _ _ c.loop-k.invariant.1 (via sums_answer c.pair_turn.ensures c.in-At.is))
 
 pub returns : goal.returns
 unfolding pair_row

@@ -8,7 +8,7 @@ use Rattle.saftvrqmie_energies.specs.State.{points}
 use Rattle.saftvrqmie_energies.proofs.dispersion.segment_fractions.Given as goal
 
 abbrev pub invariant-loop-i : goal.invariant-loop-i
-invariant-loop-i l = (l.i ≤ l.n) × (l.xs ≡ turns l.i (λ i l. set l i (floats.mul (floats.mul (points floats l.x i) (points floats l.m i)) l.inv)) l.initial.xs)
+invariant-loop-i l = (l.i ≤ l.n) × (l.xs ≡ turns l.i (λ i ys. set ys i (floats.mul (floats.mul (points floats l.x i) (points floats l.m i)) l.inv)) l.initial.xs)
 
 abbrev pub decreases-loop-i : goal.decreases-loop-i
 decreases-loop-i l = l.n - l.i

@@ -1,0 +1,21 @@
+-- `saftvrqmie_alone_ends::u_whole` meets its contract. Assumes nothing.
+use Rattle.saftvrqmie_potential_ends.specs.Values.{potential_answer}
+use Rattle.number.proofs.Walk.{via}
+use Rattle.number.specs.Ans.{◌>>=◌}
+use Rattle.saftvrqmie_alone_ends.specs.Alone.{u_after}
+use Rattle.saftvrqmie_alone_ends.proofs.u_whole.Goals as goal
+
+pub returns-in_default : goal.returns-in_default
+unfolding u_after ◌>>=◌
+returns-in_default c =
+    λ s. rw
+    (via potential_answer (c.potential_at.ensures s) c.in_default.is)
+
+pub returns : goal.returns
+unfolding u_after ◌>>=◌
+returns c =
+    λ s. rw (
+      c.after-2.ensures,
+      c.after.ensures,
+      via potential_answer (c.potential_at.ensures s) c.in-Value.is,
+    )
