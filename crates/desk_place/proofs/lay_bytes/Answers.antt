@@ -1,0 +1,18 @@
+-- `desk_place::lay_bytes` meets its contract. Assumes nothing.
+use Rattle.desk_place.proofs.Parts.{lay_next, lay_end}
+use mathlib.Core.Path.{refl}
+use native.Mathlib.Omega.{arith}
+use borrow.Author.Rules.{rules}
+use Rattle.desk_place.proofs.lay_bytes.Goals as goal
+
+pub loop-k-init : goal.loop-k-init
+loop-k-init c = (search rules, refl, refl)
+
+pub loop-k-preserved : goal.loop-k-preserved
+loop-k-preserved c = (search rules, search rules, lay_next c.args.x.now c.args.part.now _ c.loop-k.k _ (omega (arith, c.loop-k-test.true)) (omega (arith, c.requires, c.loop-k-test.true)) c.loop-k.invariant.2)
+
+pub shape_of-part : goal.shape_of-part
+shape_of-part c = c.loop-k.invariant.1
+
+pub returns : goal.returns
+returns c = lay_end _ _ _ _ c.loop-k.invariant.0 c.loop-k-test.false c.loop-k.invariant.2

@@ -1,0 +1,17 @@
+-- `saftvrmie_chain_ends::sutherland::powers_dual` meets its contract. Assumes nothing.
+use Rattle.number.specs.Arith.{decimal}
+use lib.Ieee.{of_bits, of_int}
+use Rattle.dual.specs.Dual.{pow_d}
+use Rattle.enclosure_dual.specs.Value.{dual_of}
+use Rattle.saftvrmie_dispersion_ends.proofs.Shared.{square_is, cube_is}
+use Rattle.saftvrmie_chain_ends.proofs.Powers.{itself_is, fourth_is}
+use Rattle.saftvrmie_chain_ends.proofs.sutherland.powers_dual.Goals as goal
+
+pub returns : goal.returns
+unfolding pow_d dual_of decimal of_bits of_int
+returns c =
+    record {
+      second = rw (square_is, itself_is, c.mul-2.ensures, c.mul-a.ensures, c.point.ensures, c.mul-square.ensures, c.mul-times.ensures, c.mul-itself.ensures, c.point-one.ensures);
+      third = rw (cube_is, square_is, c.mul-3.ensures, c.mul-b.ensures, c.point-2.ensures, c.mul-cube.ensures, c.mul-square.ensures, c.mul-times.ensures, c.mul-itself.ensures, c.point-one.ensures);
+      fourth = rw (fourth_is, cube_is, c.mul-4.ensures, c.mul-c.ensures, c.point-3.ensures, c.mul-fourth.ensures, c.mul.ensures, c.mul-cube.ensures, c.mul-times.ensures, c.mul-itself.ensures, c.point-one.ensures);
+    }

@@ -1,0 +1,34 @@
+-- `saftvrmie_properties_ends::properties_of` meets its contract. Assumes nothing.
+use Rattle.saftvrmie_energies.specs.Properties.{properties}
+use Rattle.saftvrmie_properties_ends.specs.Answer.{k_answer}
+use Rattle.number.proofs.Walk.{via}
+use Rattle.number.specs.Ans.{◌>>=◌}
+use Rattle.saftvrmie_properties_ends.proofs.properties_of.Goals as goal
+
+pub returns-in_default : goal.returns-in_default
+unfolding properties ◌>>=◌
+returns-in_default c =
+    rw (
+      ← c.weighted-segment_density.ensures,
+      ← c.zeta_sum-a.ensures,
+      ← c.zeta_bar_sum-b.ensures,
+      ← c.volume-v.ensures,
+      ← c.mul-zeta.ensures,
+      ← c.after_lower-zeta_x.ensures,
+      ← c.mul-zeta_x_bar.ensures,
+      via k_answer c.k_values.ensures c.in_default.is,
+    )
+
+pub returns : goal.returns
+unfolding properties ◌>>=◌
+returns c =
+    rw (
+      ← c.weighted-segment_density.ensures,
+      ← c.zeta_sum-a.ensures,
+      ← c.zeta_bar_sum-b.ensures,
+      ← c.volume-v.ensures,
+      ← c.mul-zeta.ensures,
+      ← c.after_lower-zeta_x.ensures,
+      ← c.mul-zeta_x_bar.ensures,
+      via k_answer c.k_values.ensures c.in-At.is,
+    )

@@ -1,0 +1,19 @@
+-- `saftvrqmie_diameter_ends::hs_diameter` meets its contract. Assumes nothing.
+use mathlib.Core.Path.{ap, ◌∙◌, subst}
+use Rattle.enclosure.specs.Enclosure.{enclosures}
+use Rattle.number.specs.Functions.{calls}
+use Rattle.elementary.specs.Port.{port}
+use Rattle.saftvrqmie_searches.specs.Diameter.{diameter_by, diameter}
+use Rattle.saftvrqmie_potential_ends.specs.Shared.{Shares}
+use Rattle.saftvrqmie_potential.specs.Potential.{potential}
+use Rattle.saftvrqmie_potential_ends.specs.Pair.{pair_in}
+use Rattle.saftvrqmie_diameter_ends.proofs.Nodes.{diameter_none}
+use Rattle.saftvrqmie_potential_ends.specs.declared.PairEnclosures.{PairEnclosures}
+use Rattle.saftvrqmie_diameter_ends.proofs.hs_diameter.Goals as goal
+
+pub returns-in_default : goal.returns-in_default
+returns-in_default c = diameter_none _ _ _ (subst (Shares c.args.p) c.in_default.is c.share.ensures)
+
+pub returns : goal.returns
+unfolding diameter
+returns c = let h = subst (Shares c.args.p) c.in-At.is c.share.ensures in c.diameter_by.ensures h.1 ∙ ap (λ (q : PairEnclosures). diameter_by enclosures (calls enclosures port) (potential enclosures (calls enclosures port) (pair_in q)) c.args.p.temperature c.args.sigma_eff c.args.r0) h.0

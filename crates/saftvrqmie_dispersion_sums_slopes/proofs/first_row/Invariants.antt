@@ -1,0 +1,20 @@
+-- `saftvrqmie_dispersion_sums_slopes::first_row` meets its contract. Assumes nothing.
+use Prim.Native.Nat.{◌≤◌, ◌-◌}
+use mathlib.Core.Path.{◌≡◌}
+use Rattle.number.specs.Walk.{walk}
+use Rattle.number.specs.Ans.{held}
+use Rattle.elementary.specs.Port.{port}
+use Rattle.slopes.specs.Mixed.{mixed_one}
+use Rattle.slopes.specs.Rules.{mixed_functions}
+use Rattle.saftvrqmie_dispersion_terms_slopes_one.specs.Staged.{mixed_of}
+use Rattle.dual.specs.Value.{dual_of}
+use Rattle.saftvrqmie_hard_sphere_slopes_one.specs.Parts.{duals_at}
+use Rattle.saftvrqmie_dispersion_sums_slopes.specs.State.{mixture_in, sloped_sheets}
+use Rattle.saftvrqmie_energies.specs.Dispersion.{first_turn}
+use Rattle.saftvrqmie_dispersion_sums_slopes.proofs.first_row.Given as goal
+
+abbrev pub invariant-loop-k : goal.invariant-loop-k
+invariant-loop-k l = (l.k-end ≡ l.n - l.i) × (l.k ≤ l.k-end) × (held (mixed_of l.a1) ≡ walk l.k (first_turn mixed_one (mixed_functions port) (sloped_sheets l.n l.sheets l.orders (dual_of l.t) l.table l.table_slopes) (duals_at l.xs) (mixture_in l.w) l.i) (mixed_of l.initial.a1))
+
+abbrev pub decreases-loop-k : goal.decreases-loop-k
+decreases-loop-k l = l.k-end - l.k

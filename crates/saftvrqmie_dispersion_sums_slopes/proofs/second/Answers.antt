@@ -1,0 +1,27 @@
+-- `saftvrqmie_dispersion_sums_slopes::second` meets its contract. Assumes nothing.
+use Rattle.dual.specs.Value.{dual_of}
+use Rattle.number.proofs.Walk.{walk_none, walk_next, walk_stop, walk_end}
+use Rattle.number.specs.Ans.{◌>>=◌}
+use Rattle.saftvrqmie_dispersion_terms_slopes_one.specs.Staged.{sloped_answer}
+use Rattle.number.specs.Arith.{decimal}
+use lib.Ieee.{of_bits}
+use Rattle.saftvrqmie_energies.specs.Dispersion.{second_row}
+use Rattle.saftvrqmie_dispersion_sums_slopes.proofs.Laws.{second_stops, second_holds}
+use Rattle.number.proofs.Walk.{via}
+use borrow.Author.Rules.{rules}
+use Rattle.saftvrqmie_dispersion_sums_slopes.proofs.second.Goals as goal
+
+pub loop-i-init : goal.loop-i-init
+loop-i-init c = (search rules, walk_none _ _)
+
+pub returns-in_default : goal.returns-in_default
+unfolding sloped_answer ◌>>=◌ decimal of_bits
+returns-in_default c = second_stops _ c.plain-a2.ensures c.args.n c.requires.0 c.args.xs c.args.table.now c.args.table_slopes.now c.args.sheets.now c.args.orders (dual_of c.args.t) c.args.w c.args.alphas.now c.args.alpha_slopes.now _ (walk_stop _ _ _ _ _ _ c.loop-i-test.true c.loop-i.invariant.1 (via sloped_answer c.second_row.ensures c.in_default.is))
+
+pub loop-i-preserved : goal.loop-i-preserved
+unfolding sloped_answer ◌>>=◌
+loop-i-preserved c = (search rules, walk_next _ _ _ _ _ c.loop-i.invariant.1 (via sloped_answer c.second_row.ensures c.in-Value.is))
+
+pub returns : goal.returns
+unfolding sloped_answer ◌>>=◌ decimal of_bits
+returns c = second_holds _ c.plain-a2.ensures c.args.n c.requires.0 c.args.xs c.args.table.now c.args.table_slopes.now c.args.sheets.now c.args.orders (dual_of c.args.t) c.args.w c.args.alphas.now c.args.alpha_slopes.now _ _ _ (walk_end _ _ _ _ _ c.loop-i.invariant.0 c.loop-i-test.false c.loop-i.invariant.1) c.k-k.ensures c.mul.ensures

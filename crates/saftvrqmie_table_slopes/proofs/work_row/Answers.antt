@@ -1,0 +1,22 @@
+-- `saftvrqmie_table_slopes::work_row` meets its contract. Assumes nothing.
+use Rattle.saftvrqmie_table_slopes.specs.Table.{slopes_row}
+use Rattle.dual.specs.Value.{dual_of}
+use Rattle.saftvrqmie_table_slopes.proofs.Laws.{work_held, work_outside}
+use Rattle.number.proofs.Walk.{walk_none, walk_next, walk_stop, walk_end}
+use borrow.Author.Rules.{rules}
+use Rattle.saftvrqmie_table_slopes.proofs.work_row.Goals as goal
+
+pub loop-j-init : goal.loop-j-init
+loop-j-init c = (search rules, walk_none _ _)
+
+pub returns-in_default : goal.returns-in_default
+unfolding slopes_row dual_of
+returns-in_default c = walk_stop _ _ _ _ _ _ c.loop-j-test.true c.loop-j.invariant.1 (work_outside _ _ _ _ _ _ _ _ c.pair_at-pair.ensures c.pair_properties.ensures c.in_default.is)
+
+pub loop-j-preserved : goal.loop-j-preserved
+unfolding dual_of
+loop-j-preserved c = (search rules, walk_next _ _ _ _ _ c.loop-j.invariant.1 (work_held _ _ _ _ _ _ _ _ c.pair_at-pair.ensures c.pair_properties.ensures _ _ c.in-At.is c.store.ensures))
+
+pub returns : goal.returns
+unfolding slopes_row
+returns c = walk_end _ _ _ _ _ c.loop-j.invariant.0 c.loop-j-test.false c.loop-j.invariant.1
