@@ -68,10 +68,10 @@ abbrev pub values : Rel mixed floats
 values =
     record {
       R = Value;
-      r_add = λ {x} {y} p q. two floats.add (on_value _ _ add_value x y) p q;
-      r_sub = λ {x} {y} p q. two floats.sub (on_value _ _ sub_value x y) p q;
-      r_mul = λ {x} {y} p q. two floats.mul (on_value _ _ mul_value x y) p q;
-      r_div = λ {x} {y} p q. two floats.div (on_value _ _ div_value x y) p q;
+      r_add = λ {x} {y} p q. two floats.add (on_value _ (add_d floats) add_value x y) p q;
+      r_sub = λ {x} {y} p q. two floats.sub (on_value _ (sub_d floats) sub_value x y) p q;
+      r_mul = λ {x} {y} p q. two floats.mul (on_value _ (mul_d floats) mul_value x y) p q;
+      r_div = λ {x} {y} p q. two floats.div (on_value _ (div_d floats) div_value x y) p q;
       r_neg = λ {x} p. neg_value x ∙ ap floats.neg p;
       r_pow = λ n {x} p. pow_value n x ∙ ap (λ (v : Float). floats.pow v n) p;
       r_down = λ n {x} p. down_value n x ∙ ap (λ (v : Float). floats.pow_down v n) p;
@@ -86,10 +86,10 @@ abbrev pub values_one : Rel mixed_one floats
 values_one =
     record {
       R = Value;
-      r_add = λ {x} {y} p q. two floats.add (on_value _ _ add_value x y) p q;
-      r_sub = λ {x} {y} p q. two floats.sub (on_value _ _ sub_value x y) p q;
-      r_mul = λ {x} {y} p q. two floats.mul (on_value _ _ mul_value x y) p q;
-      r_div = λ {x} {y} p q. two floats.div (on_value _ _ div_value x y) p q;
+      r_add = λ {x} {y} p q. two floats.add (on_value _ (add_d floats) add_value x y) p q;
+      r_sub = λ {x} {y} p q. two floats.sub (on_value _ (sub_d floats) sub_value x y) p q;
+      r_mul = λ {x} {y} p q. two floats.mul (on_value _ (mul_d floats) mul_value x y) p q;
+      r_div = λ {x} {y} p q. two floats.div (on_value _ (div_d floats) div_value x y) p q;
       r_neg = λ {x} p. neg_one_value x ∙ ap floats.neg p;
       r_pow = λ n {x} p. pow_value n x ∙ ap (λ (v : Float). floats.pow v n) p;
       r_down = λ n {x} p. down_value n x ∙ ap (λ (v : Float). floats.pow_down v n) p;

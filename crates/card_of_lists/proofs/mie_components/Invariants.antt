@@ -1,0 +1,13 @@
+-- `card_of_lists::mie_components` meets its contract. Assumes nothing.
+use Prim.Native.Nat.{◌*◌, ◌-◌, ◌≤◌}
+use mathlib.Core.Path.{◌≡◌}
+use lib.ListN.{length, take}
+use Rattle.card.specs.Fields.{joined}
+use Rattle.card_of_lists.specs.Cards.{mie_component}
+use Rattle.card_of_lists.proofs.mie_components.Given as goal
+
+abbrev pub invariant-loop-i : goal.invariant-loop-i
+invariant-loop-i l = (l.i ≤ l.n) × (length l.values ≡ 204) × (take (l.i * 5) l.values ≡ joined l.i (mie_component l.m l.sigma l.epsilon_k l.lr l.la))
+
+abbrev pub decreases-loop-i : goal.decreases-loop-i
+decreases-loop-i l = l.n - l.i

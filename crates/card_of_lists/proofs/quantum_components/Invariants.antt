@@ -1,0 +1,13 @@
+-- `card_of_lists::quantum_components` meets its contract. Assumes nothing.
+use Prim.Native.Nat.{◌*◌, ◌-◌, ◌≤◌}
+use mathlib.Core.Path.{◌≡◌}
+use lib.ListN.{length, take}
+use Rattle.card.specs.Fields.{joined}
+use Rattle.card_of_lists.specs.Cards.{quantum_component}
+use Rattle.card_of_lists.proofs.quantum_components.Given as goal
+
+abbrev pub invariant-loop-i : goal.invariant-loop-i
+invariant-loop-i l = (l.i ≤ l.n) × (length l.values ≡ 204) × (take (l.i * 6) l.values ≡ joined l.i (quantum_component l.sigma l.epsilon_k l.lr l.la l.mass l.fh))
+
+abbrev pub decreases-loop-i : goal.decreases-loop-i
+decreases-loop-i l = l.n - l.i

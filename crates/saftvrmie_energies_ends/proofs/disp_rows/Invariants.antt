@@ -1,0 +1,21 @@
+-- `saftvrmie_energies_ends::disp_rows` meets its contract. Assumes nothing.
+use Prim.Native.Nat.{◌≤◌, ◌-◌}
+use mathlib.Core.Path.{◌≡◌}
+use Rattle.enclosure.specs.Enclosure.{enclosures, point}
+use Rattle.number.specs.Walk.{walk}
+use Rattle.number.specs.Ans.{held}
+use Rattle.number.specs.Functions.{calls}
+use Rattle.elementary.specs.Port.{port}
+use Rattle.saftvrmie_dispersion.specs.Answer.{pair_in}
+use Rattle.saftvrmie_dispersion_ends.specs.Answer.{fluid_in, bar_in, sums_in}
+use Rattle.saftvrmie_properties_ends.specs.Points.{points, pairs}
+use Rattle.number.specs.Lists.{nth}
+use Rattle.saftvrmie_energies.specs.Energies.{pure_at}
+use Rattle.saftvrmie_energies.specs.Dispersion.{no_sums, disp_row}
+use Rattle.saftvrmie_energies_ends.proofs.disp_rows.Given as goal
+
+abbrev pub invariant-loop-i : goal.invariant-loop-i
+invariant-loop-i l = (l.i ≤ l.n) × (held (sums_in l.s) ≡ walk l.i (λ i. disp_row enclosures (calls enclosures port) l.n (nth enclosures l.xs) (points l.d) (pairs l.sheets) (fluid_in l.w) (bar_in l.bar) (pair_in point (pure_at l.sigma l.epsilon_k l.lr l.la l.sheets i)) i) (no_sums enclosures (calls enclosures port)))
+
+abbrev pub decreases-loop-i : goal.decreases-loop-i
+decreases-loop-i l = l.n - l.i

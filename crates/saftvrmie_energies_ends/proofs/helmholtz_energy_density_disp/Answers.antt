@@ -1,0 +1,27 @@
+-- `saftvrmie_energies_ends::helmholtz_energy_density_disp` meets its contract. Assumes nothing.
+use Rattle.number.specs.Ans.{◌>>=◌}
+use Rattle.number.proofs.Walk.{via}
+use lib.Ieee.{of_bits}
+use Rattle.number.specs.Arith.{decimal}
+use Rattle.saftvrmie_dispersion_ends.specs.Answer.{sums_answer}
+use Rattle.saftvrmie_properties_ends.specs.Answer.{properties_answer}
+use Rattle.saftvrmie_energies.specs.Dispersion.{dispersion}
+use Rattle.saftvrmie_energies_ends.proofs.helmholtz_energy_density_disp.Goals as goal
+
+pub returns-in_default : goal.returns-in_default
+unfolding dispersion ◌>>=◌ decimal of_bits
+returns-in_default c = rw (← c.weighted-mean.ensures, ← c.xs_of-xs.ensures, via properties_answer c.properties_of.ensures c.in_default.is)
+
+pub disp_rows-requires : goal.disp_rows-requires
+disp_rows-requires c = (c.requires.0, c.requires.3)
+
+pub returns-in_default-disp_rows : goal.returns-in_default-disp_rows
+unfolding dispersion ◌>>=◌ decimal of_bits
+returns-in_default-disp_rows c = rw (← c.weighted-mean.ensures, ← c.xs_of-xs.ensures, via properties_answer c.properties_of.ensures c.in-At.is, ← c.k_hs-k_hs.ensures, ← c.fluid_of-w.ensures, ← c.bar_of-bar.ensures, via sums_answer c.disp_rows.ensures c.in_default-disp_rows.is)
+
+pub total-all-requires : goal.total-all-requires
+total-all-requires c = c.requires.2
+
+pub returns : goal.returns
+unfolding dispersion ◌>>=◌ decimal of_bits
+returns c = rw (← c.weighted-mean.ensures, ← c.xs_of-xs.ensures, via properties_answer c.properties_of.ensures c.in-At.is, ← c.k_hs-k_hs.ensures, ← c.fluid_of-w.ensures, ← c.bar_of-bar.ensures, via sums_answer c.disp_rows.ensures c.in-At-disp_rows.is, c.after_ks.ensures, c.mul-v.ensures, c.mul.ensures, c.total-all.ensures, c.orders_sum-orders.ensures, c.inverse.ensures)
