@@ -104,36 +104,53 @@ pub data Stand : List Frac → List Rational → Type 0 where
 
 pub stand_evaluated : (p : List Frac) (a : List Rational) (x : Frac) (r : Rational) → Stand p a → Stands x r → Stands (evaluated fractions p x) (evaluated rationals a r)
 unfolding evaluated
+stand_evaluated [] (b ∷ a) x r x7 k = elim x7 [ ]
+stand_evaluated (f ∷ p) [] x r x7 k = elim x7 [ ]
 stand_evaluated [] [] x r none k = stands_whole 0
 stand_evaluated (f ∷ p) (b ∷ a) x r (more h hs) k = stands_add _ _ _ _ h (stands_mul _ _ _ _ k (stand_evaluated p a x r hs k))
 
 pub stand_sum : (p q : List Frac) (a b : List Rational) → Stand p a → Stand q b → Stand (sum fractions p q) (sum rationals a b)
 unfolding sum
+stand_sum [] q (c ∷ a) b x4 k = elim x4 [ ]
+stand_sum (f ∷ p) [] [] b x5 k = elim x5 [ ]
+stand_sum (f ∷ p) [] (c ∷ a) (d ∷ b) _ k = elim k [ ]
+stand_sum (f ∷ p) (g ∷ q) [] b x6 k = elim x6 [ ]
+stand_sum (f ∷ p) (g ∷ q) (c ∷ a) [] _ k = elim k [ ]
 stand_sum [] q [] b none k = k
 stand_sum (f ∷ p) [] (c ∷ a) [] (more h hs) none = more h hs
 stand_sum (f ∷ p) (g ∷ q) (c ∷ a) (d ∷ b) (more h hs) (more k ks) = more (stands_add _ _ _ _ h k) (stand_sum p q a b hs ks)
 
 pub stand_negative : (p : List Frac) (a : List Rational) → Stand p a → Stand (negative fractions p) (negative rationals a)
 unfolding negative
+stand_negative [] (c ∷ a) x'' = elim x'' [ ]
+stand_negative (f ∷ p) [] x3 = elim x3 [ ]
 stand_negative [] [] none = none
 stand_negative (f ∷ p) (c ∷ a) (more h hs) = more (stands_neg _ _ h) (stand_negative p a hs)
 
 stand_scaled : (k : Frac) (c : Rational) (p : List Frac) (a : List Rational) → Stands k c → Stand p a → Stand (scaled fractions k p) (scaled rationals c a)
 unfolding scaled
+stand_scaled k c [] (d ∷ a) s x4 = elim x4 [ ]
+stand_scaled k c (f ∷ p) [] s x4 = elim x4 [ ]
 stand_scaled k c [] [] s none = none
 stand_scaled k c (f ∷ p) (d ∷ a) s (more h hs) = more (stands_mul _ _ _ _ s h) (stand_scaled k c p a s hs)
 
 pub stand_product : (p q : List Frac) (a b : List Rational) → Stand p a → Stand q b → Stand (product fractions p q) (product rationals a b)
 unfolding product
+stand_product [] q (c ∷ a) b x4 k = elim x4 [ ]
+stand_product (f ∷ p) q [] b x4 k = elim x4 [ ]
 stand_product [] q [] b none k = none
 stand_product (f ∷ p) q (c ∷ a) b (more h hs) k = stand_sum _ _ _ _ (stand_scaled f c q b h k) (more (stands_whole 0) (stand_product p q a b hs k))
 
 stand_counted : (n : ℕ) (p : List Frac) (a : List Rational) → Stand p a → Stand (counted fractions n p) (counted rationals n a)
 unfolding counted
+stand_counted n [] (c ∷ a) x'' = elim x'' [ ]
+stand_counted n (f ∷ p) [] x3 = elim x3 [ ]
 stand_counted n [] [] none = none
 stand_counted n (f ∷ p) (c ∷ a) (more h hs) = more (stands_mul _ _ _ _ (stands_whole n) h) (stand_counted (suc n) p a hs)
 
 pub stand_derivative : (p : List Frac) (a : List Rational) → Stand p a → Stand (derivative fractions p) (derivative rationals a)
 unfolding derivative
+stand_derivative [] (c ∷ a) x'' = elim x'' [ ]
+stand_derivative (f ∷ p) [] x3 = elim x3 [ ]
 stand_derivative [] [] none = none
 stand_derivative (f ∷ p) (c ∷ a) (more h hs) = stand_counted 1 p a hs

@@ -1,0 +1,19 @@
+-- `domthelv::mie::domthelv_vr_diameter` meets its contract. Assumes nothing.
+use Rattle.set_lists.proofs.Sets.{set_is, mie_1, mie_holds}
+use Rattle.domthelv.proofs.Operations.{mie_diameter_refused, mie_diameter_is, refused_status, refused_stored, held_status, held_stored}
+use Rattle.mie_parameters.specs.Answer.{number_answer}
+use Rattle.number.proofs.Walk.{told, via}
+use mathlib.Core.Path.{refl, ◌∙◌}
+use Rattle.domthelv.proofs.mie.domthelv_vr_diameter.Goals as goal
+
+pub returns-then-not-mie_lengths : goal.returns-then-not-mie_lengths
+returns-then-not-mie_lengths c = let q = mie_diameter_refused _ _ _ _ _ _ (mie_1 _ (told c.mie_lengths.ensures c.if-not-mie_lengths.true)) in (refused_status _ _ _ refl q, refused_stored _ _ _ q)
+
+pub mie_set-set-requires : goal.mie_set-set-requires
+mie_set-set-requires c = (told c.mie_lengths.ensures c.if-not-mie_lengths.false)
+
+pub returns-in-Refused : goal.returns-in-Refused
+returns-in-Refused c = let q = mie_diameter_is _ _ _ _ _ _ (set_is _ _ _ (mie_holds _ (told c.mie_lengths.ensures c.if-not-mie_lengths.false)) c.mie_set-set.ensures) ∙ via number_answer c.diameter_ij-worked.ensures c.in-Refused.is in (refused_status _ _ _ refl q, refused_stored _ _ _ q)
+
+pub returns-in-Value : goal.returns-in-Value
+returns-in-Value c = let q = mie_diameter_is _ _ _ _ _ _ (set_is _ _ _ (mie_holds _ (told c.mie_lengths.ensures c.if-not-mie_lengths.false)) c.mie_set-set.ensures) ∙ via number_answer c.diameter_ij-worked.ensures c.in-Value.is in (held_status _ _ q, held_stored _ _ _ q)

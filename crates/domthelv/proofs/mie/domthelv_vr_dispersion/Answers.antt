@@ -1,0 +1,35 @@
+-- `domthelv::mie::domthelv_vr_dispersion` meets its contract. Assumes nothing.
+use Rattle.set_lists.proofs.Sets.{mie_lengths_told, mie_1, mie_holds, mie_by}
+use Rattle.domthelv.proofs.Operations.{dispersion_refused, dispersion_is, refused_status, refused_stored, held_status, held_stored}
+use Rattle.saftvrmie_energies.specs.Energies.{energy_answer}
+use Rattle.number.proofs.Walk.{told, via}
+use mathlib.Core.Path.{refl, ◌∙◌}
+use native.Mathlib.Omega.{arith}
+use Rattle.domthelv.proofs.mie.domthelv_vr_dispersion.Goals as goal
+
+pub returns-then-not-mie_lengths : goal.returns-then-not-mie_lengths
+returns-then-not-mie_lengths c = let q = dispersion_refused _ _ _ _ _ _ _ (mie_1 _ (told c.mie_lengths.ensures c.if-not-mie_lengths.true)) in (refused_status _ _ _ refl q, refused_stored _ _ _ q)
+
+pub places-m-requires : goal.places-m-requires
+places-m-requires c = let h = (mie_lengths_told _ _ (told c.mie_lengths.ensures c.if-not-mie_lengths.false)).places in omega (arith, h)
+
+pub places-sigma-requires : goal.places-sigma-requires
+places-sigma-requires c = let h = (mie_lengths_told _ _ (told c.mie_lengths.ensures c.if-not-mie_lengths.false)).places in omega (arith, h)
+
+pub places-epsilon_k-requires : goal.places-epsilon_k-requires
+places-epsilon_k-requires c = let h = (mie_lengths_told _ _ (told c.mie_lengths.ensures c.if-not-mie_lengths.false)).places in omega (arith, h)
+
+pub places-lr-requires : goal.places-lr-requires
+places-lr-requires c = let h = (mie_lengths_told _ _ (told c.mie_lengths.ensures c.if-not-mie_lengths.false)).places in omega (arith, h)
+
+pub places-la-requires : goal.places-la-requires
+places-la-requires c = let h = (mie_lengths_told _ _ (told c.mie_lengths.ensures c.if-not-mie_lengths.false)).places in omega (arith, h)
+
+pub flat-flat-requires : goal.flat-flat-requires
+flat-flat-requires c = (mie_lengths_told _ _ (told c.mie_lengths.ensures c.if-not-mie_lengths.false)).flat
+
+pub returns-in-Refused : goal.returns-in-Refused
+returns-in-Refused c = let q = dispersion_is _ _ _ _ _ _ _ (mie_by _ _ _ _ _ _ _ _ (mie_holds _ (told c.mie_lengths.ensures c.if-not-mie_lengths.false)) c.places-m.ensures c.places-sigma.ensures c.places-epsilon_k.ensures c.places-lr.ensures c.places-la.ensures c.flat-flat.ensures) ∙ via energy_answer c.dispersion_of-worked.ensures c.in-Refused.is in (refused_status _ _ _ refl q, refused_stored _ _ _ q)
+
+pub returns-in-Value : goal.returns-in-Value
+returns-in-Value c = let q = dispersion_is _ _ _ _ _ _ _ (mie_by _ _ _ _ _ _ _ _ (mie_holds _ (told c.mie_lengths.ensures c.if-not-mie_lengths.false)) c.places-m.ensures c.places-sigma.ensures c.places-epsilon_k.ensures c.places-lr.ensures c.places-la.ensures c.flat-flat.ensures) ∙ via energy_answer c.dispersion_of-worked.ensures c.in-Value.is in (held_status _ _ q, held_stored _ _ _ q)

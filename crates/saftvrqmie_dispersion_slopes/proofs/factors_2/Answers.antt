@@ -1,0 +1,9 @@
+-- `saftvrqmie_dispersion_slopes::factors_2` meets its contract. Assumes nothing.
+use lib.Ieee.{of_bits, neg}
+use Rattle.number.specs.Arith.{decimal}
+use Rattle.saftvrqmie_dispersion.specs.Perturbation.{factors2}
+use Rattle.saftvrqmie_dispersion_slopes.proofs.factors_2.Goals as goal
+
+pub returns : goal.returns
+unfolding factors2 decimal of_bits neg
+returns c = rw (c.times.ensures, c.mul-3.ensures, c.neg.ensures, c.mul-2.ensures, c.mul.ensures)

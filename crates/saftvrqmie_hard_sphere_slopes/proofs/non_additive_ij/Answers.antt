@@ -1,0 +1,24 @@
+-- `saftvrqmie_hard_sphere_slopes::non_additive_ij` meets its contract. Assumes nothing.
+use Rattle.saftvrqmie_energies.specs.NonAdditive.{non_additive_ij}
+use Rattle.number.specs.Arith.{decimal}
+use lib.Ieee.{of_bits}
+use Rattle.saftvrqmie_hard_sphere_slopes.proofs.non_additive_ij.Goals as goal
+
+pub returns : goal.returns
+unfolding non_additive_ij decimal of_bits
+returns c =
+    rw (
+      ← c.g_hs-g.ensures,
+      c.times-2.ensures,
+      c.times.ensures,
+      c.mul-3.ensures,
+      c.sub.ensures,
+      c.mul-c.ensures,
+      c.mul-2.ensures,
+      c.pow_up.ensures,
+      c.mul-b.ensures,
+      c.mul.ensures,
+      c.neg.ensures,
+      c.times-a.ensures,
+      c.add.ensures,
+    )

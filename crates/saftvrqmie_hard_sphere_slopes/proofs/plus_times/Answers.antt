@@ -1,0 +1,9 @@
+-- `saftvrqmie_hard_sphere_slopes::plus_times` meets its contract. Assumes nothing.
+use Rattle.saftvrqmie_hard_sphere_slopes.proofs.plus_times.Goals as goal
+
+pub returns : goal.returns
+returns c =
+    rw (
+      c.add.ensures,
+      c.times.ensures,
+    )

@@ -1,0 +1,23 @@
+-- `saftvrqmie_hard_sphere_slopes::zeta_added` meets its contract. Assumes nothing.
+use Rattle.saftvrqmie_energies.specs.HardSphere.{zeta_added}
+use Rattle.number.specs.Arith.{decimal}
+use lib.Ieee.{of_bits}
+use Rattle.saftvrqmie_hard_sphere_slopes.proofs.zeta_added.Goals as goal
+
+pub returns : goal.returns
+unfolding zeta_added decimal of_bits
+returns c =
+    rw (
+      c.plus_times-4.ensures,
+      c.plus_times-3.ensures,
+      c.plus_times-2.ensures,
+      c.plus_times.ensures,
+      c.mul-t3.ensures,
+      c.pow_up-4.ensures,
+      c.mul-t2.ensures,
+      c.pow_up-3.ensures,
+      c.mul-t1.ensures,
+      c.pow_up-2.ensures,
+      c.mul-t0.ensures,
+      c.pow_up.ensures,
+    )
