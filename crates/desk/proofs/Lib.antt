@@ -3,6 +3,7 @@ pub mod Shelf
 pub mod Pairs
 pub mod Held
 pub mod Entering
+pub mod Promised
 pub mod Promise
 pub mod Ways
 pub mod Course

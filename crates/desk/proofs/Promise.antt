@@ -8,27 +8,13 @@ use lib.ListN.{length}
 use Rattle.number.specs.Ans.{held, demand}
 use Rattle.number.proofs.Walk.{then_held}
 use Rattle.round_robin.specs.Desk.{places, Entered, Call, serves, outcome, submit}
-use Rattle.round_robin.proofs.Bound.{Ends, finished_within, accepted}
+use Rattle.round_robin.proofs.Bound.{finished_within, accepted}
 use Rattle.desk_place.specs.Layout.{Lists}
 use Rattle.desk_place.specs.Place.{Query}
 use Rattle.desk.specs.Desk.{right_desk, occupied_in, shelf, quantum, directly, submitted}
 use Rattle.desk.proofs.Shelf.{Right, desk_right, apart}
-use Rattle.desk.proofs.Held.{demanded, door_passed, door_held, Holds, unit_goes, unit_whole}
-use Rattle.desk.proofs.Entering.{enter_whole, enter_holds}
-
-abbrev pub promised : Ends shelf quantum apart
-promised =
-    record {
-      Holds = Holds;
-      units = λ q. q.lists.count * q.lists.count;
-      answer = directly;
-      unit_whole = λ p w h. unit_whole p w;
-      enter_whole = λ q p w d. enter_whole q p w (door_passed q true d);
-      enter_holds = λ q p w d. enter_holds q p w (door_passed q true d);
-      door_held = door_held;
-      waiting = λ q p u h. h.waits;
-      unit_goes = λ q p u w h. unit_goes q p u w h;
-    }
+use Rattle.desk.proofs.Held.{demanded}
+use Rattle.desk.proofs.Promised.{promised}
 
 -- an accepted query found a desk of the right lengths
 pub entered : (l : Lists) (q : Query) (e : Entered Lists) → submitted l q ≡ held e → Right l × (submit shelf quantum l q ≡ held e)
