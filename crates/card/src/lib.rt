@@ -107,7 +107,7 @@ fn read_field(card: &[u8], at: usize, field: Field) -> FieldAnswer
     plain(card, at, field.width)
 }
 
-// Field k behind a heading.
+// Field k behind a heading. Readers and writers have tested the count and go no further than the last field.
 pub fn field_at(kind: usize, count: usize, newer: bool, k: usize) -> Field
     requires { (count ≤ 12) × (k < value_count kind count) }
     ensures { (result ≡ get_or (layout (form_of newer) kind count) k float) × (0 < result.width) × (result.width ≤ 64) }
@@ -139,7 +139,7 @@ pub fn field_at(kind: usize, count: usize, newer: bool, k: usize) -> Field
     }
 }
 
-// How many numbers a card has behind its heading, of a count within the limits.
+// How many numbers a card has behind its heading, of a count within the limits: a heading outside them was refused with 10, so that no product wraps.
 pub fn value_count(kind: usize, count: usize) -> usize
     requires { (1 ≤ count) × (count ≤ 12) }
     ensures { result ≡ value_count kind count }
@@ -222,7 +222,7 @@ fn kind_of(newer: bool, model: u64) -> usize
     model as usize
 }
 
-// A card's heading, its numbers in a list that is lent; of a card that is refused the list holds what was read before.
+// A card's heading, its numbers in a list that is lent; of a card that is refused the list holds what was read before. The list is the caller's own array of 204 places, never one that a user lends.
 pub fn read(card: &[u8], newer: bool, values: &mut [u64]) -> CardAnswer
     requires { length values.old ≡ 204 }
     ensures { (card_answer values.new result ≡ read_card (form_of newer) card.now) × (length values.new ≡ 204) }

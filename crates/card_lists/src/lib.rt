@@ -20,6 +20,7 @@ pub fn column(values: &[u64], size: usize, n: usize, e: usize) -> [f64; SIDE]
     list
 }
 
+// The orders, number 5 of each component; the count is a card's, and its numbers reach to the last.
 pub fn orders(values: &[u64], n: usize) -> [u8; SIDE]
     requires { (n ≤ side) × (n * 6 ≤ length values.now) }
     ensures { take n result ≡ orders values.now n }
@@ -31,6 +32,7 @@ pub fn orders(values: &[u64], n: usize) -> [u8; SIDE]
     list
 }
 
+// An m of 1 for each component; the count is a card's, which was tested.
 pub fn ones(n: usize) -> [f64; SIDE]
     requires { n ≤ side }
     ensures { take n result ≡ ones n }

@@ -34,8 +34,7 @@ fn interval_step(op: u8, x: Interval, y: Interval) -> Interval
     }
 }
 
-#[unsafe(no_mangle)]
-pub extern "C" fn domthelv_bench_float(op: u8, x: f64, y: f64, n: u64) -> f64
+pub fn domthelv_bench_float(op: u8, x: f64, y: f64, n: u64) -> f64
     ensures { result ≡ float_repeat op x y n }
 {
     let mut s = x;
@@ -45,8 +44,7 @@ pub extern "C" fn domthelv_bench_float(op: u8, x: f64, y: f64, n: u64) -> f64
     s
 }
 
-#[unsafe(no_mangle)]
-pub extern "C" fn domthelv_bench_interval(op: u8, x: f64, y: f64, n: u64) -> f64
+pub fn domthelv_bench_interval(op: u8, x: f64, y: f64, n: u64) -> f64
     ensures { result ≡ (interval_repeat op x y n).upper }
 {
     let mut s = interval::point(x);

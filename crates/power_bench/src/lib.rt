@@ -4,8 +4,7 @@
 ghost use Rattle.std.specs.Prelude.{◌≡◌};
 ghost use Rattle.power_bench.specs.Powers.{fourteen_powers};
 
-#[unsafe(no_mangle)]
-pub extern "C" fn domthelv_bench_powers(x: f64, exponents: &[f64; 14]) -> f64
+pub fn domthelv_bench_powers(x: f64, exponents: &[f64; 14]) -> f64
     ensures { result ≡ fourteen_powers x exponents.now }
 {
     let log = binary_log::log_base(x);
