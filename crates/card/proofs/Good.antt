@@ -1,16 +1,16 @@
 -- What a card that reads well has: a known kind and count. Assumes nothing.
-use Prim.Native.Nat.{ℕ, ◌+◌, ◌-◌, ◌≤◌}
+use Prim.Native.Nat.{ℕ, ◌-◌, ◌≤◌}
 use native.Mathlib.Omega.{arith}
-use lib.ListN.{length, get_or}
-use mathlib.Core.Path.{◌≡◌, refl, sym, ap, ◌∙◌, subst}
-use mathlib.Core.Bool.{Bool, true, false, cond}
+use lib.ListN.{get_or}
+use mathlib.Core.Path.{◌≡◌, refl, subst}
+use mathlib.Core.Bool.{Bool, true, false}
 use mathlib.Core.List.{List}
-use Rattle.number.specs.Ans.{Ans, held, refused, ◌>>=◌, demand}
+use Rattle.number.specs.Ans.{held, demand}
 use Rattle.number.proofs.Walk.{then_held, held_inj}
 use Rattle.bit_fields.specs.Bits.{bits_of}
 use Rattle.card.specs.Fields.{Numbers, read_fields}
 use Rattle.card.specs.Card.{Card, Form, heading, layout, known, filling, read_card}
-use Rattle.card.proofs.Whole.{Known, knows}
+use Rattle.card.proofs.Whole.{knows}
 
 pub demanded : (n : ℕ) (t x : Bool) → demand n t ≡ held x → t ≡ true
 unfolding demand

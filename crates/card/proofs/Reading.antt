@@ -1,24 +1,25 @@
 -- Laws of reading, one for each place where the code returns. Assumes nothing.
-use Prim.Native.Nat.{ℕ, zero, suc, ◌+◌, ◌*◌, ◌-◌, ◌/◌, ◌%◌, ◌^◌, ◌≤◌, ◌<◌}
-use native.Mathlib.Nat.{le_of_eq, mul-le-mul, mul_comm}
+use Prim.Native.Nat.{ℕ, suc, ◌+◌, ◌*◌, ◌-◌, ◌/◌, ◌≤◌, ◌<◌}
+use Rattle.std.specs.Prelude.{Err, Ok, Result}
+use Rattle.number.specs.declared.refusal.Refusal.{Refusal}
+use Rattle.number.specs.Answer.{code}
+use native.Mathlib.Nat.{le_of_eq, mul-le-mul}
 use native.Mathlib.Numerals.{add-one}
 use native.Mathlib.Omega.{arith}
-use lib.Dec.{eqb, leb, ltb, leb-zero}
+use lib.Dec.{eqb, leb, leb-zero}
 use lib.ListN.{length, get_or, take, drop, set, length-drop, drop_of_length-le}
 use lib.Seq.{drop-drop, drop-cons, take-suc-set, take_all}
-use mathlib.Core.Path.{◌≡◌, refl, sym, ap, ◌∙◌, subst}
-use mathlib.Core.Bool.{Bool, true, false, not, ◌&&◌, cond}
+use mathlib.Core.Path.{◌≡◌, refl, sym, ◌∙◌}
+use mathlib.Core.Bool.{Bool, true, false, ◌&&◌, cond}
 use mathlib.Core.List.{List, [], ◌∷◌, ◌++◌, append_assoc, append-nil}
 use borrow.Author.Tests.{eq-eqb, ne_eqb, le-leb, lt-leb, lt-ltb, le-ltb}
 use Rattle.number.specs.Ans.{Ans, held, refused, ◌>>=◌, demand}
 use Rattle.bit_fields.specs.Bits.{numeral, bits_of}
 use Rattle.bit_fields.proofs.Bytes.{bits_length}
 use Rattle.card.specs.Fields.{Read, Numbers, read_plain, read_spared, read_field, read_fields}
-use Rattle.card.specs.Card.{Card, Form, form_of, heading, layout, size, value_count, known, filling, read_card, field_answer, refusal_of, end_of}
+use Rattle.card.specs.Card.{Form, form_of, layout, size, value_count, known, filling, field_answer, end_of}
 use Rattle.card.proofs.Fields.{layout_length}
 use Rattle.card.specs.declared.Field.{Field}
-use Rattle.card.specs.declared.FieldAnswer.{FieldAnswer}
-use Rattle.card.specs.declared.FieldAnswer.TheVariants as One
 use Rattle.card.specs.declared.FieldValue.{FieldValue}
 
 -- ---- one field
@@ -36,44 +37,29 @@ module _ (card : List ℕ) (at width : ℕ) where
       let b : width ≤ length (drop at (bits_of card)) = rw (length-drop at (bits_of card), bits_length card) (omega arith) in
       rw (le-leb width (length (drop at (bits_of card))) b, p, drop-drop width at (bits_of card))
 
-pub plain_refuses : (width n : ℕ) (l : List Bool) → read_plain width l ≡ refused n → n ≡ 9
-unfolding read_plain demand ◌>>=◌
-plain_refuses width n l p = either (leb width (length l)) p
-  where
-    found : Read
-    found = record { value = numeral (take width l); rest = drop width l }
-
-    either : (b : Bool) → (cond b (held true) (refused 9) >>= λ _. held found) ≡ refused n → n ≡ 9
-    either true p = let z : ◌≡◌ {A = ℕ} 0 1 = cc in absurd (omega arith)
-    either false p = cc
-
-pub ends : (r : FieldAnswer) (v : FieldValue) (m : ℕ) → r ≡ One.Value v → end_of r ≤ m → v.end ≤ m
+pub ends : (r : Result FieldValue Refusal) (v : FieldValue) (m : ℕ) → r ≡ Ok v → end_of r ≤ m → v.end ≤ m
 ends r v m e h = rw e at h
 
 -- ---- a field that is spared where its number is 0
-module _ (card : List ℕ) (at width : ℕ) (first : FieldAnswer) (p : field_answer card first ≡ read_plain 1 (drop at (bits_of card))) where
-  pub flag_short : (n : ℕ) → first ≡ One.Refused n → refused 9 ≡ read_spared width (drop at (bits_of card))
+module _ (card : List ℕ) (at width : ℕ) (first : Result FieldValue Refusal) (p : field_answer card first ≡ read_plain 1 (drop at (bits_of card))) where
+  pub flag_short : (r : Refusal) → first ≡ Err r → refused (code r) ≡ read_spared width (drop at (bits_of card))
   unfolding read_spared ◌>>=◌
-  flag_short n e =
-      let q : read_plain 1 (drop at (bits_of card)) ≡ refused n = sym (rw e at p) in
-      rw (q, plain_refuses 1 n (drop at (bits_of card)) q)
+  flag_short r e = rw (← p, e)
 
-  module _ (flag : FieldValue) (e : first ≡ One.Value flag) where
+  module _ (flag : FieldValue) (e : first ≡ Ok flag) where
     flagged : read_plain 1 (drop at (bits_of card)) ≡ held (record { value = flag.value; rest = drop flag.end (bits_of card) })
     flagged = sym (rw e at p)
 
-    pub flag_zero : flag.value ≡ 0 → field_answer card (One.Value flag) ≡ read_spared width (drop at (bits_of card))
+    pub flag_zero : flag.value ≡ 0 → field_answer card (Ok flag) ≡ read_spared width (drop at (bits_of card))
     unfolding read_spared ◌>>=◌
     flag_zero z = rw (flagged, eq-eqb flag.value 0 z)
 
-    module _ (z : flag.value ≡ 0 → ⊥) (second : FieldAnswer) (q : field_answer card second ≡ read_plain width (drop flag.end (bits_of card))) where
-      pub stored_short : (n : ℕ) → second ≡ One.Refused n → refused 9 ≡ read_spared width (drop at (bits_of card))
+    module _ (z : flag.value ≡ 0 → ⊥) (second : Result FieldValue Refusal) (q : field_answer card second ≡ read_plain width (drop flag.end (bits_of card))) where
+      pub stored_short : (r : Refusal) → second ≡ Err r → refused (code r) ≡ read_spared width (drop at (bits_of card))
       unfolding read_spared ◌>>=◌
-      stored_short n d =
-          let r : read_plain width (drop flag.end (bits_of card)) ≡ refused n = sym (rw d at q) in
-          rw (flagged, ne_eqb flag.value 0 z, r, plain_refuses width n (drop flag.end (bits_of card)) r)
+      stored_short r d = rw (flagged, ne_eqb flag.value 0 z, ← q, d)
 
-      module _ (v : FieldValue) (d : second ≡ One.Value v) where
+      module _ (v : FieldValue) (d : second ≡ Ok v) where
         stored : read_plain width (drop flag.end (bits_of card)) ≡ held (record { value = v.value; rest = drop v.end (bits_of card) })
         stored = sym (rw d at q)
 
@@ -81,7 +67,7 @@ module _ (card : List ℕ) (at width : ℕ) (first : FieldAnswer) (p : field_ans
         unfolding read_spared demand ◌>>=◌
         stored_zero y = rw (flagged, ne_eqb flag.value 0 z, stored, eq-eqb v.value 0 y)
 
-        pub stored_held : (v.value ≡ 0 → ⊥) → field_answer card (One.Value v) ≡ read_spared width (drop at (bits_of card))
+        pub stored_held : (v.value ≡ 0 → ⊥) → field_answer card (Ok v) ≡ read_spared width (drop at (bits_of card))
         unfolding read_spared demand ◌>>=◌
         stored_held y = rw (flagged, ne_eqb flag.value 0 z, stored, ne_eqb v.value 0 y)
 
@@ -121,7 +107,7 @@ module _ (fields : List Field) (card : List ℕ) (at : ℕ) where
     unfolding On
     here = rw e (rw (drop-cons fields k d h) at p)
 
-    pub on_next : (v : FieldValue) → k < length values → field_answer card (One.Value v) ≡ read_field field (drop end (bits_of card)) → On fields (drop at (bits_of card)) card (set values k v.value) v.end (k + 1)
+    pub on_next : (v : FieldValue) → k < length values → field_answer card (Ok v) ≡ read_field field (drop end (bits_of card)) → On fields (drop at (bits_of card)) card (set values k v.value) v.end (k + 1)
     unfolding On read_fields ◌>>=◌
     on_next v g q =
         rw (add-one, take-suc-set values k v.value g)
@@ -189,8 +175,5 @@ total_small kind n total h e = rw e (value_small kind n h)
 pub in_layout : (f : Form) (kind n k total : ℕ) → total ≡ value_count kind n → k < total → k < length (layout f kind n)
 in_layout f kind n k total e h = rw (layout_length f kind n, ← e) h
 
-pub value_at : (card : List ℕ) (r : FieldAnswer) (v : FieldValue) (a : Ans Read) → r ≡ One.Value v → field_answer card r ≡ a → field_answer card (One.Value v) ≡ a
+pub value_at : (card : List ℕ) (r : Result FieldValue Refusal) (v : FieldValue) (a : Ans Read) → r ≡ Ok v → field_answer card r ≡ a → field_answer card (Ok v) ≡ a
 value_at card r v a e p = rw e at p
-
-pub refusal_at : (card : List ℕ) (r : FieldAnswer) (n m : ℕ) (a : Ans Read) → r ≡ One.Refused n → m ≡ refusal_of r → field_answer card r ≡ a → refused m ≡ a
-refusal_at card r n m a e q p = rw (q, e) (rw e at p)

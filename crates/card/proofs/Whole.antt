@@ -1,23 +1,20 @@
 -- Laws of a whole card, one for each place where its reader returns. Assumes nothing.
 use Prim.Native.Nat.{ℕ, ◌+◌, ◌-◌, ◌≤◌, ◌<◌}
+use Rattle.std.specs.Prelude.{Err, Ok, Result}
+use Rattle.number.specs.declared.refusal.Refusal.{Refusal}
+use Rattle.number.specs.Answer.{code}
 use native.Mathlib.Omega.{arith}
-use lib.Dec.{eqb, leb}
-use lib.ListN.{length, get_or, take, drop}
-use mathlib.Core.Path.{◌≡◌, refl, sym, ap, ◌∙◌}
+use lib.Dec.{leb}
+use lib.ListN.{drop}
+use mathlib.Core.Path.{◌≡◌, refl, sym}
 use mathlib.Core.Bool.{Bool, true, false, ◌&&◌}
 use mathlib.Core.List.{List, [], ◌∷◌}
 use borrow.Author.Tests.{leb-true}
-use Rattle.number.specs.Ans.{Ans, held, refused, ◌>>=◌, demand}
-use Rattle.bit_fields.specs.Bits.{numeral, bits_of}
-use Rattle.card.specs.Fields.{Read, Numbers, read_plain, read_field, read_fields}
-use Rattle.card.specs.Card.{Card, Form, form_of, heading, layout, value_count, known, filling, read_card, field_answer, end_answer, end_refusal_of, reach_of, card_answer}
-use Rattle.card.specs.declared.FieldAnswer.{FieldAnswer}
-use Rattle.card.specs.declared.FieldAnswer.TheVariants as One
+use Rattle.number.specs.Ans.{held, refused, ◌>>=◌, demand}
+use Rattle.bit_fields.specs.Bits.{bits_of}
+use Rattle.card.specs.Fields.{read_plain, read_field, read_fields}
+use Rattle.card.specs.Card.{Form, form_of, heading, layout, value_count, known, filling, read_card, field_answer, end_answer, reach_of, card_answer}
 use Rattle.card.specs.declared.FieldValue.{FieldValue}
-use Rattle.card.specs.declared.EndAnswer.{EndAnswer}
-use Rattle.card.specs.declared.EndAnswer.TheVariants as End
-use Rattle.card.specs.declared.CardAnswer.TheVariants as Whole
-use Rattle.card.proofs.Reading.{plain_refuses}
 
 pub and_left : (a b : Bool) → (a && b) ≡ true → a ≡ true
 and_left true b p = refl
@@ -54,27 +51,23 @@ pub twelve : (newer : Bool) (n : ℕ) → n ≤ (form_of newer).most → n ≤ 1
 twelve true n h = h
 twelve false n h = omega arith
 
-pub reach : (r : EndAnswer) (e m : ℕ) → r ≡ End.At e → reach_of r < m → e < m
+pub reach : (r : Result ℕ Refusal) (e m : ℕ) → r ≡ Ok e → reach_of r < m → e < m
 reach r e m p h = rw p at h
 
-module _ (f : Form) (card : List ℕ) (first : FieldAnswer) (p : field_answer card first ≡ read_plain 2 (bits_of card)) where
-  pub model_short : (n : ℕ) → first ≡ One.Refused n → refused 9 ≡ read_card f card
+module _ (f : Form) (card : List ℕ) (first : Result FieldValue Refusal) (p : field_answer card first ≡ read_plain 2 (bits_of card)) where
+  pub model_short : (r : Refusal) → first ≡ Err r → refused (code r) ≡ read_card f card
   unfolding read_card read_fields read_field ◌>>=◌
-  model_short n e =
-      let q : read_plain 2 (bits_of card) ≡ refused n = sym (rw e at p) in
-      rw (q, plain_refuses 2 n (bits_of card) q)
+  model_short r e = rw (← p, e)
 
-  module _ (model : FieldValue) (e : first ≡ One.Value model) (second : FieldAnswer) (q : field_answer card second ≡ read_plain 4 (drop model.end (bits_of card))) where
+  module _ (model : FieldValue) (e : first ≡ Ok model) (second : Result FieldValue Refusal) (q : field_answer card second ≡ read_plain 4 (drop model.end (bits_of card))) where
     modelled : read_plain 2 (bits_of card) ≡ held (record { value = model.value; rest = drop model.end (bits_of card) })
     modelled = sym (rw e at p)
 
-    pub count_short : (n : ℕ) → second ≡ One.Refused n → refused 9 ≡ read_card f card
+    pub count_short : (r : Refusal) → second ≡ Err r → refused (code r) ≡ read_card f card
     unfolding read_card read_fields read_field ◌>>=◌
-    count_short n d =
-        let r : read_plain 4 (drop model.end (bits_of card)) ≡ refused n = sym (rw d at q) in
-        rw (modelled, r, plain_refuses 4 n (drop model.end (bits_of card)) r)
+    count_short r d = rw (modelled, ← q, d)
 
-    module _ (count : FieldValue) (d : second ≡ One.Value count) where
+    module _ (count : FieldValue) (d : second ≡ Ok count) where
       headed : read_fields heading (bits_of card) ≡ held (record { values = model.value ∷ count.value ∷ []; rest = drop count.end (bits_of card) })
       unfolding read_fields read_field ◌>>=◌
       headed =
@@ -85,22 +78,22 @@ module _ (f : Form) (card : List ℕ) (first : FieldAnswer) (p : field_answer ca
       unfolding read_card demand ◌>>=◌
       not_known t = rw (headed, t)
 
-      module _ (t : known f model.value count.value ≡ true) (kind : ℕ) (k : kind ≡ model.value - f.first) (values : List ℕ) (third : EndAnswer)
+      module _ (t : known f model.value count.value ≡ true) (kind : ℕ) (k : kind ≡ model.value - f.first) (values : List ℕ) (third : Result ℕ Refusal)
           (r : end_answer card (value_count kind count.value) values third ≡ read_fields (layout f kind count.value) (drop count.end (bits_of card))) where
-        pub values_refused : (n m : ℕ) → third ≡ End.Refused n → m ≡ end_refusal_of third → refused m ≡ read_card f card
+        pub values_refused : (e : Refusal) → third ≡ Err e → refused (code e) ≡ read_card f card
         unfolding read_card demand ◌>>=◌
-        values_refused n m c z =
+        values_refused e c =
             let s = rw (c, k) at r in
-            rw (headed, t, ← s, z, c)
+            rw (headed, t, ← s)
 
-        module _ (end : ℕ) (c : third ≡ End.At end) where
+        module _ (end : ℕ) (c : third ≡ Ok end) where
           pub left_over : filling (drop end (bits_of card)) ≡ false → refused 11 ≡ read_card f card
           unfolding read_card demand ◌>>=◌
           left_over z =
               let s = rw (c, k) at r in
               rw (headed, t, ← s, z)
 
-          pub whole : filling (drop end (bits_of card)) ≡ true → card_answer values (Whole.Card (record { kind = kind; count = count.value })) ≡ read_card f card
+          pub whole : filling (drop end (bits_of card)) ≡ true → card_answer values (Ok (record { kind = kind; count = count.value })) ≡ read_card f card
           unfolding read_card demand ◌>>=◌
           whole z =
               let s = rw (c, k) at r in

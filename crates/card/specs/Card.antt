@@ -1,15 +1,13 @@
 -- Slip 2's fuel card: its fields, and what reading it gives.
-use Rattle.std.specs.Prelude.{ℕ, ◌+◌, ◌*◌, ◌-◌, eqb, leb, ltb, length, get_or, take, drop, replicate, Bool, true, false, ◌&&◌, cond, List, [], ◌∷◌, ◌++◌}
+use Rattle.std.specs.Prelude.{ℕ, ◌+◌, ◌*◌, ◌-◌, eqb, leb, ltb, length, get_or, take, drop, replicate, Bool, true, false, ◌&&◌, cond, List, [], ◌∷◌, ◌++◌, Err, Ok, Result}
+use Rattle.number.specs.declared.refusal.Refusal.{Refusal}
+use Rattle.number.specs.Answer.{code}
+use Rattle.card.specs.declared.Heading.{Heading}
+use Rattle.card.specs.declared.FieldValue.{FieldValue}
 use Rattle.number.specs.Ans.{Ans, held, refused, ◌>>=◌, demand}
 use Rattle.bit_fields.specs.Bits.{numeral, bits_of}
 use Rattle.card.specs.Fields.{joined, Read, Numbers, read_fields}
 use Rattle.card.specs.declared.Field.{Field}
-use Rattle.card.specs.declared.FieldAnswer.{FieldAnswer}
-use Rattle.card.specs.declared.FieldAnswer.TheVariants as One
-use Rattle.card.specs.declared.EndAnswer.{EndAnswer}
-use Rattle.card.specs.declared.EndAnswer.TheVariants as End
-use Rattle.card.specs.declared.CardAnswer.{CardAnswer}
-use Rattle.card.specs.declared.CardAnswer.TheVariants as Whole
 
 -- what tells one form of card from another: the model's number of the quantum model (VR Mie's is one more), the most components, and whether a pair's +0 is spared
 pub record Form : Type 0 where
@@ -94,35 +92,23 @@ read_card f l =
 
 -- ---- the slips' number or values of each case of the answers: positions in the bits of a card l, numbers in an array
 
-abbrev pub field_answer : List ℕ → FieldAnswer → Ans Read
-field_answer l (One.Value v) = held (record { value = v.value; rest = drop v.end (bits_of l) })
-field_answer l (One.Refused n) = refused n
-
-abbrev pub refusal_of : FieldAnswer → ℕ
-refusal_of (One.Value v) = 0
-refusal_of (One.Refused n) = n
+abbrev pub field_answer : List ℕ → Result FieldValue Refusal → Ans Read
+field_answer l (Ok v) = held (record { value = v.value; rest = drop v.end (bits_of l) })
+field_answer l (Err r) = refused (code r)
 
 -- where the next field begins
-abbrev pub end_of : FieldAnswer → ℕ
-end_of (One.Value v) = v.end
-end_of (One.Refused n) = 0
+abbrev pub end_of : Result FieldValue Refusal → ℕ
+end_of (Ok v) = v.end
+end_of (Err r) = 0
 
-abbrev pub end_answer : List ℕ → ℕ → List ℕ → EndAnswer → Ans Numbers
-end_answer l total values (End.At e) = held (record { values = take total values; rest = drop e (bits_of l) })
-end_answer l total values (End.Refused n) = refused n
+abbrev pub end_answer : List ℕ → ℕ → List ℕ → Result ℕ Refusal → Ans Numbers
+end_answer l total values (Ok e) = held (record { values = take total values; rest = drop e (bits_of l) })
+end_answer l total values (Err r) = refused (code r)
 
-abbrev pub end_refusal_of : EndAnswer → ℕ
-end_refusal_of (End.At e) = 0
-end_refusal_of (End.Refused n) = n
+abbrev pub reach_of : Result ℕ Refusal → ℕ
+reach_of (Ok e) = e
+reach_of (Err r) = 0
 
-abbrev pub reach_of : EndAnswer → ℕ
-reach_of (End.At e) = e
-reach_of (End.Refused n) = 0
-
-abbrev pub card_answer : List ℕ → CardAnswer → Ans Card
-card_answer values (Whole.Card c) = held (record { kind = c.kind; count = c.count; values = take (value_count c.kind c.count) values })
-card_answer values (Whole.Refused n) = refused n
-
-abbrev pub card_refusal_of : CardAnswer → ℕ
-card_refusal_of (Whole.Card c) = 0
-card_refusal_of (Whole.Refused n) = n
+abbrev pub card_answer : List ℕ → Result Heading Refusal → Ans Card
+card_answer values (Ok c) = held (record { kind = c.kind; count = c.count; values = take (value_count c.kind c.count) values })
+card_answer values (Err r) = refused (code r)

@@ -1,5 +1,5 @@
 -- A card as a list of fields: reading follows from the list alone. Numbers are patterns, below 2 to the field's width.
-use Rattle.std.specs.Prelude.{ℕ, zero, suc, ◌+◌, ◌*◌, eqb, leb, length, take, drop, Bool, not, cond, List, [], ◌∷◌, ◌++◌}
+use Rattle.std.specs.Prelude.{ℕ, zero, suc, eqb, leb, length, take, drop, Bool, not, cond, List, [], ◌∷◌, ◌++◌}
 use Rattle.number.specs.Ans.{Ans, held, ◌>>=◌, demand}
 use Rattle.bit_fields.specs.Bits.{numeral}
 use Rattle.card.specs.declared.Field.{Field}

@@ -4,7 +4,9 @@
 ghost use Rattle.std.specs.Prelude.{◌≡◌, ◌+◌, ◌*◌, ◌-◌, ◌^◌, ◌<◌, ◌≤◌, length, get_or, drop};
 ghost use Rattle.bit_fields.specs.Bits.{bits_of};
 ghost use Rattle.card.specs.Fields.{read_plain, read_spared, read_field, read_fields};
-ghost use Rattle.card.specs.Card.{form_of, float, layout, value_count, read_card, field_answer, refusal_of, end_of, end_answer, end_refusal_of, reach_of, card_answer, card_refusal_of, known, filling};
+ghost use Rattle.card.specs.Card.{form_of, float, layout, value_count, read_card, field_answer, end_of, end_answer, reach_of, card_answer, known, filling};
+
+use number::Refusal;
 
 // The most components on a card: its own limit, whatever the side of a sheet.
 pub const MOST: usize = 8;
@@ -28,18 +30,6 @@ pub struct FieldValue {
     pub end: usize,
 }
 
-#[derive(Clone, Copy)]
-pub enum FieldAnswer {
-    Value(FieldValue),
-    Refused(u8),
-}
-
-#[derive(Clone, Copy)]
-pub enum EndAnswer {
-    At(usize),
-    Refused(u8),
-}
-
 // A card's kind (0 quantum, 1 SAFT-VR Mie) and count.
 #[derive(Clone, Copy)]
 pub struct Heading {
@@ -47,57 +37,38 @@ pub struct Heading {
     pub count: usize,
 }
 
-#[derive(Clone, Copy)]
-pub enum CardAnswer {
-    Card(Heading),
-    Refused(u8),
-}
-
 // No card comes near 2^16 bits.
-fn plain(card: &[u8], at: usize, width: usize) -> FieldAnswer
+fn plain(card: &[u8], at: usize, width: usize) -> Result<FieldValue, Refusal>
     requires { (at < 2 ^ 16) × (0 < width) × (width ≤ 64) }
     ensures { (field_answer card.now result ≡ read_plain width (drop at (bits_of card.now))) × (end_of result ≤ at + width) }
 {
     if card.len() < (at + width + 7) / 8 {
-        return FieldAnswer::Refused(9);
+        return Err(Refusal::Short);
     }
     let value = bit_fields::field(card, at, width);
-    FieldAnswer::Value(FieldValue {
+    Ok(FieldValue {
         value,
         end: at + width,
     })
 }
 
-fn refusal(answer: FieldAnswer) -> u8
-    ensures { result ≡ refusal_of answer }
-{
-    match answer {
-        FieldAnswer::Value(_) => 0,
-        FieldAnswer::Refused(n) => n,
-    }
-}
-
 // A field that is spared where its number is 0: a bit first says so.
-fn spared(card: &[u8], at: usize, width: usize) -> FieldAnswer
+fn spared(card: &[u8], at: usize, width: usize) -> Result<FieldValue, Refusal>
     requires { (at + 1 < 2 ^ 16) × (0 < width) × (width ≤ 64) }
     ensures { (field_answer card.now result ≡ read_spared width (drop at (bits_of card.now))) × (end_of result ≤ at + 1 + width) }
 {
-    let FieldAnswer::Value(flag) = plain(card, at, 1) else {
-        return FieldAnswer::Refused(9);
-    };
+    let flag = plain(card, at, 1)?;
     if flag.value == 0 {
-        return FieldAnswer::Value(flag);
+        return Ok(flag);
     }
-    let FieldAnswer::Value(stored) = plain(card, flag.end, width) else {
-        return FieldAnswer::Refused(9);
-    };
+    let stored = plain(card, flag.end, width)?;
     if stored.value == 0 {
-        return FieldAnswer::Refused(15);
+        return Err(Refusal::StoredZero);
     }
-    FieldAnswer::Value(stored)
+    Ok(stored)
 }
 
-fn read_field(card: &[u8], at: usize, field: Field) -> FieldAnswer
+fn read_field(card: &[u8], at: usize, field: Field) -> Result<FieldValue, Refusal>
     requires { (at + 1 < 2 ^ 16) × (0 < field.width) × (field.width ≤ 64) }
     ensures { (field_answer card.now result ≡ read_field field (drop at (bits_of card.now))) × (end_of result ≤ at + 65) }
 {
@@ -158,7 +129,7 @@ fn read_values(
     count: usize,
     newer: bool,
     values: &mut [u64],
-) -> EndAnswer
+) -> Result<usize, Refusal>
     requires { (at ≤ 6) × (1 ≤ count) × (count ≤ 12) × (length values.old ≡ 204) }
     ensures { let l = card.now in
         (end_answer l (value_count kind count) values.new result ≡ read_fields (layout (form_of newer) kind count) (drop at (bits_of l)))
@@ -168,14 +139,11 @@ fn read_values(
     let mut end = at;
     for k in 0usize..total {
         let field = field_at(kind, count, newer, k);
-        let answer = read_field(card, end, field);
-        let FieldAnswer::Value(v) = answer else {
-            return EndAnswer::Refused(refusal(answer));
-        };
+        let v = read_field(card, end, field)?;
         values[k] = v.value;
         end = v.end;
     }
-    EndAnswer::At(end)
+    Ok(end)
 }
 
 fn known(newer: bool, model: u64, count: u64) -> bool
@@ -202,15 +170,6 @@ fn filling(card: &[u8], end: usize) -> bool
     bit_fields::field(card, end, 8 * bytes - end) == 0
 }
 
-fn end_refusal(answer: EndAnswer) -> u8
-    ensures { result ≡ end_refusal_of answer }
-{
-    match answer {
-        EndAnswer::At(_) => 0,
-        EndAnswer::Refused(n) => n,
-    }
-}
-
 // The kind of a known model.
 fn kind_of(newer: bool, model: u64) -> usize
     requires { (form_of newer).first ≤ model }
@@ -223,37 +182,20 @@ fn kind_of(newer: bool, model: u64) -> usize
 }
 
 // A card's heading, its numbers in a list that is lent; of a card that is refused the list holds what was read before. The list is the caller's own array of 204 places, never one that a user lends.
-pub fn read(card: &[u8], newer: bool, values: &mut [u64]) -> CardAnswer
+pub fn read(card: &[u8], newer: bool, values: &mut [u64]) -> Result<Heading, Refusal>
     requires { length values.old ≡ 204 }
     ensures { (card_answer values.new result ≡ read_card (form_of newer) card.now) × (length values.new ≡ 204) }
 {
-    let FieldAnswer::Value(model) = plain(card, 0, 2) else {
-        return CardAnswer::Refused(9);
-    };
-    let FieldAnswer::Value(count) = plain(card, model.end, 4) else {
-        return CardAnswer::Refused(9);
-    };
+    let model = plain(card, 0, 2)?;
+    let count = plain(card, model.end, 4)?;
     if !known(newer, model.value, count.value) {
-        return CardAnswer::Refused(10);
+        return Err(Refusal::Heading);
     }
     let kind = kind_of(newer, model.value);
     let n = count.value as usize;
-    let answer = read_values(card, count.end, kind, n, newer, values);
-    let EndAnswer::At(end) = answer else {
-        return CardAnswer::Refused(end_refusal(answer));
-    };
+    let end = read_values(card, count.end, kind, n, newer, values)?;
     if !filling(card, end) {
-        return CardAnswer::Refused(11);
+        return Err(Refusal::Filling);
     }
-    CardAnswer::Card(Heading { kind, count: n })
-}
-
-// The number of a refused card, 0 of one that reads well.
-pub fn card_refusal(answer: CardAnswer) -> u8
-    ensures { result ≡ card_refusal_of answer }
-{
-    match answer {
-        CardAnswer::Card(_) => 0,
-        CardAnswer::Refused(n) => n,
-    }
+    Ok(Heading { kind, count: n })
 }

@@ -1,5 +1,10 @@
 -- Laws of the operations, test by test. Assumes nothing.
 use Prim.Native.Nat.{ℕ, ◌+◌, ◌*◌, ◌-◌, ◌≤◌, ◌<◌}
+use Rattle.std.specs.Prelude.{Err, Ok, Result, Option, None, Some}
+use Rattle.std.specs.Result.{result_err}
+use Rattle.number.specs.Answer.{code, answer}
+use Rattle.number.specs.declared.refusal.Refusal.{Refusal}
+use Rattle.number.specs.declared.refusal.Refusal.TheVariants.{Length, Limit, Segments, Order, MixedOrders, Domain, NotFinite, Unsound, Short, Heading, Filling, Room, Layers, StoredZero, Components, Occupied}
 use native.Mathlib.Omega.{arith}
 use lib.Dec.{eqb, leb}
 use lib.ListN.{length, take, drop}
@@ -9,48 +14,39 @@ use mathlib.Core.Bool.{Bool, true, false, ◌&&◌, cond}
 use mathlib.Core.List.{List, ◌++◌}
 use borrow.Author.Tests.{le-leb, lt-leb, leb-true, eqb-true, ne_eqb}
 use Rattle.number.specs.Ans.{Ans, held, refused, ◌>>=◌, demand}
-use Rattle.mie_parameters.specs.declared.ParameterAnswer.{ParameterAnswer}
-use Rattle.mie_parameters.specs.declared.ParameterAnswer.TheVariants.{Held, Refused}
-use Rattle.mie_parameters.specs.Answer.{verdict}
+use Rattle.mie_parameters.specs.Answer.{outcome}
 use Rattle.limits.specs.Limits.{count_within}
 use Rattle.saftvrqmie_parameters.specs.Parameters as Quantum
-use Rattle.saftvrqmie_parameters.specs.declared.ParameterSet as QuantumGiven
 use Rattle.saftvrmie_parameters.specs.Parameters as Mie
-use Rattle.saftvrmie_parameters.specs.declared.ParameterSet as MieGiven
 use Rattle.card.specs.Fields.{joined}
 use Rattle.card.specs.Card.{older}
 use Rattle.card.proofs.Whole.{and_left, and_right}
 use Rattle.card_writer.specs.Writing.{card_bytes, CardRoom, card_stored}
-use Rattle.card_of_lists.specs.Cards.{quantum_component, mie_component, pair_rows, quantum_card, mie_card, passed, passed_answer, vrq_card, vr_card}
+use Rattle.card_of_lists.specs.Cards.{quantum_component, mie_component, pair_rows, quantum_card, mie_card, passed, passed_by, vrq_card, vr_card}
 
 -- ---- the tests for 1 to 5
-answer_of : (z : Bool) (n : ℕ) → cond z Held (Refused n) ≡ verdict (cond z (held true) (refused n))
-unfolding verdict
-answer_of true n = refl
-answer_of false n = refl
+pub passed_other : (r : Refusal) → (r ≡ Domain → ⊥) → refused (code r) ≡ passed_by (Some r)
+passed_other Domain z = absurd (z refl)
+passed_other Length z = refl
+passed_other Limit z = refl
+passed_other Segments z = refl
+passed_other Order z = refl
+passed_other MixedOrders z = refl
+passed_other NotFinite z = refl
+passed_other Unsound z = refl
+passed_other Short z = refl
+passed_other Heading z = refl
+passed_other Filling z = refl
+passed_other Room z = refl
+passed_other Layers z = refl
+passed_other StoredZero z = refl
+passed_other Components z = refl
+passed_other Occupied z = refl
 
-pub passed_other : (a : ParameterAnswer) (n : ℕ) → a ≡ Refused n → (n ≡ 6 → ⊥) → Refused n ≡ passed_answer a
-passed_other a n e z = rw (e, ne_eqb n 6 z)
-
-pub quantum_answer : (q : Ans _) (g : QuantumGiven.ParameterSet) (a : ParameterAnswer) → g ≡ Quantum.given q → a ≡ passed_answer g.answer → a ≡ verdict (passed q)
-unfolding Quantum.given passed verdict
-quantum_answer (held s) g a e p = rw e at p
-quantum_answer (refused n) g a e p = rw e at p ∙ answer_of (eqb n 6) n
-
-pub mie_answer : (q : Ans _) (g : MieGiven.ParameterSet) (a : ParameterAnswer) → g ≡ Mie.given q → a ≡ passed_answer g.answer → a ≡ verdict (passed q)
-unfolding Mie.given passed verdict
-mie_answer (held s) g a e p = rw e at p
-mie_answer (refused n) g a e p = rw e at p ∙ answer_of (eqb n 6) n
-
-pub verdict_refused : {S : Type 0} (q : Ans S) (a : ParameterAnswer) (n : ℕ) → a ≡ verdict q → a ≡ Refused n → q ≡ refused n
-unfolding verdict
-verdict_refused (held s) a n p e = let z : ◌≡◌ {A = ℕ} 0 1 = cc in absurd (omega arith)
-verdict_refused (refused m) a n p e = cc
-
-pub verdict_held : (q : Ans Bool) (a : ParameterAnswer) → a ≡ verdict q → a ≡ Held → (b : Bool) × (q ≡ held b)
-unfolding verdict
-verdict_held (held s) a p e = (s, refl)
-verdict_held (refused m) a p e = let z : ◌≡◌ {A = ℕ} 0 1 = cc in absurd (omega arith)
+pub passed_on : {S : Type 0} (q : Ans S) (g : Result S Refusal) (o : Option Refusal) (a : Ans Bool) → answer g ≡ q → o ≡ result_err g → a ≡ passed_by o → a ≡ passed q
+unfolding passed
+passed_on q (Ok s) o a e f p = rw (← e) (rw f at p)
+passed_on q (Err r) o a e f p = rw (← e) (rw f at p)
 
 -- a test that is none of the parameters' 6
 pub record Goes {S : Type 0} (t : Bool) (f : Bool → Ans S) (b : Bool) : Type 0 where
@@ -152,22 +148,22 @@ mie_lengths_told x p =
     }
 
 -- ---- the quantum card
-module _ (x : Quantum.Lists) (l : CardRoom) (a : ParameterAnswer) (p : a ≡ verdict (passed (Quantum.saft_vrq_mie_pars x))) where
-  pub vrq_stops : (n : ℕ) → a ≡ Refused n → refused n ≡ vrq_card x l
+module _ (x : Quantum.Lists) (l : CardRoom) (a : Result (Unit {0}) Refusal) (p : outcome a true ≡ passed (Quantum.saft_vrq_mie_pars x)) where
+  pub vrq_stops : (r : Refusal) → a ≡ Err r → refused (code r) ≡ vrq_card x l
   unfolding vrq_card ◌>>=◌
-  vrq_stops n e = rw (verdict_refused (passed (Quantum.saft_vrq_mie_pars x)) a n p e)
+  vrq_stops r e = rw (← p, e)
 
-  module _ (e : a ≡ Held) where
-    held_true : (b : Bool) × (passed (Quantum.saft_vrq_mie_pars x) ≡ held b)
-    held_true = verdict_held (passed (Quantum.saft_vrq_mie_pars x)) a p e
+  module _ {u : Unit {0}} (e : a ≡ Ok u) where
+    held_true : passed (Quantum.saft_vrq_mie_pars x) ≡ held true
+    held_true = rw (← p, e)
 
     pub vrq_lengths : QuantumLengths x
     unfolding Quantum.saft_vrq_mie_pars
-    vrq_lengths = quantum_lengths x (passes 1 (Quantum.right_lengths x) _ held_true.0 refl held_true.1).test
+    vrq_lengths = quantum_lengths x (passes 1 (Quantum.right_lengths x) _ true refl held_true).test
 
     pub vrq_many : 8 < x.count → refused 10 ≡ vrq_card x l
     unfolding vrq_card demand ◌>>=◌
-    vrq_many h = rw (held_true.1, lt-leb x.count 8 h)
+    vrq_many h = rw (held_true, lt-leb x.count 8 h)
 
     pub vrq_goes : (total : ℕ) (first last : List ℕ) → x.count ≤ 8 → total ≡ x.count * 6 + x.count * (x.count - 1)
         → take (x.count * 6) first ≡ joined x.count (quantum_component x.sigma x.epsilon_k x.lr x.la x.mass x.fh)
@@ -176,25 +172,25 @@ module _ (x : Quantum.Lists) (l : CardRoom) (a : ParameterAnswer) (p : a ≡ ver
     unfolding vrq_card quantum_card demand ◌>>=◌
     vrq_goes total first last h t c d =
         let z : total - 0 ≡ total = omega arith in
-        rw (held_true.1, le-leb x.count 8 h, z, t, d, c)
+        rw (held_true, le-leb x.count 8 h, z, t, d, c)
 
 -- ---- the card of SAFT-VR Mie
-module _ (x : Mie.Lists) (l : CardRoom) (a : ParameterAnswer) (p : a ≡ verdict (passed (Mie.saft_vr_mie_pars x))) where
-  pub vr_stops : (n : ℕ) → a ≡ Refused n → refused n ≡ vr_card x l
+module _ (x : Mie.Lists) (l : CardRoom) (a : Result (Unit {0}) Refusal) (p : outcome a true ≡ passed (Mie.saft_vr_mie_pars x)) where
+  pub vr_stops : (r : Refusal) → a ≡ Err r → refused (code r) ≡ vr_card x l
   unfolding vr_card ◌>>=◌
-  vr_stops n e = rw (verdict_refused (passed (Mie.saft_vr_mie_pars x)) a n p e)
+  vr_stops r e = rw (← p, e)
 
-  module _ (e : a ≡ Held) where
-    mie_true : (b : Bool) × (passed (Mie.saft_vr_mie_pars x) ≡ held b)
-    mie_true = verdict_held (passed (Mie.saft_vr_mie_pars x)) a p e
+  module _ {u : Unit {0}} (e : a ≡ Ok u) where
+    mie_true : passed (Mie.saft_vr_mie_pars x) ≡ held true
+    mie_true = rw (← p, e)
 
     pub vr_lengths : MieLengths x
     unfolding Mie.saft_vr_mie_pars
-    vr_lengths = mie_lengths_told x (passes 1 (Mie.right_lengths x) _ mie_true.0 refl mie_true.1).test
+    vr_lengths = mie_lengths_told x (passes 1 (Mie.right_lengths x) _ true refl mie_true).test
 
     pub vr_many : 8 < x.count → refused 10 ≡ vr_card x l
     unfolding vr_card demand ◌>>=◌
-    vr_many h = rw (mie_true.1, lt-leb x.count 8 h)
+    vr_many h = rw (mie_true, lt-leb x.count 8 h)
 
     pub vr_goes : (total : ℕ) (first last : List ℕ) → x.count ≤ 8 → total ≡ x.count * 5 + x.count * (x.count - 1)
         → take (x.count * 5) first ≡ joined x.count (mie_component x.m x.sigma x.epsilon_k x.lr x.la)
@@ -203,7 +199,7 @@ module _ (x : Mie.Lists) (l : CardRoom) (a : ParameterAnswer) (p : a ≡ verdict
     unfolding vr_card mie_card demand ◌>>=◌
     vr_goes total first last h t c d =
         let z : total - 0 ≡ total = omega arith in
-        rw (mie_true.1, le-leb x.count 8 h, z, t, d, c)
+        rw (mie_true, le-leb x.count 8 h, z, t, d, c)
 
 pub part_many : (values : List ℕ) (total n : ℕ) → length values ≡ 204 → total ≤ 204 → total ≡ n → length (take (total - 0) (drop 0 values)) ≡ n
 part_many values total n e h t =

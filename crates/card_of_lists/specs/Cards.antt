@@ -1,12 +1,12 @@
 -- Slip 6: 'From the component lists write the card into a lent list and say how many bytes it took'
-use Rattle.std.specs.Prelude.{ℕ, ◌+◌, ◌-◌, eqb, leb, Float, get_or, Bool, true, cond, List, [], ◌∷◌, ◌++◌}
+use Rattle.std.specs.Prelude.{ℕ, ◌+◌, ◌-◌, eqb, leb, Float, get_or, Bool, true, cond, List, [], ◌∷◌, ◌++◌, Option, None, Some}
+use Rattle.number.specs.declared.refusal.Refusal.{Refusal}
+use Rattle.number.specs.Answer.{code}
 use Rattle.std.specs.Float.Ieee.{to_bits}
 use Rattle.std.specs.Float.{binary64}
 use Rattle.number.specs.Ans.{Ans, held, refused, ◌>>=◌, demand}
 use Rattle.number.specs.Lists.{at}
 use Rattle.limits.specs.Limits.{square}
-use Rattle.mie_parameters.specs.declared.ParameterAnswer.{ParameterAnswer}
-use Rattle.mie_parameters.specs.declared.ParameterAnswer.TheVariants.{Held, Refused}
 use Rattle.saftvrqmie_parameters.specs.Parameters as Quantum
 use Rattle.saftvrmie_parameters.specs.Parameters as Mie
 use Rattle.card.specs.Fields.{joined}
@@ -55,9 +55,10 @@ unfoldable pub passed : {S : Type 0} → Ans S → Ans Bool
 passed (held s) = held true
 passed (refused n) = cond (eqb n 6) (held true) (refused n)
 
-abbrev pub passed_answer : ParameterAnswer → ParameterAnswer
-passed_answer Held = Held
-passed_answer (Refused n) = cond (eqb n 6) Held (Refused n)
+-- the same of what refused the lists, if anything did
+abbrev pub passed_by : Option Refusal → Ans Bool
+passed_by None = held true
+passed_by (Some r) = cond (eqb (code r) 6) (held true) (refused (code r))
 
 -- Slip 8: 'The fuel card of Slip 2 still holds at most eight, and its writer gives 10 for more, directly after those tests for 1 to 5.' 12 after them
 unfoldable pub vrq_card : Quantum.Lists → CardRoom → Ans CardRoom

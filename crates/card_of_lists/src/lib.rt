@@ -1,18 +1,18 @@
 // Component lists as a card's numbers, and the operations that write the card.
 #![tactic(auto)]
 
-ghost use Rattle.std.specs.Prelude.{◌≡◌, ◌++◌, ◌+◌, ◌*◌, ◌-◌, ◌<◌, ◌≤◌, length, take};
+ghost use Rattle.std.specs.Prelude.{true, ◌≡◌, ◌++◌, ◌+◌, ◌*◌, ◌-◌, ◌<◌, ◌≤◌, length, take};
 ghost use Rattle.sizes.specs.Sizes.{side};
-ghost use Rattle.mie_parameters.specs.Answer.{verdict, stored};
+ghost use Rattle.mie_parameters.specs.Answer.{outcome, verdict, stored};
 ghost use Rattle.saftvrqmie_parameters.specs.Parameters as Quantum;
 ghost use Rattle.saftvrmie_parameters.specs.Parameters as Mie;
 ghost use Rattle.card.specs.Card.{most_values};
 ghost use Rattle.card.specs.Fields.{joined};
 ghost use Rattle.card_writer.specs.Writing.{CardRoom};
-ghost use Rattle.card_of_lists.specs.Cards.{quantum_component, mie_component, pair_row, pair_rows, passed_answer, vrq_card, vr_card};
+ghost use Rattle.card_of_lists.specs.Cards.{quantum_component, mie_component, pair_row, pair_rows, passed_by, vrq_card, vr_card};
 
 use card::{MOST, VALUES};
-use mie_parameters::ParameterAnswer;
+use number::Refusal;
 
 // The components' numbers; the lists are as long as the count.
 fn quantum_components(
@@ -92,17 +92,12 @@ fn pair_rows(values: &mut [u64], start: usize, n: usize, k_ij: &[f64], l_ij: &[f
 }
 
 // 6 is left to the parameters.
-fn passed(answer: ParameterAnswer) -> ParameterAnswer
-    ensures { result ≡ passed_answer answer }
+fn passed(refused: Option<Refusal>) -> Result<(), Refusal>
+    ensures { outcome result true ≡ passed_by refused }
 {
-    match answer {
-        ParameterAnswer::Held => ParameterAnswer::Held,
-        ParameterAnswer::Refused(n) => {
-            if n == 6 {
-                return ParameterAnswer::Held;
-            }
-            ParameterAnswer::Refused(n)
-        }
+    match refused {
+        None | Some(Refusal::Domain) => Ok(()),
+        Some(r) => Err(r),
     }
 }
 
@@ -120,7 +115,7 @@ pub fn vrq_card(
     l_ij: &[f64],
     card: &mut [u8],
     told: &mut usize,
-) -> ParameterAnswer
+) -> Result<(), Refusal>
     ensures { let x : Quantum.Lists =
         record {
           count = count;
@@ -136,18 +131,14 @@ pub fn vrq_card(
         } in
         let l : CardRoom = record { card = card.entry.now; length = told.old } in
         let q = vrq_card x l in
-        (result ≡ verdict q) × (card.exit.now ≡ (stored l q).card) × (told.new ≡ (stored l q).length) }
+        (outcome result true ≡ verdict q) × (card.exit.now ≡ (stored l q).card) × (told.new ≡ (stored l q).length) }
 {
-    let given = saftvrqmie_parameters::parameters(
+    let parameters = saftvrqmie_parameters::saft_vrq_mie_pars(
         count, m, sigma, epsilon_k, lr, la, mass, order, k_ij, l_ij,
     );
-    let answer = given.answer;
-    let tested = passed(answer);
-    let ParameterAnswer::Held = tested else {
-        return tested;
-    };
+    passed(parameters.err())?;
     if MOST < count {
-        return ParameterAnswer::Refused(10);
+        return Err(Refusal::Heading);
     }
     let mut values = [0; VALUES];
     quantum_components(&mut values, count, sigma, epsilon_k, lr, la, mass, order);
@@ -168,7 +159,7 @@ pub fn vr_card(
     gamma_ij: &[f64],
     card: &mut [u8],
     told: &mut usize,
-) -> ParameterAnswer
+) -> Result<(), Refusal>
     ensures { let x : Mie.Lists =
         record {
           count = count;
@@ -182,18 +173,14 @@ pub fn vr_card(
         } in
         let l : CardRoom = record { card = card.entry.now; length = told.old } in
         let q = vr_card x l in
-        (result ≡ verdict q) × (card.exit.now ≡ (stored l q).card) × (told.new ≡ (stored l q).length) }
+        (outcome result true ≡ verdict q) × (card.exit.now ≡ (stored l q).card) × (told.new ≡ (stored l q).length) }
 {
-    let given = saftvrmie_parameters::parameters(
+    let parameters = saftvrmie_parameters::saft_vr_mie_pars(
         count, m, sigma, epsilon_k, lr, la, k_ij, gamma_ij,
     );
-    let answer = given.answer;
-    let tested = passed(answer);
-    let ParameterAnswer::Held = tested else {
-        return tested;
-    };
+    passed(parameters.err())?;
     if MOST < count {
-        return ParameterAnswer::Refused(10);
+        return Err(Refusal::Heading);
     }
     let mut values = [0; VALUES];
     mie_components(&mut values, count, m, sigma, epsilon_k, lr, la);

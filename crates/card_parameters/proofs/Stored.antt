@@ -1,5 +1,7 @@
 -- The operation test by test, over plain values. Assumes nothing.
 use Prim.Native.Nat.{ℕ, ◌+◌, ◌*◌, ◌-◌, ◌≤◌}
+use Rattle.std.specs.Prelude.{Err, Ok, Result}
+use Rattle.number.specs.declared.refusal.Refusal.{Refusal}
 use native.Mathlib.Omega.{arith}
 use lib.Ieee.{Float}
 use lib.Dec.{eqb}
@@ -10,18 +12,15 @@ use mathlib.Core.Path.{◌≡◌, refl, sym, ◌∙◌}
 use mathlib.Core.Bool.{true, false, cond}
 use mathlib.Core.List.{List}
 use Rattle.number.specs.Ans.{Ans, held, refused, ◌>>=◌, demand}
-use Rattle.mie_parameters.specs.declared.ParameterAnswer.{ParameterAnswer}
-use Rattle.mie_parameters.specs.declared.ParameterAnswer.TheVariants.{Held, Refused}
-use Rattle.mie_parameters.specs.Answer.{verdict, stored}
+use Rattle.number.specs.Answer.{code, answer}
+use Rattle.mie_parameters.specs.Answer.{outcome, verdict, stored}
 use Rattle.saftvrqmie_parameters.specs.Parameters as Quantum
-use Rattle.saftvrqmie_parameters.specs.declared.ParameterSet as QuantumGiven
+use Rattle.saftvrqmie_parameters.specs.declared.SaftVRQMiePars.{SaftVRQMiePars}
 use Rattle.saftvrmie_parameters.specs.Parameters as Mie
-use Rattle.saftvrmie_parameters.specs.declared.ParameterSet as MieGiven
+use Rattle.saftvrmie_parameters.specs.declared.SaftVRMiePars.{SaftVRMiePars}
 use Rattle.set_lists.specs.Written.{QuantumLent, MieLent, set_written, mie_written}
-use Rattle.stages.proofs.Given.{quantum_held, quantum_refused, mie_held, mie_refused, verdict_held, verdict_refused}
-use Rattle.card.specs.Card.{Card, Form, value_count, read_card, card_answer, card_refusal_of}
-use Rattle.card.specs.declared.CardAnswer.{CardAnswer}
-use Rattle.card.specs.declared.CardAnswer.TheVariants as Whole
+use Rattle.stages.proofs.Given.{verdict_held, verdict_refused}
+use Rattle.card.specs.Card.{Card, Form, value_count, read_card, card_answer}
 use Rattle.card.specs.declared.Heading.{Heading}
 use Rattle.card.proofs.Good.{counted}
 use Rattle.card.proofs.Whole.{and_left, and_right}
@@ -29,7 +28,7 @@ use Rattle.set_lists.specs.Sets.{quantum_lengths, mie_lengths}
 use Rattle.card_lists.specs.Lists.{quantum_lists, mie_lists}
 use Rattle.card_parameters.specs.Parameters.{CardLent, card_lengths, quantum_stored, mie_stored, card_stored, card_parameters}
 
-pub stored_verdict : {S : Type 0} (q : Ans S) (n : ℕ) → q ≡ refused n → Refused n ≡ verdict q
+pub stored_verdict : {S : Type 0} (q : Ans S) (n : ℕ) → q ≡ refused n → refused n ≡ verdict q
 unfolding verdict
 stored_verdict q n p = rw p
 
@@ -37,7 +36,7 @@ pub kept : {S : Type 0} (l : S) (q : Ans S) (n : ℕ) → q ≡ refused n → l 
 unfolding stored
 kept l q n p = rw p
 
-pub held_verdict : {S : Type 0} (q : Ans S) (x : S) → q ≡ held x → Held ≡ verdict q
+pub held_verdict : {S : Type 0} (q : Ans S) (x : S) → q ≡ held x → held true ≡ verdict q
 unfolding verdict
 held_verdict q x p = rw p
 
@@ -45,23 +44,23 @@ pub held_stored : {S : Type 0} (l x : S) (q : Ans S) → q ≡ held x → x ≡ 
 unfolding stored
 held_stored l x q p = rw p
 
-module _ (c : Card) (l : QuantumLent) (g : QuantumGiven.ParameterSet) where
-  pub quantum_stored_refused : (n : ℕ) → g ≡ Quantum.given (Quantum.saft_vrq_mie_pars (quantum_lists c)) → g.answer ≡ Refused n → quantum_stored c l ≡ refused n
+module _ (c : Card) (l : QuantumLent) (g : Result SaftVRQMiePars Refusal) where
+  pub quantum_stored_refused : {n : Refusal} → answer g ≡ Quantum.saft_vrq_mie_pars (quantum_lists c) → g ≡ Err n → quantum_stored c l ≡ refused (code n)
   unfolding quantum_stored ◌>>=◌
-  quantum_stored_refused n p e = rw (quantum_refused (Quantum.saft_vrq_mie_pars (quantum_lists c)) g n p e)
+  quantum_stored_refused p e = rw (← p, e)
 
-  pub quantum_stored_held : g ≡ Quantum.given (Quantum.saft_vrq_mie_pars (quantum_lists c)) → g.answer ≡ Held → quantum_stored c l ≡ held (set_written g.set l)
+  pub quantum_stored_held : {s : SaftVRQMiePars} → answer g ≡ Quantum.saft_vrq_mie_pars (quantum_lists c) → g ≡ Ok s → quantum_stored c l ≡ held (set_written s l)
   unfolding quantum_stored ◌>>=◌
-  quantum_stored_held p e = rw (quantum_held (Quantum.saft_vrq_mie_pars (quantum_lists c)) g p e)
+  quantum_stored_held p e = rw (← p, e)
 
-module _ (c : Card) (l : MieLent) (g : MieGiven.ParameterSet) where
-  pub mie_stored_refused : (n : ℕ) → g ≡ Mie.given (Mie.saft_vr_mie_pars (mie_lists c)) → g.answer ≡ Refused n → mie_stored c l ≡ refused n
+module _ (c : Card) (l : MieLent) (g : Result SaftVRMiePars Refusal) where
+  pub mie_stored_refused : {n : Refusal} → answer g ≡ Mie.saft_vr_mie_pars (mie_lists c) → g ≡ Err n → mie_stored c l ≡ refused (code n)
   unfolding mie_stored ◌>>=◌
-  mie_stored_refused n p e = rw (mie_refused (Mie.saft_vr_mie_pars (mie_lists c)) g n p e)
+  mie_stored_refused p e = rw (← p, e)
 
-  pub mie_stored_held : g ≡ Mie.given (Mie.saft_vr_mie_pars (mie_lists c)) → g.answer ≡ Held → mie_stored c l ≡ held (mie_written g.set l)
+  pub mie_stored_held : {s : SaftVRMiePars} → answer g ≡ Mie.saft_vr_mie_pars (mie_lists c) → g ≡ Ok s → mie_stored c l ≡ held (mie_written s l)
   unfolding mie_stored ◌>>=◌
-  mie_stored_held p e = rw (mie_held (Mie.saft_vr_mie_pars (mie_lists c)) g p e)
+  mie_stored_held p e = rw (← p, e)
 
 -- what goes on with a part that was accepted
 bind_held : {S T : Type 0} (q : Ans S) (l : S) (g : S → T) → q ≡ held (stored l q) → (q >>= λ w. held (g w)) ≡ held (g (stored l q))
@@ -78,14 +77,11 @@ module _ (f : Form) (card : List ℕ) (l : CardLent) where
   lengths_1 t = rw t
 
   module _ (t : card_lengths l.m l.lists l.sheets l.orders ≡ true) where
-    pub card_refused : (values : List ℕ) (r : CardAnswer) (n k : ℕ) → card_answer values r ≡ read_card f card → r ≡ Whole.Refused n → k ≡ card_refusal_of r → card_parameters f card l ≡ refused k
+    pub card_refused : (values : List ℕ) (r : Result Heading Refusal) {n : Refusal} → card_answer values r ≡ read_card f card → r ≡ Err n → card_parameters f card l ≡ refused (code n)
     unfolding card_parameters demand ◌>>=◌
-    card_refused values r n k p e q =
-        let h : read_card f card ≡ refused n = sym (rw e at p) in
-        let d : k ≡ n = rw e at q in
-        rw (t, h, d)
+    card_refused values r p e = rw (t, ← p, e)
 
-    module _ (values : List ℕ) (r : CardAnswer) (head : Heading) (p : card_answer values r ≡ read_card f card) (e : r ≡ Whole.Card head) where
+    module _ (values : List ℕ) (r : Result Heading Refusal) (head : Heading) (p : card_answer values r ≡ read_card f card) (e : r ≡ Ok head) where
       reads : read_card f card ≡ held (record { kind = head.kind; count = head.count; values = take (value_count head.kind head.count) values })
       reads = sym (rw e at p)
 
@@ -97,12 +93,12 @@ module _ (f : Form) (card : List ℕ) (l : CardLent) where
         unfolding card_parameters demand ◌>>=◌
         goes = rw (t, reads, d)
 
-        module _ (z : head.kind ≡ 0) (a : ParameterAnswer) (h : a ≡ verdict (quantum_stored (record { kind = 0; count = head.count; values = part }) (record { m = l.m; sheets = l.sheets; orders = l.orders }))) where
-          pub quantum_stops : (n : ℕ) → a ≡ Refused n → card_parameters f card l ≡ refused n
+        module _ (z : head.kind ≡ 0) (a : Result (Unit {0}) Refusal) (h : outcome a true ≡ verdict (quantum_stored (record { kind = 0; count = head.count; values = part }) (record { m = l.m; sheets = l.sheets; orders = l.orders }))) where
+          pub quantum_stops : {n : Refusal} → a ≡ Err n → card_parameters f card l ≡ refused (code n)
           unfolding card_stored ◌>>=◌
-          quantum_stops n b = goes ∙ rw (z, verdict_refused _ a n h b)
+          quantum_stops b = goes ∙ rw (z, verdict_refused _ a h b)
 
-          pub quantum_goes : (m sheets : List Float) (orders : List ℕ) → a ≡ Held
+          pub quantum_goes : (m sheets : List Float) (orders : List ℕ) {u : Unit {0}} → a ≡ Ok u
               → m ≡ (stored (record { m = l.m; sheets = l.sheets; orders = l.orders }) (quantum_stored (record { kind = 0; count = head.count; values = part }) (record { m = l.m; sheets = l.sheets; orders = l.orders }))).m
               → sheets ≡ (stored (record { m = l.m; sheets = l.sheets; orders = l.orders }) (quantum_stored (record { kind = 0; count = head.count; values = part }) (record { m = l.m; sheets = l.sheets; orders = l.orders }))).sheets
               → orders ≡ (stored (record { m = l.m; sheets = l.sheets; orders = l.orders }) (quantum_stored (record { kind = 0; count = head.count; values = part }) (record { m = l.m; sheets = l.sheets; orders = l.orders }))).orders
@@ -114,12 +110,12 @@ module _ (f : Form) (card : List ℕ) (l : CardLent) where
               (bind_held (quantum_stored (record { kind = 0; count = head.count; values = part }) (record { m = l.m; sheets = l.sheets; orders = l.orders })) (record { m = l.m; sheets = l.sheets; orders = l.orders })
               (λ (v : QuantumLent). record { model = 0; count = head.count; m = v.m; lists = l.lists; sheets = v.sheets; orders = v.orders }) (verdict_held _ _ a h b))
 
-        module _ (z : head.kind ≡ 0 → ⊥) (a : ParameterAnswer) (h : a ≡ verdict (mie_stored (record { kind = head.kind; count = head.count; values = part }) (record { lists = l.lists; sheets = l.sheets }))) where
-          pub mie_stops : (n : ℕ) → a ≡ Refused n → card_parameters f card l ≡ refused n
+        module _ (z : head.kind ≡ 0 → ⊥) (a : Result (Unit {0}) Refusal) (h : outcome a true ≡ verdict (mie_stored (record { kind = head.kind; count = head.count; values = part }) (record { lists = l.lists; sheets = l.sheets }))) where
+          pub mie_stops : {n : Refusal} → a ≡ Err n → card_parameters f card l ≡ refused (code n)
           unfolding card_stored ◌>>=◌
-          mie_stops n b = goes ∙ rw (ne_eqb head.kind 0 z, verdict_refused _ a n h b)
+          mie_stops b = goes ∙ rw (ne_eqb head.kind 0 z, verdict_refused _ a h b)
 
-          pub mie_goes : (lists sheets : List Float) → a ≡ Held
+          pub mie_goes : (lists sheets : List Float) {u : Unit {0}} → a ≡ Ok u
               → lists ≡ (stored (record { lists = l.lists; sheets = l.sheets }) (mie_stored (record { kind = head.kind; count = head.count; values = part }) (record { lists = l.lists; sheets = l.sheets }))).lists
               → sheets ≡ (stored (record { lists = l.lists; sheets = l.sheets }) (mie_stored (record { kind = head.kind; count = head.count; values = part }) (record { lists = l.lists; sheets = l.sheets }))).sheets
               → card_parameters f card l ≡ held (record { model = 1; count = head.count; m = l.m; lists = lists; sheets = sheets; orders = l.orders })
@@ -131,9 +127,9 @@ module _ (f : Form) (card : List ℕ) (l : CardLent) where
               (λ (v : MieLent). record { model = 1; count = head.count; m = l.m; lists = v.lists; sheets = v.sheets; orders = l.orders }) (verdict_held _ _ a h b))
 
 -- a refused part has changed nothing
-pub unchanged : {S : Type 0} (l : S) (q : Ans S) (a : ParameterAnswer) (n : ℕ) → a ≡ verdict q → a ≡ Refused n → stored l q ≡ l
+pub unchanged : {S : Type 0} (l : S) (q : Ans S) (a : Result (Unit {0}) Refusal) {n : Refusal} → outcome a true ≡ verdict q → a ≡ Err n → stored l q ≡ l
 unfolding stored
-unchanged l q a n h b = rw (verdict_refused q a n h b)
+unchanged l q a h b = rw (verdict_refused q a h b)
 
 -- what the parts require
 pub part_length : (kind n total size : ℕ) (values : List ℕ) → total ≡ value_count kind n → total ≤ length values → cond (eqb kind 0) 6 5 ≡ size → length (take (total - 0) (drop 0 values)) ≡ n * size + n * (n - 1)

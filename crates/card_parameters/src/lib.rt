@@ -3,7 +3,8 @@
 
 ghost use Rattle.std.specs.Prelude.{◌≡◌, true, ◌+◌, ◌*◌, ◌-◌, ◌≤◌, length};
 ghost use Rattle.sizes.specs.Sizes.{side};
-ghost use Rattle.mie_parameters.specs.Answer.{verdict, stored};
+ghost use Rattle.number.specs.Answer.{answer};
+ghost use Rattle.mie_parameters.specs.Answer.{outcome, verdict, stored};
 ghost use Rattle.saftvrqmie_parameters.specs.Parameters as Quantum;
 ghost use Rattle.saftvrmie_parameters.specs.Parameters as Mie;
 ghost use Rattle.set_lists.specs.Sets.{quantum_lengths, mie_lengths};
@@ -12,14 +13,16 @@ ghost use Rattle.card.specs.Card.{Card, form_of};
 ghost use Rattle.card_lists.specs.Lists.{quantum_lists, mie_lists};
 ghost use Rattle.card_parameters.specs.Parameters.{CardLent, card_lengths, quantum_stored, mie_stored, card_parameters};
 
-use card::{CardAnswer, VALUES};
-use mie_parameters::ParameterAnswer;
+use card::VALUES;
+use number::Refusal;
+use saftvrmie_parameters::SaftVRMiePars;
+use saftvrqmie_parameters::SaftVRQMiePars;
 
 // The quantum set of a card's numbers, whose count was tested.
-fn quantum_set(values: &[u64], n: usize) -> saftvrqmie_parameters::ParameterSet
+fn quantum_set(values: &[u64], n: usize) -> Result<SaftVRQMiePars, Refusal>
     requires { (n ≤ side) × (length values.now ≡ n * 6 + n * (n - 1)) }
     ensures { let c : Card = record { kind = 0; count = n; values = values.now } in
-        result ≡ Quantum.given (Quantum.saft_vrq_mie_pars (quantum_lists c)) }
+        answer result ≡ Quantum.saft_vrq_mie_pars (quantum_lists c) }
 {
     let square = n * n;
     let start = n * 6;
@@ -32,7 +35,7 @@ fn quantum_set(values: &[u64], n: usize) -> saftvrqmie_parameters::ParameterSet
     let order = card_lists::orders(values, n);
     let k_ij = card_lists::pair_list(values, start, n, 0);
     let l_ij = card_lists::pair_list(values, start, n, 1);
-    saftvrqmie_parameters::parameters(
+    saftvrqmie_parameters::saft_vrq_mie_pars(
         n,
         &m[0..n],
         &sigma[0..n],
@@ -47,10 +50,10 @@ fn quantum_set(values: &[u64], n: usize) -> saftvrqmie_parameters::ParameterSet
 }
 
 // The set of SAFT-VR Mie likewise.
-fn mie_set(values: &[u64], kind: usize, n: usize) -> saftvrmie_parameters::ParameterSet
+fn mie_set(values: &[u64], kind: usize, n: usize) -> Result<SaftVRMiePars, Refusal>
     requires { (n ≤ side) × (length values.now ≡ n * 5 + n * (n - 1)) }
     ensures { let c : Card = record { kind = kind; count = n; values = values.now } in
-        result ≡ Mie.given (Mie.saft_vr_mie_pars (mie_lists c)) }
+        answer result ≡ Mie.saft_vr_mie_pars (mie_lists c) }
 {
     let square = n * n;
     let start = n * 5;
@@ -61,7 +64,7 @@ fn mie_set(values: &[u64], kind: usize, n: usize) -> saftvrmie_parameters::Param
     let la = card_lists::column(values, 5, n, 4);
     let k_ij = card_lists::pair_list(values, start, n, 0);
     let gamma_ij = card_lists::pair_list(values, start, n, 1);
-    saftvrmie_parameters::parameters(
+    saftvrmie_parameters::saft_vr_mie_pars(
         n,
         &m[0..n],
         &sigma[0..n],
@@ -80,21 +83,16 @@ fn quantum_stored(
     m: &mut [f64],
     sheets: &mut [f64],
     orders: &mut [u8],
-) -> ParameterAnswer
+) -> Result<(), Refusal>
     requires { (n ≤ side) × (length values.now ≡ n * 6 + n * (n - 1)) × (quantum_lengths m.old sheets.old orders.old ≡ true) }
     ensures { let c : Card = record { kind = 0; count = n; values = values.now } in
         let l : QuantumLent = record { m = m.entry.now; sheets = sheets.old; orders = orders.old } in
         let q = quantum_stored c l in
-        (result ≡ verdict q) × (m.exit.now ≡ (stored l q).m) × (sheets.new ≡ (stored l q).sheets) × (orders.new ≡ (stored l q).orders) }
+        (outcome result true ≡ verdict q) × (m.exit.now ≡ (stored l q).m) × (sheets.new ≡ (stored l q).sheets) × (orders.new ≡ (stored l q).orders) }
 {
-    let given = quantum_set(values, n);
-    let answer = given.answer;
-    let ParameterAnswer::Held = answer else {
-        return answer;
-    };
-    let set = given.set;
+    let set = quantum_set(values, n)?;
     set_lists::write_quantum(set, m, sheets, orders);
-    ParameterAnswer::Held
+    Ok(())
 }
 
 // A set of SAFT-VR Mie likewise.
@@ -104,21 +102,16 @@ fn mie_stored(
     n: usize,
     lists: &mut [f64],
     sheets: &mut [f64],
-) -> ParameterAnswer
+) -> Result<(), Refusal>
     requires { (n ≤ side) × (length values.now ≡ n * 5 + n * (n - 1)) × (mie_lengths lists.old sheets.old ≡ true) }
     ensures { let c : Card = record { kind = kind; count = n; values = values.now } in
         let l : MieLent = record { lists = lists.entry.now; sheets = sheets.old } in
         let q = mie_stored c l in
-        (result ≡ verdict q) × (lists.exit.now ≡ (stored l q).lists) × (sheets.new ≡ (stored l q).sheets) }
+        (outcome result true ≡ verdict q) × (lists.exit.now ≡ (stored l q).lists) × (sheets.new ≡ (stored l q).sheets) }
 {
-    let given = mie_set(values, kind, n);
-    let answer = given.answer;
-    let ParameterAnswer::Held = answer else {
-        return answer;
-    };
-    let set = given.set;
+    let set = mie_set(values, kind, n)?;
     set_lists::write_mie(set, lists, sheets);
-    ParameterAnswer::Held
+    Ok(())
 }
 
 fn card_lengths(m: &[f64], lists: &[f64], sheets: &[f64], orders: &[u8]) -> bool
@@ -137,7 +130,7 @@ pub fn parameters(
     lists: &mut [f64],
     sheets: &mut [f64],
     orders: &mut [u8],
-) -> ParameterAnswer
+) -> Result<(), Refusal>
     ensures { let l : CardLent =
         record {
           model = model.entry.now;
@@ -148,34 +141,25 @@ pub fn parameters(
           orders = orders.old;
         } in
         let q = card_parameters (form_of newer) card.now l in
-        (result ≡ verdict q) × (model.exit.now ≡ (stored l q).model) × (count.new ≡ (stored l q).count) × (m.new ≡ (stored l q).m)
+        (outcome result true ≡ verdict q) × (model.exit.now ≡ (stored l q).model) × (count.new ≡ (stored l q).count) × (m.new ≡ (stored l q).m)
         × (lists.new ≡ (stored l q).lists) × (sheets.new ≡ (stored l q).sheets) × (orders.new ≡ (stored l q).orders) }
 {
     if !card_lengths(m, lists, sheets, orders) {
-        return ParameterAnswer::Refused(1);
+        return Err(Refusal::Length);
     }
     let mut values = [0; VALUES];
-    let read = card::read(card, newer, &mut values);
-    let CardAnswer::Card(head) = read else {
-        return ParameterAnswer::Refused(card::card_refusal(read));
-    };
+    let head = card::read(card, newer, &mut values)?;
     let kind = head.kind;
     let n = head.count;
     let total = card::value_count(kind, n);
     if kind == 0 {
-        let answer = quantum_stored(&values[0..total], n, m, sheets, orders);
-        let ParameterAnswer::Held = answer else {
-            return answer;
-        };
+        quantum_stored(&values[0..total], n, m, sheets, orders)?;
         *model = 0;
         *count = n;
-        return ParameterAnswer::Held;
+        return Ok(());
     }
-    let answer = mie_stored(&values[0..total], kind, n, lists, sheets);
-    let ParameterAnswer::Held = answer else {
-        return answer;
-    };
+    mie_stored(&values[0..total], kind, n, lists, sheets)?;
     *model = 1;
     *count = n;
-    ParameterAnswer::Held
+    Ok(())
 }

@@ -1,5 +1,8 @@
 -- Laws of a card that is stored in a lent list, and of one that is moved. Assumes nothing.
 use Prim.Native.Nat.{ℕ, zero, suc, ◌+◌, ◌*◌, ◌-◌, ◌/◌, ◌%◌, ◌^◌, ◌≤◌, ◌<◌}
+use Rattle.std.specs.Prelude.{Err, Ok, Result}
+use Rattle.number.specs.declared.refusal.Refusal.{Refusal}
+use Rattle.number.specs.Answer.{code}
 use native.Mathlib.Omega.{arith}
 use lib.Dec.{ltb}
 use lib.Pow.{shr_le}
@@ -10,15 +13,12 @@ use mathlib.Core.Bool.{Bool, true, false, not, ◌&&◌}
 use mathlib.Core.List.{List, [], ◌∷◌, ◌++◌, append-nil}
 use borrow.Author.Tests.{le-leb, lt-leb, ltb-true, ltb-false}
 use Rattle.number.specs.Ans.{Ans, held, refused, ◌>>=◌, demand}
-use Rattle.mie_parameters.specs.declared.ParameterAnswer.TheVariants.{Held, Refused}
 use Rattle.mie_parameters.specs.Answer.{verdict, stored}
 use Rattle.bit_fields.specs.Bits.{digits, bits_of, over}
 use Rattle.bit_fields.proofs.Digits.{digits_length, numeral_below}
 use Rattle.bit_fields.proofs.Bytes.{Bytes, bits_length, bits_drop}
 use Rattle.bit_fields.proofs.Written.{over_over}
-use Rattle.card.specs.Card.{Card, Form, form_of, layout, value_count, read_card, card_answer, card_refusal_of}
-use Rattle.card.specs.declared.CardAnswer.{CardAnswer}
-use Rattle.card.specs.declared.CardAnswer.TheVariants as Whole
+use Rattle.card.specs.Card.{Card, Form, form_of, layout, value_count, read_card, card_answer}
 use Rattle.card.specs.declared.Heading.{Heading}
 use Rattle.card.proofs.Good.{Counted, counted}
 use Rattle.card.proofs.Reading.{value_small}
@@ -137,7 +137,7 @@ module _ (f : Form) (kind n : ℕ) (vs : List ℕ) where
 
 -- ---- what is lent, afterwards
 module _ (l : CardRoom) (q : Ans CardRoom) where
-  pub refused_verdict : (n : ℕ) → refused n ≡ q → Refused n ≡ verdict q
+  pub refused_verdict : (n : ℕ) → refused n ≡ q → refused n ≡ verdict q
   unfolding verdict
   refused_verdict n p = rw (sym p)
 
@@ -145,7 +145,7 @@ module _ (l : CardRoom) (q : Ans CardRoom) where
   unfolding stored
   refused_stored n p = rw (sym p)
 
-  pub held_verdict : (x : CardRoom) → held x ≡ q → Held ≡ verdict q
+  pub held_verdict : (x : CardRoom) → held x ≡ q → held true ≡ verdict q
   unfolding verdict
   held_verdict x p = rw (sym p)
 
@@ -154,12 +154,12 @@ module _ (l : CardRoom) (q : Ans CardRoom) where
   held_stored x p = rw (sym p)
 
 -- ---- moves
-module _ (f g : Form) (bytes : List ℕ) (l : CardRoom) (values : List ℕ) (answer : CardAnswer) (p : card_answer values answer ≡ read_card f bytes) where
-  pub moved_refused : (n m : ℕ) → answer ≡ Whole.Refused n → m ≡ card_refusal_of answer → refused m ≡ card_moved f g bytes l
+module _ (f g : Form) (bytes : List ℕ) (l : CardRoom) (values : List ℕ) (answer : Result Heading Refusal) (p : card_answer values answer ≡ read_card f bytes) where
+  pub moved_refused : (r : Refusal) → answer ≡ Err r → refused (code r) ≡ card_moved f g bytes l
   unfolding card_moved ◌>>=◌
-  moved_refused n m e d = let r = rw e at p in rw (← r, d, e)
+  moved_refused r e = rw (← p, e)
 
-  module _ (h : Heading) (e : answer ≡ Whole.Card h) where
+  module _ (h : Heading) (e : answer ≡ Ok h) where
     abbrev said : Card
     said = record { kind = h.kind; count = h.count; values = take (value_count h.kind h.count) values }
 

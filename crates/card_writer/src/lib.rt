@@ -1,14 +1,14 @@
 // The fuel card, written by the list of fields that it is read by, and moved from one form to the other.
 #![tactic(auto)]
 
-ghost use Rattle.std.specs.Prelude.{◌≡◌, not, ◌++◌, ◌+◌, ◌*◌, ◌^◌, ◌<◌, ◌≤◌, length, drop};
+ghost use Rattle.std.specs.Prelude.{true, ◌≡◌, not, ◌++◌, ◌+◌, ◌*◌, ◌^◌, ◌<◌, ◌≤◌, length, drop};
 ghost use Rattle.bit_fields.specs.Bits.{bits_of, over};
-ghost use Rattle.mie_parameters.specs.Answer.{verdict, stored};
+ghost use Rattle.mie_parameters.specs.Answer.{outcome, verdict, stored};
 ghost use Rattle.card.specs.Card.{Card, form_of, layout, most_components, value_count};
 ghost use Rattle.card_writer.specs.Writing.{write_field, write_fields, card_bits, byte_count, card_bytes, CardRoom, card_stored, card_moved};
 
-use card::{CardAnswer, Field, MOST, VALUES};
-use mie_parameters::ParameterAnswer;
+use card::{Field, MOST, VALUES};
+use number::Refusal;
 
 // How many bits a number takes.
 fn field_length(field: Field, value: u64) -> usize
@@ -89,41 +89,38 @@ pub fn store(
     values: &[u64],
     card: &mut [u8],
     told: &mut usize,
-) -> ParameterAnswer
+) -> Result<(), Refusal>
     requires { (kind ≤ 1) × (1 ≤ count) × (count ≤ most_components) × (length values.now ≡ value_count kind count) }
     ensures { let c : Card = record { kind = kind; count = count; values = values.now } in
         let l : CardRoom = record { card = card.entry.now; length = told.old } in
         let q = card_stored (card_bytes (form_of newer) c) l in
-        (result ≡ verdict q) × (card.exit.now ≡ (stored l q).card) × (told.new ≡ (stored l q).length) }
+        (outcome result true ≡ verdict q) × (card.exit.now ≡ (stored l q).card) × (told.new ≡ (stored l q).length) }
 {
     let bits = card_length(kind, count, newer, values);
     let bytes = (bits + 7) / 8;
     if card.len() < bytes {
-        return ParameterAnswer::Refused(12);
+        return Err(Refusal::Room);
     }
     bit_fields::put(card, 0, 2, model_of(kind, newer));
     bit_fields::put(card, 2, 4, count as u64);
     write_values(card, kind, count, newer, values);
     bit_fields::put(card, bits, 8 * bytes - bits, 0);
     *told = bytes;
-    ParameterAnswer::Held
+    Ok(())
 }
 
 // A card of the one form written in the other: the refusals of reading, 16 for more components than an older card holds, 12.
-pub fn moved(card: &[u8], newer: bool, to: &mut [u8], told: &mut usize) -> ParameterAnswer
+pub fn moved(card: &[u8], newer: bool, to: &mut [u8], told: &mut usize) -> Result<(), Refusal>
     ensures { let l : CardRoom = record { card = to.old; length = told.old } in
         let q = card_moved (form_of newer) (form_of (not newer)) card.entry.now l in
-        (result ≡ verdict q) × (to.new ≡ (stored l q).card) × (told.new ≡ (stored l q).length) }
+        (outcome result true ≡ verdict q) × (to.new ≡ (stored l q).card) × (told.new ≡ (stored l q).length) }
 {
     let mut values = [0; VALUES];
-    let read = card::read(card, newer, &mut values);
-    let CardAnswer::Card(head) = read else {
-        return ParameterAnswer::Refused(card::card_refusal(read));
-    };
+    let head = card::read(card, newer, &mut values)?;
     let kind = head.kind;
     let n = head.count;
     if newer & (MOST < n) {
-        return ParameterAnswer::Refused(16);
+        return Err(Refusal::Components);
     }
     let total = card::value_count(kind, n);
     store(kind, n, !newer, &values[0..total], to, told)

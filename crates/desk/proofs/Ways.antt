@@ -1,5 +1,8 @@
 -- The calls of the desk, step by step over plain values. Assumes nothing.
 use Prim.Native.Nat.{ℕ, zero, suc, ◌+◌, ◌-◌, ◌*◌, ◌≤◌, ◌<◌}
+use Rattle.std.specs.Prelude.{Err, Ok, Result}
+use Rattle.number.specs.declared.refusal.Refusal.{Refusal}
+use Rattle.number.specs.Answer.{code}
 use native.Mathlib.Omega.{arith}
 use mathlib.Core.Path.{◌≡◌, refl, sym, ap, ◌∙◌, subst}
 use mathlib.Core.Bool.{Bool, true, false, not, ◌&&◌}
@@ -10,9 +13,7 @@ use lib.ListN.{length, get_or, set, take, drop, replicate, length-replicate, dro
 use borrow.Author.Tests.{eq-eqb, ne_eqb}
 use Rattle.number.specs.Ans.{Ans, held, refused, ◌>>=◌, demand}
 use Rattle.limits.specs.Limits.{state_within}
-use Rattle.mie_parameters.specs.declared.ParameterAnswer.{ParameterAnswer}
-use Rattle.mie_parameters.specs.declared.ParameterAnswer.TheVariants as One
-use Rattle.mie_parameters.specs.Answer.{verdict, stored, number_of}
+use Rattle.mie_parameters.specs.Answer.{outcome, verdict, stored}
 use Rattle.saftvrqmie_parameters.specs.declared.SaftVRQMiePars.{SaftVRQMiePars}
 use Rattle.saftvrqmie_energies.specs.Energies.{EnergiesIn}
 use Rattle.set_lists.specs.Sets.{QuantumLists, quantum_set}
@@ -85,12 +86,12 @@ found_passes test p k e n = subst (λ (m : ℕ). test m ≡ true) (sym e) (seek_
 
 -- ---- begin
 
-pub begun_1 : (l : Lists) → right_desk (length l.floats) (length l.bytes) ≡ false → (One.Refused 1 ≡ verdict (begun l)) × (l ≡ stored l (begun l))
+pub begun_1 : (l : Lists) → right_desk (length l.floats) (length l.bytes) ≡ false → (refused 1 ≡ verdict (begun l)) × (l ≡ stored l (begun l))
 unfolding begun verdict stored demand ◌>>=◌
 begun_1 l h = rw h (refl, refl)
 
 pub begun_is : (l : Lists) (f : List Float) (y : List ℕ) → right_desk (length l.floats) (length l.bytes) ≡ true → f ≡ l.floats → y ≡ replicate (last_at + 1) 0
-    → (One.Held ≡ verdict (begun l)) × (record { floats = f; bytes = set y last_at 15 } ≡ stored l (begun l))
+    → (held true ≡ verdict (begun l)) × (record { floats = f; bytes = set y last_at 15 } ≡ stored l (begun l))
 unfolding begun verdict stored demand ◌>>=◌
 begun_is l f y h e g = rw h (refl, lists_are _ _ _ _ e (ap (λ (z : List ℕ). set z last_at 15) g))
 
@@ -106,43 +107,46 @@ blank_laid b y h e =
 
 -- ---- the door
 
-two_refused : {t : Bool} → t ≡ false → verdict (demand 2 t) ≡ One.Refused 2
+two_refused : {t : Bool} → t ≡ false → verdict (demand 2 t) ≡ refused 2
 unfolding verdict demand
 two_refused f = rw f
 
-two_held : {t : Bool} → t ≡ true → verdict (demand 2 t) ≡ One.Held
+two_held : {t : Bool} → t ≡ true → verdict (demand 2 t) ≡ held true
 unfolding verdict demand
 two_held f = rw f
 
-module _ (q : Query) (b : Bool) (is : b ≡ state_lengths q.lists.count q.fractions q.densities) (r : ParameterAnswer) (p : r ≡ verdict (quantum_set b q.lists)) where
-  door_step : (a : Ans SaftVRQMiePars) (t : Bool) → r ≡ verdict a → (n : ℕ) → r ≡ One.Refused n → r ≡ verdict (a >>= λ _. demand 2 t)
+module _ (q : Query) (b : Bool) (is : b ≡ state_lengths q.lists.count q.fractions q.densities) (r : Result (Unit {0}) Refusal) (p : outcome r true ≡ verdict (quantum_set b q.lists)) where
+  asked : outcome r true ≡ verdict (quantum_set (state_lengths q.lists.count q.fractions q.densities) q.lists)
+  asked = p ∙ ap (λ (z : Bool). verdict (quantum_set z q.lists)) is
+
+  door_step : (a : Ans SaftVRQMiePars) (t : Bool) (n : ℕ) → refused n ≡ verdict a → refused n ≡ verdict (a >>= λ _. demand 2 t)
   unfolding verdict ◌>>=◌
-  door_step (held x) t e n h = absurd (never (sym e ∙ h))
+  door_step (held x) t n e = absurd (never e)
     where
-      never : One.Held ≡ One.Refused n → ⊥
+      never : ◌≡◌ {A = Ans Bool} (refused n) (held true) → ⊥
       never e = let z : ◌≡◌ {A = ℕ} 0 1 = cc in omega arith
-  door_step (refused m) t e n h = e
+  door_step (refused m) t n e = e
 
-  pub door_refuses : (n : ℕ) → r ≡ One.Refused n → r ≡ verdict (door q)
+  pub door_refuses : {n : Refusal} → r ≡ Err n → refused (code n) ≡ verdict (door q)
   unfolding door
-  door_refuses n h = door_step (quantum_set (state_lengths q.lists.count q.fractions q.densities) q.lists) _ (p ∙ ap (λ (z : Bool). verdict (quantum_set z q.lists)) is) n h
+  door_refuses h = door_step (quantum_set (state_lengths q.lists.count q.fractions q.densities) q.lists) _ _ (rw h at asked)
 
-  held_step : (a : Ans SaftVRQMiePars) (t : Bool) → r ≡ verdict a → r ≡ One.Held → verdict (a >>= λ _. demand 2 t) ≡ verdict (demand 2 t)
+  held_step : (a : Ans SaftVRQMiePars) (t : Bool) → held true ≡ verdict a → verdict (a >>= λ _. demand 2 t) ≡ verdict (demand 2 t)
   unfolding verdict ◌>>=◌
-  held_step (held x) t e h = refl
-  held_step (refused m) t e h = absurd (never (sym h ∙ e))
+  held_step (held x) t e = refl
+  held_step (refused m) t e = absurd (never e)
     where
-      never : One.Held ≡ One.Refused m → ⊥
+      never : ◌≡◌ {A = Ans Bool} (held true) (refused m) → ⊥
       never e = let z : ◌≡◌ {A = ℕ} 0 1 = cc in omega arith
 
-  door_goes : r ≡ One.Held → verdict (door q) ≡ verdict (demand 2 (state_within q.lists.count q.temperature q.fractions q.densities))
+  door_goes : {u : Unit {0}} → r ≡ Ok u → verdict (door q) ≡ verdict (demand 2 (state_within q.lists.count q.temperature q.fractions q.densities))
   unfolding door
-  door_goes h = held_step (quantum_set (state_lengths q.lists.count q.fractions q.densities) q.lists) _ (p ∙ ap (λ (z : Bool). verdict (quantum_set z q.lists)) is) h
+  door_goes h = held_step (quantum_set (state_lengths q.lists.count q.fractions q.densities) q.lists) _ (rw h at asked)
 
-  pub door_2 : r ≡ One.Held → state_within q.lists.count q.temperature q.fractions q.densities ≡ false → One.Refused 2 ≡ verdict (door q)
+  pub door_2 : {u : Unit {0}} → r ≡ Ok u → state_within q.lists.count q.temperature q.fractions q.densities ≡ false → refused 2 ≡ verdict (door q)
   door_2 h f = sym (door_goes h ∙ two_refused f)
 
-  pub door_holds : r ≡ One.Held → state_within q.lists.count q.temperature q.fractions q.densities ≡ true → One.Held ≡ verdict (door q)
+  pub door_holds : {u : Unit {0}} → r ≡ Ok u → state_within q.lists.count q.temperature q.fractions q.densities ≡ true → held true ≡ verdict (door q)
   door_holds h f = sym (door_goes h ∙ two_held f)
 
 -- ---- submit
@@ -153,34 +157,34 @@ module _ (l : Lists) (q : Query) where
   submit_1 h = rw h (refl, refl)
 
   module _ (right : right_desk (length l.floats) (length l.bytes) ≡ true) where
-    by_door : (a : Ans Bool) (n : ℕ) → verdict a ≡ One.Refused n → a ≡ refused n
+    by_door : (a : Ans Bool) (n : ℕ) → refused n ≡ verdict a → a ≡ refused n
     unfolding verdict
     by_door (held x) n h = absurd (never h)
       where
-        never : One.Held ≡ One.Refused n → ⊥
+        never : ◌≡◌ {A = Ans Bool} (refused n) (held true) → ⊥
         never e = let z : ◌≡◌ {A = ℕ} 0 1 = cc in omega arith
     by_door (refused m) n h = cc
 
-    door_opened : (a : Ans Bool) → verdict a ≡ One.Held → (x : Bool) × (a ≡ held x)
+    door_opened : (a : Ans Bool) → held true ≡ verdict a → (x : Bool) × (a ≡ held x)
     unfolding verdict
     door_opened (held x) h = (x, refl)
-    door_opened (refused m) h = absurd (never (sym h))
+    door_opened (refused m) h = absurd (never h)
       where
-        never : One.Held ≡ One.Refused m → ⊥
+        never : ◌≡◌ {A = Ans Bool} (held true) (refused m) → ⊥
         never e = let z : ◌≡◌ {A = ℕ} 0 1 = cc in omega arith
 
-    pub submit_door : (r : ParameterAnswer) (n m : ℕ) → r ≡ verdict (door q) → r ≡ One.Refused n → m ≡ number_of r → (refused m ≡ place_told (submitted l q)) × (l ≡ entered_of l (submitted l q))
+    pub submit_door : (r : Result (Unit {0}) Refusal) {n : Refusal} → outcome r true ≡ verdict (door q) → r ≡ Err n → (refused (code n) ≡ place_told (submitted l q)) × (l ≡ entered_of l (submitted l q))
     unfolding submitted submit place_told entered_of demand ◌>>=◌
-    submit_door r n m e h k = rw (right, by_door (door q) n (sym e ∙ h)) (ap refused (k ∙ ap number_of h), refl)
+    submit_door r e h = rw (right, by_door (door q) _ (rw h at e)) (refl, refl)
 
-    module _ (r : ParameterAnswer) (e : r ≡ verdict (door q)) (h : r ≡ One.Held) (k : ℕ) (found : k ≡ seek places (λ k. not (occupied_in l.bytes k)) 0) where
+    module _ (r : Result (Unit {0}) Refusal) {u : Unit {0}} (e : outcome r true ≡ verdict (door q)) (h : r ≡ Ok u) (k : ℕ) (found : k ≡ seek places (λ k. not (occupied_in l.bytes k)) 0) where
       pub submit_17 : k ≡ places → (refused 17 ≡ place_told (submitted l q)) × (l ≡ entered_of l (submitted l q))
       unfolding submitted submit lowest place_told entered_of demand ◌>>=◌
-      submit_17 z = rw (right, (door_opened (door q) (sym e ∙ h)).1, ← found, eq-eqb k places z) (refl, refl)
+      submit_17 z = rw (right, (door_opened (door q) (rw h at e)).1, ← found, eq-eqb k places z) (refl, refl)
 
       pub submit_at : (s : Lists) → (k ≡ places → ⊥) → s ≡ placed l k (enter q (place_of l k)) → (held k ≡ place_told (submitted l q)) × (s ≡ entered_of l (submitted l q))
       unfolding submitted submit lowest place_told entered_of demand ◌>>=◌
-      submit_at s z d = rw (right, (door_opened (door q) (sym e ∙ h)).1, ← found, ne_eqb k places z) (refl, d)
+      submit_at s z d = rw (right, (door_opened (door q) (rw h at e)).1, ← found, ne_eqb k places z) (refl, d)
 
 -- ---- serve
 
@@ -198,10 +202,10 @@ module _ (l : Lists) where
     unfolding served_once serve told_of desk_of demand ◌>>=◌
     serve_idle z = rw (right, ← is_next, eq-eqb k places z) (refl, refl)
 
-    pub serve_on : (t : Ans (Rattle.round_robin.specs.Desk.Told (Ans (EnergiesIn Float)))) (s : Lists) → (k ≡ places → ⊥) → t ≡ held (leaves shelf quantum l k (unit (place_of l k))).told → s ≡ (leaves shelf quantum l k (unit (place_of l k))).desk
-        → (t ≡ told_of (served_once l)) × (s ≡ desk_of l (served_once l))
+    pub serve_on : (t : Rattle.round_robin.specs.Desk.Told (Ans (EnergiesIn Float))) (s : Lists) → (k ≡ places → ⊥) → t ≡ (leaves shelf quantum l k (unit (place_of l k))).told → s ≡ (leaves shelf quantum l k (unit (place_of l k))).desk
+        → (held t ≡ told_of (served_once l)) × (s ≡ desk_of l (served_once l))
     unfolding served_once serve told_of desk_of demand ◌>>=◌
-    serve_on t s z e d = rw (right, ← is_next, ne_eqb k places z) (e, d)
+    serve_on t s z e d = rw (right, ← is_next, ne_eqb k places z) (ap held e, d)
 
 -- a unit's place back in the desk
 module _ (l : Lists) (k : ℕ) where
@@ -213,7 +217,7 @@ module _ (l : Lists) (k : ℕ) where
   leave (going p) y z e = ap (λ (p : Lists). after p.floats p.bytes) e
   leave (done p a) y z e = ap (λ (p : Lists). after p.floats p.bytes) e
 
-  pub left_on : (s : Step Lists (Ans (EnergiesIn Float))) → none ≡ step_told s → held worked ≡ held (leaves shelf quantum l k s).told
+  pub left_on : (s : Step Lists (Ans (EnergiesIn Float))) → none ≡ step_told s → worked ≡ (leaves shelf quantum l k s).told
   unfolding leaves step_told
   left_on (going p) e = refl
   left_on (done p a) e = absurd (never e)
@@ -221,13 +225,13 @@ module _ (l : Lists) (k : ℕ) where
       never : ◌≡◌ {A = Option (Ans (EnergiesIn Float))} none (some a) → ⊥
       never e = let z : ◌≡◌ {A = ℕ} 0 1 = cc in omega arith
 
-  pub left_done : (s : Step Lists (Ans (EnergiesIn Float))) (b : Ans (EnergiesIn Float)) → some b ≡ step_told s → held (finished k b) ≡ held (leaves shelf quantum l k s).told
+  pub left_done : (s : Step Lists (Ans (EnergiesIn Float))) (b : Ans (EnergiesIn Float)) → some b ≡ step_told s → finished k b ≡ (leaves shelf quantum l k s).told
   unfolding leaves step_told
   left_done (going p) b e = absurd (never (sym e))
     where
       never : ◌≡◌ {A = Option (Ans (EnergiesIn Float))} none (some b) → ⊥
       never e = let z : ◌≡◌ {A = ℕ} 0 1 = cc in omega arith
-  left_done (done p a) b e = ap (λ (x : Option (Ans (EnergiesIn Float))). held (finished k (or x))) e
+  left_done (done p a) b e = ap (λ (x : Option (Ans (EnergiesIn Float))). finished k (or x)) e
     where
       or : Option (Ans (EnergiesIn Float)) → Ans (EnergiesIn Float)
       or none = b
@@ -291,10 +295,10 @@ module _ (l : Lists) (k : ℕ) (r : Right l) (h : k < places) where
       let w = subst Whole (left_same (unit (place_of l k)) ∙ sym f) (unit_whole (place_of l k) (whole_at l k r h)) in
       back_desk y z ∙ left_desk l k (unit (place_of l k)) y z w.floats w.bytes f
 
-  pub here_on : none ≡ step_told (unit lent_place) → held worked ≡ held (leaves shelf quantum l k (unit (place_of l k))).told
+  pub here_on : none ≡ step_told (unit lent_place) → worked ≡ (leaves shelf quantum l k (unit (place_of l k))).told
   here_on e = left_on l k (unit (place_of l k)) (e ∙ ap (λ (p : Lists). step_told (unit p)) place_is)
 
-  pub here_done : (b : Ans (EnergiesIn Float)) → some b ≡ step_told (unit lent_place) → held (finished k b) ≡ held (leaves shelf quantum l k (unit (place_of l k))).told
+  pub here_done : (b : Ans (EnergiesIn Float)) → some b ≡ step_told (unit lent_place) → finished k b ≡ (leaves shelf quantum l k (unit (place_of l k))).told
   here_done b e = left_done l k (unit (place_of l k)) b (e ∙ ap (λ (p : Lists). step_told (unit p)) place_is)
 
   pub enter_here : (q : Query) (y : List Float) (z : List ℕ) → Lengths q.lists.m q.lists.sheets q.lists.orders → q.lists.count ≤ side → length q.fractions ≡ q.lists.count → length q.densities ≡ q.lists.count
@@ -311,20 +315,20 @@ module _ (l : Lists) (k : ℕ) (r : Right l) (h : k < places) where
 
 -- ---- what an answer that holds says of its test
 
-pub opened : {X : Type 0} (a : Ans X) → One.Held ≡ verdict a → (x : X) × (a ≡ held x)
+pub opened : {X : Type 0} (a : Ans X) → held true ≡ verdict a → (x : X) × (a ≡ held x)
 unfolding verdict
 opened (held x) h = (x, refl)
 opened (refused m) h = absurd (never h)
   where
-    never : One.Held ≡ One.Refused m → ⊥
+    never : ◌≡◌ {A = Ans Bool} (held true) (refused m) → ⊥
     never e = let z : ◌≡◌ {A = ℕ} 0 1 = cc in omega arith
 
-pub right_told : (b : Bool) (s : QuantumLists) (r : ParameterAnswer) → r ≡ verdict (quantum_set b s) → r ≡ One.Held → b ≡ true
+pub right_told : (b : Bool) (s : QuantumLists) (r : Result (Unit {0}) Refusal) {u : Unit {0}} → outcome r true ≡ verdict (quantum_set b s) → r ≡ Ok u → b ≡ true
 unfolding quantum_set
 right_told b s r e h =
-    let o = opened (quantum_set b s) (sym h ∙ e) in
+    let o = opened (quantum_set b s) (rw h at e) in
     let f = then_held (demand 1 (count_within s.count && quantum_lengths s.m s.sheets s.orders && b)) _ o.0 o.1 in
     and_right (count_within s.count && quantum_lengths s.m s.sheets s.orders) b (demanded 1 _ f.0 f.1)
 
-pub let_in : (q : Query) (r : ParameterAnswer) → r ≡ verdict (door q) → r ≡ One.Held → Passed q
-let_in q r e h = let o = opened (door q) (sym h ∙ e) in door_passed q o.0 o.1
+pub let_in : (q : Query) (r : Result (Unit {0}) Refusal) {u : Unit {0}} → outcome r true ≡ verdict (door q) → r ≡ Ok u → Passed q
+let_in q r e h = let o = opened (door q) (rw h at e) in door_passed q o.0 o.1

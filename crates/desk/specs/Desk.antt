@@ -1,5 +1,7 @@
 -- Slip 12's desk: how the desk lies in two lists, and the three calls over any two lists.
-use Rattle.std.specs.Prelude.{ℕ, ◌+◌, ◌*◌, eqb, Float, get_or, length, set, replicate, List, Bool, true, ◌&&◌}
+use Rattle.std.specs.Prelude.{ℕ, ◌+◌, ◌*◌, eqb, Float, get_or, length, set, replicate, List, Bool, true, ◌&&◌, Result}
+use Rattle.number.specs.declared.refusal.Refusal.{Refusal}
+use Rattle.number.specs.Answer.{answer_by}
 use Rattle.number.specs.Ans.{Ans, held, refused, ◌>>=◌, demand}
 use Rattle.limits.specs.Limits.{state_within}
 use Rattle.saftvrqmie.specs.Table.{blank, temperature_table}
@@ -8,10 +10,8 @@ use Rattle.set_lists.specs.Sets.{quantum_set}
 use Rattle.round_robin.specs.Desk.{places, Shelf, Work, Told, idle, worked, finished, Served, Entered, serve, submit}
 use Rattle.desk_place.specs.Layout.{part, over, Lists, place_floats, place_bytes, waits_in}
 use Rattle.desk_place.specs.Place.{Query, enter, unit}
-use Rattle.desk.specs.declared.DeskAnswer.{DeskAnswer}
-use Rattle.desk.specs.declared.DeskAnswer.TheVariants as Desk
-use Rattle.desk.specs.declared.PlaceAnswer.{PlaceAnswer}
-use Rattle.desk.specs.declared.PlaceAnswer.TheVariants as Place
+use Rattle.desk.specs.declared.Served as Declared
+use Rattle.desk.specs.declared.Served.TheVariants as Desk
 
 -- ---- the desk's lists: sixteen parts of each, one for a place, and the place served last behind the bytes
 abbrev pub last_at : ℕ
@@ -79,15 +79,13 @@ served_once l =
     held (serve shelf quantum l)
 
 -- what the code's answers say
-abbrev pub desk_answer : DeskAnswer → Ans (Told (Ans (EnergiesIn Float)))
-desk_answer Desk.Idle = held idle
-desk_answer Desk.Worked = held worked
-desk_answer (Desk.Finished k a) = held (finished k (energies_answer a))
-desk_answer (Desk.Refused n) = refused n
+abbrev pub served_told : Declared.Served → Told (Ans (EnergiesIn Float))
+served_told Desk.Idle = idle
+served_told Desk.Worked = worked
+served_told (Desk.Finished k a) = finished k (energies_answer a)
 
-abbrev pub place_answer : PlaceAnswer → Ans ℕ
-place_answer (Place.At k) = held k
-place_answer (Place.Refused n) = refused n
+abbrev pub desk_answer : Result Declared.Served Refusal → Ans (Told (Ans (EnergiesIn Float)))
+desk_answer = answer_by served_told
 
 -- what is told of a call, and both lists afterwards
 unfoldable pub told_of : Ans (Served Lists (Ans (EnergiesIn Float))) → Ans (Told (Ans (EnergiesIn Float)))

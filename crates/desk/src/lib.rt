@@ -4,18 +4,17 @@
 ghost use Rattle.std.specs.Prelude.{◌≡◌, true, not, cond, ◌+◌, ◌*◌, ◌<◌, ◌≤◌, length};
 ghost use Rattle.sizes.specs.Sizes.{side};
 ghost use Rattle.set_lists.specs.Sets.{QuantumLists, quantum_lengths};
-ghost use Rattle.mie_parameters.specs.Answer.{verdict, stored};
-ghost use Rattle.number.specs.Ans.{held};
+ghost use Rattle.mie_parameters.specs.Answer.{outcome, verdict, stored};
+ghost use Rattle.number.specs.Answer.{answer};
 ghost use Rattle.round_robin.specs.Desk.{places, seek, leaves};
 ghost use Rattle.desk_place.specs.Layout.{Lists, place_floats};
 ghost use Rattle.desk_place.specs.Place.{Query, enter, unit};
-ghost use Rattle.desk.specs.Desk.{occupied_in, shelf, quantum, place_of, placed, right_desk, state_lengths, door, begun, submitted, served_once, desk_answer, place_answer, told_of, desk_of, place_told, entered_of, last_at};
+ghost use Rattle.desk.specs.Desk.{occupied_in, shelf, quantum, place_of, placed, right_desk, state_lengths, door, begun, submitted, served_once, served_told, desk_answer, told_of, desk_of, place_told, entered_of, last_at};
 
-use desk_place::UnitAnswer;
 use desk_place::layout::{PLACE_BYTES, PLACE_FLOATS};
-use mie_parameters::ParameterAnswer;
+use number::Refusal;
 use round_robin::PLACES;
-use saftvrqmie_energies::EnergiesAnswer;
+use saftvrqmie_energies::QuantumEnergies;
 
 // The places one behind the other, and behind the bytes the place served last.
 pub const FLOATS: usize = PLACE_FLOATS * PLACES;
@@ -26,18 +25,10 @@ pub const BYTES: usize = LAST_AT + 1;
 
 // What a call of `serve` tells.
 #[derive(Clone, Copy)]
-pub enum DeskAnswer {
+pub enum Served {
     Idle,
     Worked,
-    Finished(usize, EnergiesAnswer),
-    Refused(u8),
-}
-
-// The place of an accepted query.
-#[derive(Clone, Copy)]
-pub enum PlaceAnswer {
-    At(usize),
-    Refused(u8),
+    Finished(usize, Result<QuantumEnergies, Refusal>),
 }
 
 fn right_desk(a: usize, b: usize) -> bool
@@ -81,17 +72,17 @@ fn seek(bytes: &[u8], wanted: bool, from: usize) -> usize
 }
 
 // A desk with no query, whose first place is served first. 1 for a list of another length.
-pub fn begin(floats: &mut [f64], bytes: &mut [u8]) -> ParameterAnswer
+pub fn begin(floats: &mut [f64], bytes: &mut [u8]) -> Result<(), Refusal>
     ensures { let l : Lists = record { floats = floats.entry.now; bytes = bytes.old } in
-        (result ≡ verdict (begun l)) × (record { floats = floats.exit.now; bytes = bytes.new } ≡ stored l (begun l)) }
+        (outcome result true ≡ verdict (begun l)) × (record { floats = floats.exit.now; bytes = bytes.new } ≡ stored l (begun l)) }
 {
     if !right_desk(floats.len(), bytes.len()) {
-        return ParameterAnswer::Refused(1);
+        return Err(Refusal::Length);
     }
     let blank = [0u8; BYTES];
     desk_place::lay_bytes(bytes, &blank);
     bytes[LAST_AT] = 15;
-    ParameterAnswer::Held
+    Ok(())
 }
 
 fn right_state(n: usize, fractions: &[f64], densities: &[f64]) -> bool
@@ -110,20 +101,17 @@ fn door(
     fractions: &[f64],
     densities: &[f64],
     non_additive: bool,
-) -> ParameterAnswer
+) -> Result<(), Refusal>
     ensures { let s : QuantumLists = record { count = count; m = m.now; sheets = sheets.now; orders = orders.now } in
         let q : Query = record { lists = s; temperature = temperature; fractions = fractions.now; densities = densities.now; wanted = non_additive } in
-        result ≡ verdict (door q) }
+        outcome result true ≡ verdict (door q) }
 {
     let right = right_state(count, fractions, densities);
-    let read = set_lists::quantum_answer(count, m, sheets, orders, right);
-    let ParameterAnswer::Held = read else {
-        return read;
-    };
+    set_lists::quantum_answer(count, m, sheets, orders, right)?;
     if !limits::state_within(count, temperature, fractions, densities) {
-        return ParameterAnswer::Refused(2);
+        return Err(Refusal::Limit);
     }
-    ParameterAnswer::Held
+    Ok(())
 }
 
 // A query into place k.
@@ -173,16 +161,16 @@ pub fn submit(
     fractions: &[f64],
     densities: &[f64],
     non_additive: bool,
-) -> PlaceAnswer
+) -> Result<usize, Refusal>
     ensures { let s : QuantumLists = record { count = count; m = m.now; sheets = sheets.now; orders = orders.now } in
         let q : Query = record { lists = s; temperature = temperature; fractions = fractions.now; densities = densities.now; wanted = non_additive } in
         let l : Lists = record { floats = floats.entry.now; bytes = bytes.old } in
-        (place_answer result ≡ place_told (submitted l q)) × (record { floats = floats.exit.now; bytes = bytes.new } ≡ entered_of l (submitted l q)) }
+        (answer result ≡ place_told (submitted l q)) × (record { floats = floats.exit.now; bytes = bytes.new } ≡ entered_of l (submitted l q)) }
 {
     if !right_desk(floats.len(), bytes.len()) {
-        return PlaceAnswer::Refused(1);
+        return Err(Refusal::Length);
     }
-    let asked = door(
+    door(
         count,
         m,
         sheets,
@@ -191,13 +179,10 @@ pub fn submit(
         fractions,
         densities,
         non_additive,
-    );
-    let ParameterAnswer::Held = asked else {
-        return PlaceAnswer::Refused(mie_parameters::number(asked));
-    };
+    )?;
     let k = seek(bytes, false, 0);
     if k == PLACES {
-        return PlaceAnswer::Refused(17);
+        return Err(Refusal::Occupied);
     }
     enter(
         floats,
@@ -212,15 +197,15 @@ pub fn submit(
         densities,
         non_additive,
     );
-    PlaceAnswer::At(k)
+    Ok(k)
 }
 
 // One unit for the query in place k, which is served last then.
-fn serve_at(floats: &mut [f64], bytes: &mut [u8], k: usize) -> DeskAnswer
+fn serve_at(floats: &mut [f64], bytes: &mut [u8], k: usize) -> Served
     requires { (length floats.old ≡ place_floats * places) × (length bytes.old ≡ last_at + 1) × (k < places) × (occupied_in bytes.old k ≡ true) }
     ensures { let l : Lists = record { floats = floats.entry.now; bytes = bytes.old } in
         let s = leaves shelf quantum l k (unit (place_of l k)) in
-        (desk_answer result ≡ held s.told) × (record { floats = floats.exit.now; bytes = bytes.new } ≡ s.desk) }
+        (served_told result ≡ s.told) × (record { floats = floats.exit.now; bytes = bytes.new } ≡ s.desk) }
 {
     let a = PLACE_FLOATS * k;
     let b = a + PLACE_FLOATS;
@@ -229,24 +214,24 @@ fn serve_at(floats: &mut [f64], bytes: &mut [u8], k: usize) -> DeskAnswer
     let worked = desk_place::unit(&mut floats[a..b], &mut bytes[c..d]);
     bytes[LAST_AT] = k as u8;
     match worked {
-        UnitAnswer::Going => DeskAnswer::Worked,
-        UnitAnswer::Done(e) => DeskAnswer::Finished(k, e),
+        None => Served::Worked,
+        Some(e) => Served::Finished(k, e),
     }
 }
 
 // One unit for the next occupied place above the one served last. 1 for a list of another length.
-pub fn serve(floats: &mut [f64], bytes: &mut [u8]) -> DeskAnswer
+pub fn serve(floats: &mut [f64], bytes: &mut [u8]) -> Result<Served, Refusal>
     ensures { let l : Lists = record { floats = floats.entry.now; bytes = bytes.old } in
         (desk_answer result ≡ told_of (served_once l)) × (record { floats = floats.exit.now; bytes = bytes.new } ≡ desk_of l (served_once l)) }
 {
     if !right_desk(floats.len(), bytes.len()) {
-        return DeskAnswer::Refused(1);
+        return Err(Refusal::Length);
     }
     let last = desk_place::byte_at(bytes, LAST_AT);
     let first = round_robin::above(last);
     let k = seek(bytes, true, first);
     if k == PLACES {
-        return DeskAnswer::Idle;
+        return Ok(Served::Idle);
     }
-    serve_at(floats, bytes, k)
+    Ok(serve_at(floats, bytes, k))
 }

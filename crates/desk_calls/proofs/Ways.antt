@@ -1,24 +1,32 @@
 -- The calls, answer by answer, over plain values. Assumes nothing.
 use Prim.Native.Nat.{ℕ}
+use Rattle.std.specs.Prelude.{Result, Ok, Err}
+use Rattle.number.specs.Answer.{code}
+use Rattle.number.specs.declared.refusal.Refusal.{Refusal}
 use native.Mathlib.Omega.{arith}
 use mathlib.Core.Path.{◌≡◌, refl, ap, ◌∙◌}
-use mathlib.Core.Bool.{true, false}
+use mathlib.Core.Bool.{Bool, true, false}
 use mathlib.Core.List.{List, [], ◌∷◌}
 use lib.Dec.{eqb}
 use lib.Ieee.{Float}
 use lib.ListN.{length, set}
 use Rattle.number.specs.Ans.{Ans, held, refused, ◌>>=◌, demand}
-use Rattle.mie_parameters.specs.Answer.{verdict, status, stored, number_of}
-use Rattle.mie_parameters.specs.declared.ParameterAnswer.{ParameterAnswer}
+use Rattle.mie_parameters.specs.Answer.{outcome, verdict, status, stored, number_of}
 use Rattle.saftvrqmie_energies.specs.Energies.{EnergiesIn}
 use Rattle.round_robin.specs.Desk.{Told, idle, worked, finished, Served, Entered}
 use Rattle.desk_place.specs.Layout.{Lists}
 use Rattle.desk.specs.Desk.{served_once, place_told, entered_of, told_of, desk_of}
 use Rattle.desk_calls.specs.Calls.{Slip, Lent, handed, filled, served_call}
 
-pub status_is : {S : Type 0} (a : Ans S) (r : ParameterAnswer) (n : ℕ) → r ≡ verdict a → n ≡ number_of r → n ≡ status a
-unfolding status
-status_is a r n h e = e ∙ ap number_of h
+pub status_is : {S : Type 0} (a : Ans S) (r : Result (Unit {0}) Refusal) (n : ℕ) → outcome r true ≡ verdict a → n ≡ number_of r → n ≡ status a
+unfolding status verdict
+status_is (held x) (Ok u) n h e = e
+status_is (held x) (Err k) n h e = let z : ◌≡◌ {A = ℕ} 0 1 = cc in absurd (omega arith)
+status_is (refused k) (Ok u) n h e = let z : ◌≡◌ {A = ℕ} 0 1 = cc in absurd (omega arith)
+status_is (refused k) (Err m) n h e = e ∙ same h
+  where
+    same : ◌≡◌ {A = Ans Bool} (refused (code m)) (refused k) → code m ≡ k
+    same h = cc
 
 -- ---- submit
 

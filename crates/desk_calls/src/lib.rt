@@ -11,8 +11,9 @@ ghost use Rattle.desk_place.specs.Place.{Query};
 ghost use Rattle.desk.specs.Desk.{begun, submitted};
 ghost use Rattle.desk_calls.specs.Calls.{Lent, handed, served_call};
 
-use desk::{DeskAnswer, PlaceAnswer};
-use saftvrqmie_energies::EnergiesAnswer;
+use desk::Served;
+use number::Refusal;
+use saftvrqmie_energies::QuantumEnergies;
 
 // A desk with no query. 1 for a list of another length.
 pub fn begin(floats: &mut [f64], bytes: &mut [u8]) -> u8
@@ -56,8 +57,8 @@ pub fn submit(
         non_additive,
     );
     match answer {
-        PlaceAnswer::Refused(n) => n,
-        PlaceAnswer::At(k) => {
+        Err(r) => r.code(),
+        Ok(k) => {
             *place = k;
             0
         }
@@ -65,16 +66,16 @@ pub fn submit(
 }
 
 // The answer of a finished query: its number, and energies where it is 0.
-fn hand_out(e: EnergiesAnswer, number: &mut u8, out: &mut [f64])
+fn hand_out(e: Result<QuantumEnergies, Refusal>, number: &mut u8, out: &mut [f64])
     requires { length out.old ≡ 3 }
     ensures { let a = energies_answer e in
         (number.new ≡ status a) × (out.new ≡ handed a out.old) }
 {
     match e {
-        EnergiesAnswer::Refused(n) => {
-            *number = n;
+        Err(r) => {
+            *number = r.code();
         }
-        EnergiesAnswer::Energies(x) => {
+        Ok(x) => {
             *number = 0;
             out[0] = x.hard_sphere;
             out[1] = x.dispersion;
@@ -101,20 +102,22 @@ pub fn serve(
     }
     let answer = desk::serve(floats, bytes);
     match answer {
-        DeskAnswer::Refused(n) => n,
-        DeskAnswer::Idle => {
-            *outcome = 0;
-            0
-        }
-        DeskAnswer::Worked => {
-            *outcome = 1;
-            0
-        }
-        DeskAnswer::Finished(k, e) => {
-            *outcome = 2;
-            *place = k;
-            hand_out(e, number, out);
-            0
-        }
+        Err(r) => r.code(),
+        Ok(told) => match told {
+            Served::Idle => {
+                *outcome = 0;
+                0
+            }
+            Served::Worked => {
+                *outcome = 1;
+                0
+            }
+            Served::Finished(k, e) => {
+                *outcome = 2;
+                *place = k;
+                hand_out(e, number, out);
+                0
+            }
+        },
     }
 }

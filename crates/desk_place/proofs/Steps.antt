@@ -1,5 +1,8 @@
 -- A unit, and a query that comes in, step by step over plain values. Assumes nothing.
 use Prim.Native.Nat.{ℕ, ◌+◌, ◌-◌, ◌*◌, ◌≤◌, ◌<◌}
+use Rattle.std.specs.Prelude.{Err, Ok, Result}
+use Rattle.number.specs.Answer.{code}
+use Rattle.number.specs.declared.refusal.Refusal.{Refusal}
 use native.Mathlib.Omega.{arith}
 use mathlib.Core.Path.{◌≡◌, refl, ap, ◌∙◌}
 use mathlib.Core.List.{List, [], ◌++◌}
@@ -22,8 +25,6 @@ use Rattle.saftvrqmie_potential.specs.Potential.{pair_in, pair_at_entry}
 use Rattle.saftvrqmie_potential.specs.declared.Pair.{Pair}
 use Rattle.saftvrqmie_properties.specs.Properties.{PairPropertiesIn, pair_properties_in, pair_properties_answer, pair_properties}
 use Rattle.saftvrqmie_properties.specs.declared.PairProperties.{PairProperties}
-use Rattle.saftvrqmie_properties.specs.declared.PropertiesAnswer.{PropertiesAnswer}
-use Rattle.saftvrqmie_properties.specs.declared.PropertiesAnswer.TheVariants.{At, Outside}
 use Rattle.saftvrqmie.proofs.Laws.{work_held, work_outside}
 use Rattle.saftvrqmie.specs.Table.{Lent, blank, store, work_turn, table_finite}
 use Rattle.saftvrqmie_energies.specs.Energies.{EnergiesIn, energies}
@@ -152,14 +153,14 @@ part_to a n l = let e : a + n - a ≡ n = omega arith in rw e
 
 -- ---- the pair in hand, worked
 module _ (p : Lists) where
-  pub worked_6 : (i j : ℕ) (x : Pair) (r : PropertiesAnswer) → i ≡ row_in p.bytes → j ≡ column_in p.bytes
+  pub worked_6 : (i j : ℕ) (x : Pair) (r : Result PairProperties Refusal) → i ≡ row_in p.bytes → j ≡ column_in p.bytes
       → x ≡ pair_at_entry (set_of p).sheets (set_of p).orders (temperature_of p) (12 * i + j) → pair_properties_answer r ≡ pair_properties floats (calls floats port) (pair_in x)
-      → r ≡ Outside → turn p ≡ refused 6
-  worked_6 i j x r e f d q h = rw (← e, ← f) (work_outside (set_of p).sheets (set_of p).orders (temperature_of p) i j (record { values = table_of p; numbers = [] }) x r d q h)
+      → {n : Refusal} → r ≡ Err n → turn p ≡ refused (code n)
+  worked_6 i j x r e f d q h = rw (← e, ← f) (work_outside (set_of p).sheets (set_of p).orders (temperature_of p) i j (record { values = table_of p; numbers = [] }) x r d q _ h)
 
-  pub worked_held : (i j : ℕ) (x : Pair) (r : PropertiesAnswer) (w : PairProperties) → i ≡ row_in p.bytes → j ≡ column_in p.bytes
+  pub worked_held : (i j : ℕ) (x : Pair) (r : Result PairProperties Refusal) (w : PairProperties) → i ≡ row_in p.bytes → j ≡ column_in p.bytes
       → x ≡ pair_at_entry (set_of p).sheets (set_of p).orders (temperature_of p) (12 * i + j) → pair_properties_answer r ≡ pair_properties floats (calls floats port) (pair_in x)
-      → r ≡ At w → turn p ≡ held (store (record { values = table_of p; numbers = [] }) (12 * i + j) (pair_properties_in w))
+      → r ≡ Ok w → turn p ≡ held (store (record { values = table_of p; numbers = [] }) (12 * i + j) (pair_properties_in w))
   worked_held i j x r w e f d q h = rw (← e, ← f) (work_held (set_of p).sheets (set_of p).orders (temperature_of p) i j (record { values = table_of p; numbers = [] }) x r d q _ w h refl)
 
   pub tabled_at : (e : ℕ) (w : PairPropertiesIn Float) (y : List Float) → length p.floats ≡ place_floats → y ≡ (store (record { values = table_of p; numbers = [] }) e w).values

@@ -1,5 +1,6 @@
 -- A quantum query in its place (Slip 12): how it comes in, and one unit of it.
-use Rattle.std.specs.Prelude.{ℕ, ◌+◌, eqb, ltb, Float, set, List, [], Bool, ◌&&◌, cond}
+use Rattle.std.specs.Prelude.{ℕ, ◌+◌, eqb, ltb, Float, set, List, [], Bool, ◌&&◌, cond, Result, None, Some}
+use Rattle.std.specs.Prelude as Std
 use Rattle.std.proofs.Math.Option.{Option, none, some}
 use Rattle.number.specs.Ans.{Ans, held, refused, ◌>>=◌, demand}
 use Rattle.saftvrqmie.specs.Table.{Lent, blank, work_turn, table_finite}
@@ -7,8 +8,8 @@ use Rattle.saftvrqmie_energies.specs.Energies.{EnergiesIn, energies, energies_an
 use Rattle.set_lists.specs.Sets.{QuantumLists}
 use Rattle.round_robin.specs.Desk.{Step, going, done}
 use Rattle.desk_place.specs.Layout.{over, Lists, m_at, fractions_at, densities_at, temperature_at, sheets_at, table_at, count_at, row_at, column_at, wanted_at, orders_at, count_in, row_in, column_in, wanted_in, temperature_of, fractions_of, densities_of, table_of, set_of}
-use Rattle.desk_place.specs.declared.UnitAnswer.{UnitAnswer}
-use Rattle.desk_place.specs.declared.UnitAnswer.TheVariants.{Going, Done}
+use Rattle.number.specs.declared.refusal.Refusal.{Refusal}
+use Rattle.saftvrqmie_energies.specs.declared.QuantumEnergies.{QuantumEnergies}
 
 -- a query: a set's lists, the temperature, fractions, densities, and whether the non-additive part is wanted
 pub record Query : Type 0 where
@@ -73,6 +74,6 @@ unfoldable pub step_told : Step Lists (Ans (EnergiesIn Float)) → Option (Ans (
 step_told (going p) = none
 step_told (done p a) = some a
 
-abbrev pub unit_answer : UnitAnswer → Option (Ans (EnergiesIn Float))
-unit_answer Going = none
-unit_answer (Done a) = some (energies_answer a)
+abbrev pub unit_answer : Std.Option (Result QuantumEnergies Refusal) → Option (Ans (EnergiesIn Float))
+unit_answer None = none
+unit_answer (Some a) = some (energies_answer a)

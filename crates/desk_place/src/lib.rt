@@ -19,18 +19,12 @@ use crate::layout::{
     M_AT, MASS_AT, ORDERS_AT, PLACE_BYTES, PLACE_FLOATS, ROW_AT, SHEETS_AT, TABLE_AT,
     TEMPERATURE_AT, WANTED_AT,
 };
-use saftvrqmie_energies::EnergiesAnswer;
+use number::Refusal;
+use saftvrqmie_energies::QuantumEnergies;
 use saftvrqmie_potential::Pair;
-use saftvrqmie_properties::{PairProperties, PropertiesAnswer};
+use saftvrqmie_properties::PairProperties;
 use sizes::table::{EPSILON_K_EFF, HS_DIAMETER, QUANTUM_D};
 use sizes::{SIDE, TABLE};
-
-// What a unit leaves: the query goes on, or is finished with an answer.
-#[derive(Clone, Copy)]
-pub enum UnitAnswer {
-    Going,
-    Done(EnergiesAnswer),
-}
 
 fn wide(x: u8) -> usize
     ensures { result ≡ x }
@@ -108,13 +102,13 @@ fn all_finite(table: &[f64]) -> bool
 }
 
 // The energies of the whole table, as the direct call works them.
-fn answer(floats: &[f64], bytes: &[u8]) -> EnergiesAnswer
+fn answer(floats: &[f64], bytes: &[u8]) -> Result<QuantumEnergies, Refusal>
     requires { (length floats.now ≡ place_floats) × (length bytes.now ≡ place_bytes) × (waits_in bytes.now ≡ true) }
     ensures { energies_answer result ≡ answer_of (record { floats = floats.entry.now; bytes = bytes.now }) }
 {
     let table = &floats[TABLE_AT..PLACE_FLOATS];
     if !all_finite(table) {
-        return EnergiesAnswer::Refused(7);
+        return Err(Refusal::NotFinite);
     }
     let n = byte_at(bytes, COUNT_AT);
     let wanted = byte_at(bytes, WANTED_AT) != 0;
@@ -162,23 +156,23 @@ fn move_on(bytes: &mut [u8])
     bytes[COLUMN_AT] = 0;
 }
 
-// With a pair stored: the next pair comes in hand, or the energies are worked and the place is freed.
-fn settle(floats: &[f64], bytes: &mut [u8]) -> UnitAnswer
+// With a pair stored: the next pair comes in hand, or the energies are worked and the place is freed. None: the query goes on.
+fn settle(floats: &[f64], bytes: &mut [u8]) -> Option<Result<QuantumEnergies, Refusal>>
     requires { (length floats.now ≡ place_floats) × (length bytes.old ≡ place_bytes) × (waits_in bytes.old ≡ true) }
     ensures { let s = settled (record { floats = floats.entry.now; bytes = bytes.old }) in
         (unit_answer result ≡ step_told s) × (record { floats = floats.entry.now; bytes = bytes.new } ≡ place_left s) }
 {
     if !last_pair(bytes) {
         move_on(bytes);
-        return UnitAnswer::Going;
+        return None;
     }
     let worked = answer(floats, bytes);
     bytes[COUNT_AT] = 0;
-    UnitAnswer::Done(worked)
+    Some(worked)
 }
 
-// One unit of the query in a place: the pair in hand, and after the last one the energies. A 6 ends it here, a 7 at the last.
-pub fn unit(floats: &mut [f64], bytes: &mut [u8]) -> UnitAnswer
+// One unit of the query in a place: the pair in hand, and after the last one the energies. A 6 ends it here, a 7 at the last. None: the query goes on.
+pub fn unit(floats: &mut [f64], bytes: &mut [u8]) -> Option<Result<QuantumEnergies, Refusal>>
     requires { (length floats.old ≡ place_floats) × (length bytes.old ≡ place_bytes) × (waits_in bytes.old ≡ true) }
     ensures { let s = unit (record { floats = floats.entry.now; bytes = bytes.old }) in
         (unit_answer result ≡ step_told s) × (record { floats = floats.exit.now; bytes = bytes.new } ≡ place_left s) }
@@ -187,12 +181,16 @@ pub fn unit(floats: &mut [f64], bytes: &mut [u8]) -> UnitAnswer
     let j = byte_at(bytes, COLUMN_AT);
     let e = SIDE * i + j;
     let pair = pair_here(floats, bytes, e);
-    let PropertiesAnswer::At(w) = saftvrqmie_properties::pair_properties(pair) else {
-        bytes[COUNT_AT] = 0;
-        return UnitAnswer::Done(EnergiesAnswer::Refused(6));
-    };
-    store(&mut floats[TABLE_AT..PLACE_FLOATS], e, w);
-    settle(floats, bytes)
+    match saftvrqmie_properties::pair_properties(pair) {
+        Err(r) => {
+            bytes[COUNT_AT] = 0;
+            Some(Err(r))
+        }
+        Ok(w) => {
+            store(&mut floats[TABLE_AT..PLACE_FLOATS], e, w);
+            settle(floats, bytes)
+        }
+    }
 }
 
 // Whether a place has a query waiting.

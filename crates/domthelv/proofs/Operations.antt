@@ -1,17 +1,17 @@
 -- The operations behind the boundary, test by test, over plain values. Assumes nothing.
 use Prim.Native.Nat.{ℕ, ◌*◌}
+use Rattle.std.specs.Prelude.{Err, Ok, Result}
+use Rattle.number.specs.declared.refusal.Refusal.{Refusal}
 use lib.Dec.{eqb}
 use lib.Ieee.{Float}
 use lib.ListN.{length}
 use borrow.Author.Tests.{eqb-true}
 use Rattle.mie_parameters.proofs.Laws.{and_left, and_right}
 use mathlib.Core.List.{List}
-use mathlib.Core.Path.{◌≡◌, sym, ap, ◌∙◌}
+use mathlib.Core.Path.{◌≡◌, refl, sym, ap, ◌∙◌}
 use mathlib.Core.Bool.{Bool, true, false}
 use Rattle.number.specs.Ans.{Ans, held, refused, ◌>>=◌, demand}
 use Rattle.sizes.specs.Sizes.{sheet}
-use Rattle.mie_parameters.specs.declared.ParameterAnswer.{ParameterAnswer}
-use Rattle.mie_parameters.specs.declared.ParameterAnswer.TheVariants.{Held, Refused}
 use Rattle.mie_parameters.specs.Answer.{number_of, outcome, verdict, stored, status}
 use Rattle.saftvrqmie_parameters.specs.Parameters as Quantum
 use Rattle.saftvrqmie_parameters.specs.declared.OrderRecord.{OrderRecord}
@@ -39,10 +39,20 @@ use Rattle.set_lists.specs.Sets.{QuantumLists, taken, quantum_lengths, quantum_s
 use Rattle.set_lists.specs.Written.{QuantumLent, MieLent, set_written, mie_written}
 use Rattle.domthelv.specs.Operations.{counts_written, order_counts_out, vrq_parameters, vrq_table, radii_lengths, radii_written, vrq_radii, energies_written, vrq_energies, ends_written, vrq_energies_ends, pair_written, vrq_diameter, vrq_diameter_ends, vrq_stage, vr_parameters, vr_diameters, vr_radius, vr_diameter, vr_dispersion, vr_dispersion_ends, vr_diameter_ends}
 
--- an operation that gives a parameter answer and leaves its lists by `stored`
-pub through_status : {S : Type 0} (q p : Ans S) (a : ParameterAnswer) (r : ℕ) → q ≡ p → a ≡ verdict p → r ≡ number_of a → r ≡ status q
+-- `outcome` of an operation that leaves nothing behind
+pub outcome_status : (a : Result (Unit {0}) Refusal) (r : ℕ) (q : Ans Bool) → outcome a true ≡ q → r ≡ number_of a → r ≡ status q
 unfolding status
-through_status q p a r e f g = rw e (g ∙ ap number_of f)
+outcome_status (Ok u) r q p e = rw (← p) e
+outcome_status (Err n) r q p e = rw (← p) e
+
+verdict_status : {S : Type 0} (p : Ans S) → status (verdict p) ≡ status p
+unfolding status verdict
+verdict_status (held x) = refl
+verdict_status (refused n) = refl
+
+-- an operation that gives a parameter answer and leaves its lists by `stored`
+pub through_status : {S : Type 0} (q p : Ans S) (a : Result (Unit {0}) Refusal) (r : ℕ) → q ≡ p → outcome a true ≡ verdict p → r ≡ number_of a → r ≡ status q
+through_status q p a r e f g = rw e (outcome_status a r (verdict p) f g ∙ verdict_status p)
 
 pub through_stored : {S : Type 0} (l : S) (q p : Ans S) → q ≡ p → stored l p ≡ stored l q
 through_stored l q p e = ap (stored l) (sym e)
@@ -296,9 +306,3 @@ module _ (s : MieLists) where
         pub mie_diameter_ends_held : (e : Ends) → MieDiameter.diameter_ends port x i j t r0 ≡ held e → vr_diameter_ends s i j t r0 l ≡ held (pair_written e l)
         unfolding vr_diameter_ends demand ◌>>=◌
         mie_diameter_ends_held e h = rw (p, q, h)
-
--- `outcome` of an operation that leaves nothing behind
-pub outcome_status : (a : ParameterAnswer) (r : ℕ) (q : Ans Bool) → outcome a true ≡ q → r ≡ number_of a → r ≡ status q
-unfolding status verdict
-outcome_status Held r q p e = rw (← p) e
-outcome_status (Refused n) r q p e = rw (← p) e

@@ -1,5 +1,8 @@
 -- The total behind the boundary, test by test, over plain values. Assumes nothing.
 use Prim.Native.Nat.{ℕ}
+use Rattle.std.specs.Prelude.{Err, Ok, Result}
+use Rattle.number.specs.declared.refusal.Refusal.{Refusal}
+use Rattle.number.specs.Answer.{code, answer}
 use lib.Dec.{eqb}
 use lib.Ieee.{Float}
 use lib.ListN.{length}
@@ -10,9 +13,7 @@ use Rattle.number.specs.Ans.{Ans, held, refused, ◌>>=◌, demand}
 use Rattle.saftvrqmie_parameters.specs.declared.SaftVRQMiePars.{SaftVRQMiePars}
 use Rattle.saftvrqmie_energies.specs.Energies.{EnergiesIn, state_lengths, energies}
 use Rattle.saftvrqmie_total.specs.declared.QuantumTotal.{QuantumTotal}
-use Rattle.saftvrqmie_total.specs.declared.TotalAnswer.{TotalAnswer}
-use Rattle.saftvrqmie_total.specs.declared.TotalAnswer.TheVariants.{Total, Refused}
-use Rattle.saftvrqmie_total.specs.Total.{total_answer, contributions_total, total}
+use Rattle.saftvrqmie_total.specs.Total.{contributions_total, total}
 use Rattle.set_lists.specs.Sets.{QuantumLists, quantum_set}
 use Rattle.domthelv.specs.Total.{total_written, total_stored, vrq_total}
 
@@ -35,10 +36,10 @@ module _ (s : QuantumLists) (t : Float) (x rho table : List Float) (wanted : Boo
       unfolding vrq_total total demand ◌>>=◌
       total_worked e h a k = rw (p, q, h) (ap (λ (z : Ans QuantumTotal). total_stored z l) k)
 
-pub stored_refused : (a : TotalAnswer) (n : ℕ) (l : List Float) → a ≡ Refused n → total_stored (total_answer a) l ≡ refused n
+pub stored_refused : (a : Result QuantumTotal Refusal) (n : Refusal) (l : List Float) → a ≡ Err n → total_stored (answer a) l ≡ refused (code n)
 unfolding total_stored ◌>>=◌
 stored_refused a n l p = rw p
 
-pub stored_held : (a : TotalAnswer) (w : QuantumTotal) (l : List Float) → a ≡ Total w → total_stored (total_answer a) l ≡ held (total_written w l)
+pub stored_held : (a : Result QuantumTotal Refusal) (w : QuantumTotal) (l : List Float) → a ≡ Ok w → total_stored (answer a) l ≡ held (total_written w l)
 unfolding total_stored ◌>>=◌
 stored_held a w l p = rw p

@@ -5,9 +5,8 @@ ghost use Rattle.set_lists.specs.Sets.{QuantumLists, MieLists};
 ghost use Rattle.domthelv.specs.Operations.{ends_written, vrq_energies_ends, pair_written, vrq_diameter_ends, vr_dispersion_ends, vr_diameter_ends};
 ghost use Rattle.saftvrqmie_energies_ends.specs.Operation.{ends_each};
 
-use enclosure::{Ends, EndsAnswer};
-use mie_parameters::ParameterAnswer;
-use saftvrqmie_energies_ends::{EnergiesEnds, EnergiesEndsAnswer};
+use enclosure::Ends;
+use saftvrqmie_energies_ends::EnergiesEnds;
 
 pub fn write_ends(e: EnergiesEnds, out: &mut [f64])
     requires { length out.old ≡ 6 }
@@ -46,7 +45,7 @@ pub fn domthelv_vrq_energies_ends(
     }
     let right = saftvrqmie_energies::right_lengths(count, fractions, densities, table);
     let read = set_lists::quantum_answer(count, m, sheets, orders, right);
-    let ParameterAnswer::Held = read else {
+    let Ok(()) = read else {
         return mie_parameters::number(read);
     };
     let places = set_lists::places(m, 0);
@@ -64,8 +63,8 @@ pub fn domthelv_vrq_energies_ends(
         non_additive,
     );
     match worked {
-        EnergiesEndsAnswer::Refused(n) => n,
-        EnergiesEndsAnswer::Held(e) => {
+        Err(r) => r.code(),
+        Ok(e) => {
             write_ends(e, out);
             0
         }
@@ -102,7 +101,7 @@ pub fn domthelv_vrq_diameter_ends(
     }
     let right = limits::index_within(count, i, j);
     let read = set_lists::quantum_answer(count, m, sheets, orders, right);
-    let ParameterAnswer::Held = read else {
+    let Ok(()) = read else {
         return mie_parameters::number(read);
     };
     let set = set_lists::quantum_set(count, m, sheets, orders);
@@ -115,8 +114,8 @@ pub fn domthelv_vrq_diameter_ends(
         r0,
     );
     match worked {
-        EndsAnswer::Refused(n) => n,
-        EndsAnswer::Held(e) => {
+        Err(r) => r.code(),
+        Ok(e) => {
             write_pair(e, out);
             0
         }
@@ -155,8 +154,8 @@ pub fn domthelv_vr_dispersion_ends(
         chain,
     );
     match worked {
-        EndsAnswer::Refused(n) => n,
-        EndsAnswer::Held(e) => {
+        Err(r) => r.code(),
+        Ok(e) => {
             write_pair(e, out);
             0
         }
@@ -187,8 +186,8 @@ pub fn domthelv_vr_diameter_ends(
     let set = set_lists::mie_set(count, lists, sheets);
     let worked = saftvrmie_diameter_ends::hs_diameter_ij_ends(set, i, j, temperature, r0);
     match worked {
-        EndsAnswer::Refused(n) => n,
-        EndsAnswer::Held(e) => {
+        Err(r) => r.code(),
+        Ok(e) => {
             write_pair(e, out);
             0
         }

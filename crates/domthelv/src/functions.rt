@@ -8,17 +8,19 @@ ghost use Rattle.elementary.specs.Promised.{SqrtAt, LnAt, Ln1pAt, ExpAt, ExpM1At
 ghost use Rattle.mie_parameters.specs.Answer.{status, stored};
 ghost use Rattle.domthelv.specs.Elementary.{Delivers};
 
-use number::FloatAnswer;
+use number::Refusal;
 
 // Stores an answer's value; gives 0, or 6 where the argument is outside.
-fn deliver(a: FloatAnswer, out: &mut f64) -> u8
+fn deliver(a: Result<f64, Refusal>, out: &mut f64) -> u8
     ensures { (result ≡ status (answer a)) × (out.new ≡ stored out.old (answer a)) }
 {
-    let FloatAnswer::Value(v) = a else {
-        return 6;
-    };
-    *out = v;
-    0
+    match a {
+        Err(r) => r.code(),
+        Ok(v) => {
+            *out = v;
+            0
+        }
+    }
 }
 
 // The elementary functions: 6 if the argument is outside, else the value of its definition, which keeps what document 01 promises.

@@ -7,8 +7,6 @@ ghost use Rattle.domthelv.specs.Operations.{vr_parameters, vr_diameters, vr_radi
 ghost use Rattle.stages.specs.Stages.{mie_stage};
 ghost use Rattle.saftvrmie_parameters.specs.Parameters as Mie;
 
-use mie_parameters::{NumberAnswer, ParameterAnswer};
-use saftvrmie_energies::EnergyAnswer;
 use sizes::SIDE;
 
 // Parameters of SAFT-VR Mie. 1, 2, 6.
@@ -42,16 +40,16 @@ pub fn domthelv_vr_parameters(
     if !set_lists::mie_lengths(set_lists, set_sheets) {
         return 1;
     }
-    let given = saftvrmie_parameters::parameters(
+    let given = saftvrmie_parameters::saft_vr_mie_pars(
         count, m, sigma, epsilon_k, lr, la, k_ij, gamma_ij,
     );
-    let answer = given.answer;
-    let ParameterAnswer::Held = answer else {
-        return mie_parameters::number(answer);
-    };
-    let set = given.set;
-    set_lists::write_mie(set, set_lists, set_sheets);
-    0
+    match given {
+        Err(r) => r.code(),
+        Ok(set) => {
+            set_lists::write_mie(set, set_lists, set_sheets);
+            0
+        }
+    }
 }
 
 // The components' diameters. 1, 2, 6, 7.
@@ -94,8 +92,8 @@ pub fn domthelv_vr_radius(
     let set = set_lists::mie_set(count, lists, sheets);
     let worked = saftvrmie::radius_ij(set, i, j, temperature);
     match worked {
-        NumberAnswer::Refused(n) => n,
-        NumberAnswer::Value(x) => {
+        Err(r) => r.code(),
+        Ok(x) => {
             *out = x;
             0
         }
@@ -123,8 +121,8 @@ pub fn domthelv_vr_diameter(
     let set = set_lists::mie_set(count, lists, sheets);
     let worked = saftvrmie::diameter_ij(set, i, j, temperature, r0);
     match worked {
-        NumberAnswer::Refused(n) => n,
-        NumberAnswer::Value(x) => {
+        Err(r) => r.code(),
+        Ok(x) => {
             *out = x;
             0
         }
@@ -171,8 +169,8 @@ pub fn domthelv_vr_dispersion(
         chain,
     );
     match worked {
-        EnergyAnswer::Refused(n) => n,
-        EnergyAnswer::Value(x) => {
+        Err(r) => r.code(),
+        Ok(x) => {
             *out = x;
             0
         }
@@ -224,8 +222,8 @@ pub fn domthelv_vr_stage(
         chain,
     );
     match worked {
-        EnergyAnswer::Refused(n) => n,
-        EnergyAnswer::Value(x) => {
+        Err(r) => r.code(),
+        Ok(x) => {
             *out = x;
             0
         }

@@ -1,5 +1,6 @@
 // SAFT-VRQ Mie at the C boundary: parameters, table, a pair's searches and diameter, energies, the stage.
 ghost use Rattle.std.specs.Prelude.{◌≡◌, length};
+ghost use Rattle.number.specs.Answer.{answer};
 ghost use Rattle.mie_parameters.specs.Answer.{status, stored};
 ghost use Rattle.set_lists.specs.Sets.{QuantumLists};
 ghost use Rattle.set_lists.specs.Written.{QuantumLent};
@@ -9,13 +10,12 @@ ghost use Rattle.saftvrqmie_parameters.specs.Parameters as Quantum;
 ghost use Rattle.saftvrqmie.specs.Table.{Lent};
 ghost use Rattle.saftvrqmie.specs.Pairs.{searches_in};
 ghost use Rattle.saftvrqmie_energies.specs.Energies.{energies_in};
-ghost use Rattle.saftvrqmie_total.specs.Total.{total_answer};
 
-use mie_parameters::{NumberAnswer, ParameterAnswer};
-use order_counts::{CountsAnswer, OrderCounts};
-use saftvrqmie::{PairSearches, SearchesAnswer};
-use saftvrqmie_energies::{EnergiesAnswer, QuantumEnergies};
-use saftvrqmie_total::{QuantumTotal, TotalAnswer};
+use number::Refusal;
+use order_counts::OrderCounts;
+use saftvrqmie::PairSearches;
+use saftvrqmie_energies::QuantumEnergies;
+use saftvrqmie_total::QuantumTotal;
 
 // `SaftVRQMieRecord::new`: 3 if m is not 1.
 pub fn domthelv_vrq_record_m(m: f64) -> u8
@@ -44,8 +44,8 @@ pub fn domthelv_order_counts(count: usize, out: &mut [u64]) -> u8
     }
     let counted = order_counts::order_counts(count);
     match counted {
-        CountsAnswer::Refused(n) => n,
-        CountsAnswer::Counts(c) => {
+        Err(r) => r.code(),
+        Ok(c) => {
             write_counts(c, out);
             0
         }
@@ -88,16 +88,16 @@ pub fn domthelv_vrq_parameters(
     if !set_lists::quantum_lengths(set_m, set_sheets, set_orders) {
         return 1;
     }
-    let given = saftvrqmie_parameters::parameters(
+    let given = saftvrqmie_parameters::saft_vrq_mie_pars(
         count, m, sigma, epsilon_k, lr, la, mass, order, k_ij, l_ij,
     );
-    let answer = given.answer;
-    let ParameterAnswer::Held = answer else {
-        return mie_parameters::number(answer);
-    };
-    let set = given.set;
-    set_lists::write_quantum(set, set_m, set_sheets, set_orders);
-    0
+    match given {
+        Err(r) => r.code(),
+        Ok(set) => {
+            set_lists::write_quantum(set, set_m, set_sheets, set_orders);
+            0
+        }
+    }
 }
 
 // Temperature table and counts. 1, 4, then 2, 6, 7.
@@ -117,7 +117,7 @@ pub fn domthelv_vrq_table(
 {
     let right = saftvrqmie::right_lists(count, table.len(), counts.len());
     let read = set_lists::quantum_answer(count, m, sheets, orders, right);
-    let ParameterAnswer::Held = read else {
+    let Ok(()) = read else {
         return mie_parameters::number(read);
     };
     let flat = set_lists::flat(sheets);
@@ -172,14 +172,14 @@ pub fn domthelv_vrq_radii(
     }
     let right = limits::index_within(count, i, j);
     let read = set_lists::quantum_answer(count, m, sheets, orders, right);
-    let ParameterAnswer::Held = read else {
+    let Ok(()) = read else {
         return mie_parameters::number(read);
     };
     let set = set_lists::quantum_set(count, m, sheets, orders);
     let searched = saftvrqmie::radii_ij(set, i, j, temperature);
     match searched {
-        SearchesAnswer::Refused(n) => n,
-        SearchesAnswer::Searched(p) => {
+        Err(r) => r.code(),
+        Ok(p) => {
             write_searches(p, out, counts);
             0
         }
@@ -217,7 +217,7 @@ pub fn domthelv_vrq_energies(
     }
     let right = saftvrqmie_energies::right_lengths(count, fractions, densities, table);
     let read = set_lists::quantum_answer(count, m, sheets, orders, right);
-    let ParameterAnswer::Held = read else {
+    let Ok(()) = read else {
         return mie_parameters::number(read);
     };
     let places = set_lists::places(m, 0);
@@ -235,8 +235,8 @@ pub fn domthelv_vrq_energies(
         non_additive,
     );
     match worked {
-        EnergiesAnswer::Refused(n) => n,
-        EnergiesAnswer::Energies(e) => {
+        Err(r) => r.code(),
+        Ok(e) => {
             write_energies(e, out);
             0
         }
@@ -255,14 +255,14 @@ fn write_total(w: QuantumTotal, out: &mut [f64])
     out[3] = last.remainder;
 }
 
-fn deliver_total(a: TotalAnswer, out: &mut [f64]) -> u8
+fn deliver_total(a: Result<QuantumTotal, Refusal>, out: &mut [f64]) -> u8
     requires { length out.old ≡ 4 }
-    ensures { let q = total_stored (total_answer a) out.old in
+    ensures { let q = total_stored (answer a) out.old in
         (result ≡ status q) × (out.new ≡ stored out.old q) }
 {
     match a {
-        TotalAnswer::Refused(n) => n,
-        TotalAnswer::Total(w) => {
+        Err(r) => r.code(),
+        Ok(w) => {
             write_total(w, out);
             0
         }
@@ -291,7 +291,7 @@ pub fn domthelv_vrq_total(
     }
     let right = saftvrqmie_energies::right_lengths(count, fractions, densities, table);
     let read = set_lists::quantum_answer(count, m, sheets, orders, right);
-    let ParameterAnswer::Held = read else {
+    let Ok(()) = read else {
         return mie_parameters::number(read);
     };
     let places = set_lists::places(m, 0);
@@ -309,8 +309,8 @@ pub fn domthelv_vrq_total(
         non_additive,
     );
     match worked {
-        EnergiesAnswer::Refused(n) => n,
-        EnergiesAnswer::Energies(e) => {
+        Err(r) => r.code(),
+        Ok(e) => {
             let total = saftvrqmie_total::contributions_total(e, non_additive);
             deliver_total(total, out)
         }
@@ -336,14 +336,14 @@ pub fn domthelv_vrq_diameter(
 {
     let right = limits::index_within(count, i, j);
     let read = set_lists::quantum_answer(count, m, sheets, orders, right);
-    let ParameterAnswer::Held = read else {
+    let Ok(()) = read else {
         return mie_parameters::number(read);
     };
     let set = set_lists::quantum_set(count, m, sheets, orders);
     let worked = saftvrqmie::hs_diameter_ij(set, i, j, temperature, sigma_eff, r0);
     match worked {
-        NumberAnswer::Refused(n) => n,
-        NumberAnswer::Value(x) => {
+        Err(r) => r.code(),
+        Ok(x) => {
             *out = x;
             0
         }
@@ -404,8 +404,8 @@ pub fn domthelv_vrq_stage(
         non_additive,
     );
     match worked {
-        EnergiesAnswer::Refused(n) => n,
-        EnergiesAnswer::Energies(e) => {
+        Err(r) => r.code(),
+        Ok(e) => {
             write_energies(e, out);
             0
         }

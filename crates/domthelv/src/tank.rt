@@ -6,8 +6,6 @@ ghost use Rattle.set_lists.specs.Sets.{QuantumLists};
 ghost use Rattle.domthelv.specs.Tank.{vrq_tank, vrq_tank_ends};
 
 use crate::{ends, quantum};
-use saftvrqmie_energies::EnergiesAnswer;
-use saftvrqmie_energies_ends::EnergiesEndsAnswer;
 
 // The energies of a tank: hard sphere, dispersion, non-additive. 14, 1, 4, then layer by layer 2, 6, 7, then 7 of the tank.
 pub fn domthelv_vrq_tank(
@@ -49,8 +47,8 @@ pub fn domthelv_vrq_tank(
         out.len() == 3,
     );
     match worked {
-        EnergiesAnswer::Refused(n) => n,
-        EnergiesAnswer::Energies(e) => {
+        Err(r) => r.code(),
+        Ok(e) => {
             quantum::write_energies(e, out);
             0
         }
@@ -97,8 +95,8 @@ pub fn domthelv_vrq_tank_ends(
         out.len() == 6,
     );
     match worked {
-        EnergiesEndsAnswer::Refused(n) => n,
-        EnergiesEndsAnswer::Held(e) => {
+        Err(r) => r.code(),
+        Ok(e) => {
             ends::write_ends(e, out);
             0
         }

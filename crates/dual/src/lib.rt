@@ -6,94 +6,118 @@ ghost use Rattle.number.specs.Arith.{floats};
 ghost use Rattle.dual.specs.Dual.{plain_d, add_d, sub_d, mul_d, div_d, neg_d, pow_d, down_d};
 ghost use Rattle.dual.specs.Value.{dual_of};
 
+use std::ops::{Add, Div, Mul, Neg, Sub};
+
 #[derive(Clone, Copy)]
 pub struct Dual {
     pub re: f64,
     pub eps: f64,
 }
 
-// A plain number: slope +0.
-pub fn plain(x: f64) -> Dual
-    ensures { dual_of result ≡ plain_d floats x }
-{
-    Dual { re: x, eps: 0.0 }
-}
-
-pub fn add(x: Dual, y: Dual) -> Dual
-    ensures { dual_of result ≡ add_d floats (dual_of x) (dual_of y) }
-{
-    Dual {
-        re: x.re + y.re,
-        eps: x.eps + y.eps,
+impl Dual {
+    // A plain number: slope +0.
+    pub fn plain(x: f64) -> Dual
+        ensures { dual_of result ≡ plain_d floats x }
+    {
+        Dual { re: x, eps: 0.0 }
     }
-}
 
-pub fn sub(x: Dual, y: Dual) -> Dual
-    ensures { dual_of result ≡ sub_d floats (dual_of x) (dual_of y) }
-{
-    Dual {
-        re: x.re - y.re,
-        eps: x.eps - y.eps,
+    // The whole power n. (The formulas' exponents are small; a u16 leaves room for n + 1.)
+    pub fn pow_up(self, n: u16) -> Dual
+        ensures { dual_of result ≡ pow_d floats (dual_of self) n }
+    {
+        if n == 0 {
+            return Dual {
+                re: number::pow_up(self.re, 0),
+                eps: 0.0,
+            };
+        }
+        let below = number::pow_up(self.re, n as u32 - 1);
+        Dual {
+            re: number::pow_up(self.re, n as u32),
+            eps: (n as f64) * below * self.eps,
+        }
     }
-}
 
-pub fn neg(x: Dual) -> Dual
-    ensures { dual_of result ≡ neg_d floats (dual_of x) }
-{
-    Dual {
-        re: -x.re,
-        eps: -x.eps,
-    }
-}
-
-pub fn mul(x: Dual, y: Dual) -> Dual
-    ensures { dual_of result ≡ mul_d floats (dual_of x) (dual_of y) }
-{
-    Dual {
-        re: x.re * y.re,
-        eps: x.eps * y.re + x.re * y.eps,
-    }
-}
-
-pub fn div(x: Dual, y: Dual) -> Dual
-    ensures { dual_of result ≡ div_d floats (dual_of x) (dual_of y) }
-{
-    Dual {
-        re: x.re / y.re,
-        eps: (x.eps * y.re - x.re * y.eps) / (y.re * y.re),
+    // The whole power minus n.
+    pub fn pow_down(self, n: u16) -> Dual
+        ensures { dual_of result ≡ down_d floats (dual_of self) n }
+    {
+        if n == 0 {
+            return Dual {
+                re: number::pow_down(self.re, 0),
+                eps: 0.0,
+            };
+        }
+        let beyond = number::pow_down(self.re, n as u32 + 1);
+        Dual {
+            re: number::pow_down(self.re, n as u32),
+            eps: -(n as f64) * beyond * self.eps,
+        }
     }
 }
 
-// The whole power n. (The formulas' exponents are small; a u16 leaves room for n + 1.)
-pub fn pow_up(x: Dual, n: u16) -> Dual
-    ensures { dual_of result ≡ pow_d floats (dual_of x) n }
-{
-    if n == 0 {
-        return Dual {
-            re: number::pow_up(x.re, 0),
-            eps: 0.0,
-        };
-    }
-    let below = number::pow_up(x.re, n as u32 - 1);
-    Dual {
-        re: number::pow_up(x.re, n as u32),
-        eps: (n as f64) * below * x.eps,
+impl Add for Dual {
+    type Output = Dual;
+
+    ghost add_gives = { λ x y r. dual_of r ≡ add_d floats (dual_of x) (dual_of y) };
+
+    fn add(self, y: Dual) -> Dual {
+        Dual {
+            re: self.re + y.re,
+            eps: self.eps + y.eps,
+        }
     }
 }
 
-// The whole power minus n.
-pub fn pow_down(x: Dual, n: u16) -> Dual
-    ensures { dual_of result ≡ down_d floats (dual_of x) n }
-{
-    if n == 0 {
-        return Dual {
-            re: number::pow_down(x.re, 0),
-            eps: 0.0,
-        };
+impl Sub for Dual {
+    type Output = Dual;
+
+    ghost sub_gives = { λ x y r. dual_of r ≡ sub_d floats (dual_of x) (dual_of y) };
+
+    fn sub(self, y: Dual) -> Dual {
+        Dual {
+            re: self.re - y.re,
+            eps: self.eps - y.eps,
+        }
     }
-    let beyond = number::pow_down(x.re, n as u32 + 1);
-    Dual {
-        re: number::pow_down(x.re, n as u32),
-        eps: -(n as f64) * beyond * x.eps,
+}
+
+impl Neg for Dual {
+    type Output = Dual;
+
+    ghost neg_gives = { λ x r. dual_of r ≡ neg_d floats (dual_of x) };
+
+    fn neg(self) -> Dual {
+        Dual {
+            re: -self.re,
+            eps: -self.eps,
+        }
+    }
+}
+
+impl Mul for Dual {
+    type Output = Dual;
+
+    ghost mul_gives = { λ x y r. dual_of r ≡ mul_d floats (dual_of x) (dual_of y) };
+
+    fn mul(self, y: Dual) -> Dual {
+        Dual {
+            re: self.re * y.re,
+            eps: self.eps * y.re + self.re * y.eps,
+        }
+    }
+}
+
+impl Div for Dual {
+    type Output = Dual;
+
+    ghost div_gives = { λ x y r. dual_of r ≡ div_d floats (dual_of x) (dual_of y) };
+
+    fn div(self, y: Dual) -> Dual {
+        Dual {
+            re: self.re / y.re,
+            eps: (self.eps * y.re - self.re * y.eps) / (y.re * y.re),
+        }
     }
 }

@@ -4,7 +4,7 @@
 
 ghost use Rattle.std.specs.Prelude.{◌<◌};
 
-use number::FloatAnswer;
+use number::Refusal;
 use std::fs::File;
 use std::io::{self, ErrorKind, Read};
 use std::rt::Files;
@@ -45,7 +45,7 @@ fn word(b: &[u8; 32], k: usize) -> u64 {
         + 4294967296 * half(b[i + 4], b[i + 5], b[i + 6], b[i + 7])
 }
 
-fn worked(which: u64, x: f64, y: f64) -> FloatAnswer {
+fn worked(which: u64, x: f64, y: f64) -> Result<f64, Refusal> {
     match which {
         0 => elementary::sqrt(x),
         1 => elementary::ln(x),
@@ -57,10 +57,10 @@ fn worked(which: u64, x: f64, y: f64) -> FloatAnswer {
     }
 }
 
-fn agrees(a: FloatAnswer, bits: u64) -> bool {
+fn agrees(a: Result<f64, Refusal>, bits: u64) -> bool {
     match a {
-        FloatAnswer::Value(v) => number::bits_of(v) == bits,
-        FloatAnswer::Outside => bits == 0xffff_ffff_ffff_ffff,
+        Ok(v) => number::bits_of(v) == bits,
+        Err(_) => bits == 0xffff_ffff_ffff_ffff,
     }
 }
 

@@ -1,5 +1,4 @@
 pub mod Constants
 pub mod Enclosure
 pub mod Exact
-pub mod Answer
 pub mod Ends

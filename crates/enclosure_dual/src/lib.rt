@@ -9,6 +9,7 @@ ghost use Rattle.enclosure_dual.specs.Value.{dual_of, about_zero};
 
 use enclosure::Enclosure;
 use interval::Interval;
+use std::ops::{Add, Div, Mul, Neg, Sub};
 
 #[derive(Clone, Copy)]
 pub struct EnclosureDual {
@@ -27,63 +28,133 @@ fn about_zero(sound: bool) -> Interval
     }
 }
 
-// A plain number: slope +0.
-pub fn plain(x: Enclosure) -> EnclosureDual
-    ensures { dual_of result ≡ plain_d enclosures x }
-{
-    EnclosureDual {
-        re: x,
-        eps: enclosure::point(0.0),
+impl EnclosureDual {
+    // A plain number: slope +0.
+    pub fn plain(x: Enclosure) -> EnclosureDual
+        ensures { dual_of result ≡ plain_d enclosures x }
+    {
+        EnclosureDual {
+            re: x,
+            eps: Enclosure::point(0.0),
+        }
+    }
+
+    // The whole power n.
+    pub fn pow_up(self, n: u16) -> EnclosureDual
+        ensures { dual_of result ≡ pow_d enclosures (dual_of self) n }
+    {
+        if n == 0 {
+            return EnclosureDual {
+                re: self.re.pow_up(0),
+                eps: Enclosure::point(0.0),
+            };
+        }
+        let below = self.re.pow_up(n as u32 - 1);
+        let factor = Enclosure::point(n as f64) * below;
+        EnclosureDual {
+            re: self.re.pow_up(n as u32),
+            eps: factor * self.eps,
+        }
+    }
+
+    // The whole power minus n.
+    pub fn pow_down(self, n: u16) -> EnclosureDual
+        ensures { dual_of result ≡ down_d enclosures (dual_of self) n }
+    {
+        if n == 0 {
+            return EnclosureDual {
+                re: self.re.pow_down(0),
+                eps: Enclosure::point(0.0),
+            };
+        }
+        let beyond = self.re.pow_down(n as u32 + 1);
+        let factor = Enclosure::point(-(n as f64)) * beyond;
+        EnclosureDual {
+            re: self.re.pow_down(n as u32),
+            eps: factor * self.eps,
+        }
+    }
+
+    // x, where both parts of u were worked on the way.
+    pub fn after(self, u: EnclosureDual) -> EnclosureDual
+        ensures { dual_of result ≡ after_d enclosures (dual_of u) (dual_of self) }
+    {
+        let worked = self.re.after(u.eps);
+        let slope = self.eps;
+        EnclosureDual {
+            re: worked.after(u.re),
+            eps: slope,
+        }
     }
 }
 
-pub fn add(x: EnclosureDual, y: EnclosureDual) -> EnclosureDual
-    ensures { dual_of result ≡ add_d enclosures (dual_of x) (dual_of y) }
-{
-    EnclosureDual {
-        re: enclosure::add(x.re, y.re),
-        eps: enclosure::add(x.eps, y.eps),
+impl Add for EnclosureDual {
+    type Output = EnclosureDual;
+
+    ghost add_gives = { λ x y r. dual_of r ≡ add_d enclosures (dual_of x) (dual_of y) };
+
+    fn add(self, y: EnclosureDual) -> EnclosureDual {
+        EnclosureDual {
+            re: self.re + y.re,
+            eps: self.eps + y.eps,
+        }
     }
 }
 
-pub fn sub(x: EnclosureDual, y: EnclosureDual) -> EnclosureDual
-    ensures { dual_of result ≡ sub_d enclosures (dual_of x) (dual_of y) }
-{
-    EnclosureDual {
-        re: enclosure::sub(x.re, y.re),
-        eps: enclosure::sub(x.eps, y.eps),
+impl Sub for EnclosureDual {
+    type Output = EnclosureDual;
+
+    ghost sub_gives = { λ x y r. dual_of r ≡ sub_d enclosures (dual_of x) (dual_of y) };
+
+    fn sub(self, y: EnclosureDual) -> EnclosureDual {
+        EnclosureDual {
+            re: self.re - y.re,
+            eps: self.eps - y.eps,
+        }
     }
 }
 
-pub fn neg(x: EnclosureDual) -> EnclosureDual
-    ensures { dual_of result ≡ neg_d enclosures (dual_of x) }
-{
-    EnclosureDual {
-        re: enclosure::neg(x.re),
-        eps: enclosure::neg(x.eps),
+impl Neg for EnclosureDual {
+    type Output = EnclosureDual;
+
+    ghost neg_gives = { λ x r. dual_of r ≡ neg_d enclosures (dual_of x) };
+
+    fn neg(self) -> EnclosureDual {
+        EnclosureDual {
+            re: -self.re,
+            eps: -self.eps,
+        }
     }
 }
 
-pub fn mul(x: EnclosureDual, y: EnclosureDual) -> EnclosureDual
-    ensures { dual_of result ≡ mul_d enclosures (dual_of x) (dual_of y) }
-{
-    let left = enclosure::mul(x.eps, y.re);
-    let right = enclosure::mul(x.re, y.eps);
-    EnclosureDual {
-        re: enclosure::mul(x.re, y.re),
-        eps: enclosure::add(left, right),
+impl Mul for EnclosureDual {
+    type Output = EnclosureDual;
+
+    ghost mul_gives = { λ x y r. dual_of r ≡ mul_d enclosures (dual_of x) (dual_of y) };
+
+    fn mul(self, y: EnclosureDual) -> EnclosureDual {
+        let left = self.eps * y.re;
+        let right = self.re * y.eps;
+        EnclosureDual {
+            re: self.re * y.re,
+            eps: left + right,
+        }
     }
 }
 
-pub fn div(x: EnclosureDual, y: EnclosureDual) -> EnclosureDual
-    ensures { dual_of result ≡ div_d enclosures (dual_of x) (dual_of y) }
-{
-    let left = enclosure::mul(x.eps, y.re);
-    let right = enclosure::mul(x.re, y.eps);
-    let square = enclosure::mul(y.re, y.re);
-    EnclosureDual {
-        re: enclosure::div(x.re, y.re),
-        eps: enclosure::div(enclosure::sub(left, right), square),
+impl Div for EnclosureDual {
+    type Output = EnclosureDual;
+
+    ghost div_gives = { λ x y r. dual_of r ≡ div_d enclosures (dual_of x) (dual_of y) };
+
+    fn div(self, y: EnclosureDual) -> EnclosureDual {
+        let left = self.eps * y.re;
+        let right = self.re * y.eps;
+        let square = y.re * y.re;
+        EnclosureDual {
+            re: self.re / y.re,
+            eps: (left - right) / square,
+        }
     }
 }
 
@@ -93,7 +164,7 @@ pub fn times_zero(x: Enclosure) -> Enclosure
 {
     let ends = x.ends;
     if !(number::is_finite(ends.lower) & number::is_finite(ends.upper)) {
-        return enclosure::mul(x, enclosure::point(0.0));
+        return x * Enclosure::point(0.0);
     }
     Enclosure {
         value: x.value * 0.0,
@@ -107,7 +178,7 @@ pub fn zero_times(x: Enclosure) -> Enclosure
 {
     let ends = x.ends;
     if !(number::is_finite(ends.lower) & number::is_finite(ends.upper)) {
-        return enclosure::mul(enclosure::point(0.0), x);
+        return Enclosure::point(0.0) * x;
     }
     Enclosure {
         value: 0.0 * x.value,
@@ -120,75 +191,27 @@ pub fn add_plain(x: EnclosureDual, c: Enclosure) -> EnclosureDual
     ensures { dual_of result ≡ add_d enclosures (dual_of x) (plain_d enclosures c) }
 {
     EnclosureDual {
-        re: enclosure::add(x.re, c),
-        eps: enclosure::add(x.eps, enclosure::point(0.0)),
+        re: x.re + c,
+        eps: x.eps + Enclosure::point(0.0),
     }
 }
 
 pub fn mul_plain(x: EnclosureDual, c: Enclosure) -> EnclosureDual
     ensures { dual_of result ≡ mul_d enclosures (dual_of x) (plain_d enclosures c) }
 {
-    let left = enclosure::mul(x.eps, c);
+    let left = x.eps * c;
     EnclosureDual {
-        re: enclosure::mul(x.re, c),
-        eps: enclosure::add(left, times_zero(x.re)),
+        re: x.re * c,
+        eps: left + times_zero(x.re),
     }
 }
 
 pub fn plain_mul(c: Enclosure, x: EnclosureDual) -> EnclosureDual
     ensures { dual_of result ≡ mul_d enclosures (plain_d enclosures c) (dual_of x) }
 {
-    let right = enclosure::mul(c, x.eps);
+    let right = c * x.eps;
     EnclosureDual {
-        re: enclosure::mul(c, x.re),
-        eps: enclosure::add(zero_times(x.re), right),
-    }
-}
-
-// The whole power n.
-pub fn pow_up(x: EnclosureDual, n: u16) -> EnclosureDual
-    ensures { dual_of result ≡ pow_d enclosures (dual_of x) n }
-{
-    if n == 0 {
-        return EnclosureDual {
-            re: enclosure::pow_up(x.re, 0),
-            eps: enclosure::point(0.0),
-        };
-    }
-    let below = enclosure::pow_up(x.re, n as u32 - 1);
-    let factor = enclosure::mul(enclosure::point(n as f64), below);
-    EnclosureDual {
-        re: enclosure::pow_up(x.re, n as u32),
-        eps: enclosure::mul(factor, x.eps),
-    }
-}
-
-// The whole power minus n.
-pub fn pow_down(x: EnclosureDual, n: u16) -> EnclosureDual
-    ensures { dual_of result ≡ down_d enclosures (dual_of x) n }
-{
-    if n == 0 {
-        return EnclosureDual {
-            re: enclosure::pow_down(x.re, 0),
-            eps: enclosure::point(0.0),
-        };
-    }
-    let beyond = enclosure::pow_down(x.re, n as u32 + 1);
-    let factor = enclosure::mul(enclosure::point(-(n as f64)), beyond);
-    EnclosureDual {
-        re: enclosure::pow_down(x.re, n as u32),
-        eps: enclosure::mul(factor, x.eps),
-    }
-}
-
-// x, where both parts of u were worked on the way.
-pub fn after(u: EnclosureDual, x: EnclosureDual) -> EnclosureDual
-    ensures { dual_of result ≡ after_d enclosures (dual_of u) (dual_of x) }
-{
-    let worked = enclosure::after(u.eps, x.re);
-    let slope = x.eps;
-    EnclosureDual {
-        re: enclosure::after(u.re, worked),
-        eps: slope,
+        re: c * x.re,
+        eps: zero_times(x.re) + right,
     }
 }

@@ -15,7 +15,7 @@ ghost use Rattle.exponential.specs.ExpM1.{over_terms, field_of, under_of, small_
 ghost use Rattle.exponential.specs.Tanh.{tanh_ratio_of, tanh_of};
 
 use fixed_point::{high_product, pack, shift_right, step, term_step};
-use number::FloatAnswer;
+use number::Refusal;
 
 // 2^(63 + j/128), rounded down. A match, since a const array would be rebuilt at every call.
 fn power_table(j: u64) -> u64
@@ -227,13 +227,13 @@ fn exponent(x: f64) -> u64
 }
 
 // exp x; outside -700 to 700 no value.
-pub fn exp(x: f64) -> FloatAnswer
+pub fn exp(x: f64) -> Result<f64, Refusal>
     ensures { answer result ≡ exp_of x }
 {
     if exp_inside(x) {
-        FloatAnswer::Value(raise_core(exponent(x)))
+        Ok(raise_core(exponent(x)))
     } else {
-        FloatAnswer::Outside
+        Err(Refusal::Domain)
     }
 }
 
@@ -306,16 +306,16 @@ fn away(x: f64) -> f64
 }
 
 // exp x - 1; outside -700 to 700 no value.
-pub fn exp_m1(x: f64) -> FloatAnswer
+pub fn exp_m1(x: f64) -> Result<f64, Refusal>
     ensures { answer result ≡ exp_m1_of x }
 {
     if !exp_inside(x) {
-        return FloatAnswer::Outside;
+        return Err(Refusal::Domain);
     }
     if f64::to_bits(x) / 0x10_0000_0000_0000 % 2048 < 969 {
-        return FloatAnswer::Value(x);
+        return Ok(x);
     }
-    FloatAnswer::Value(away(x))
+    Ok(away(x))
 }
 
 // -350 to 350, ends included.
@@ -349,19 +349,19 @@ fn tanh_large(b: u64) -> f64
 }
 
 // tanh x; outside -350 to 350 no value. The exponent's field and two digits are 4109 for 20 and 4024 for 2^-17: one number serves both tests.
-pub fn tanh(x: f64) -> FloatAnswer
+pub fn tanh(x: f64) -> Result<f64, Refusal>
     ensures { answer result ≡ tanh_of x }
 {
     if !tanh_inside(x) {
-        return FloatAnswer::Outside;
+        return Err(Refusal::Domain);
     }
     let b = f64::to_bits(x);
     let top = b / 0x4_0000_0000_0000 % 8192;
     if 4109 <= top {
-        FloatAnswer::Value(tanh_large(b))
+        Ok(tanh_large(b))
     } else if top < 4024 {
-        FloatAnswer::Value(x)
+        Ok(x)
     } else {
-        FloatAnswer::Value(tanh_ratio(exponent_bits(b + 0x10_0000_0000_0000)))
+        Ok(tanh_ratio(exponent_bits(b + 0x10_0000_0000_0000)))
     }
 }

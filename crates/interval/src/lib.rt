@@ -9,6 +9,8 @@ ghost use Rattle.number.specs.Inside.{least_normal, largest, InsideAbove, Inside
 ghost use Rattle.interval.specs.Interval.{point, outward, around, add_i, sub_i, mul_i, div_i, neg_i, pow_i, down_i, after_i};
 ghost use Rattle.interval.specs.Worked.{worked_of};
 
+use std::ops::{Add, Div, Mul, Neg, Sub};
+
 // Document 01's two ends. `sound` is false once a divisor's ends touched zero or an end was not finite.
 #[derive(Clone, Copy)]
 pub struct Interval {
@@ -33,16 +35,6 @@ struct Operands {
     xu: f64,
     yl: f64,
     yu: f64,
-}
-
-pub fn point(x: f64) -> Interval
-    ensures { result ≡ point x }
-{
-    Interval {
-        lower: x,
-        upper: x,
-        sound: number::is_finite(x),
-    }
 }
 
 fn outward(g: bool, a: f64, b: f64) -> Interval
@@ -152,131 +144,193 @@ fn product(g: bool, xl: f64, xu: f64, yl: f64, yu: f64) -> Interval
     around(g, xl * yl, xl * yu, xu * yl, xu * yu)
 }
 
-pub fn add(x: Interval, y: Interval) -> Interval
-    ensures { result ≡ add_i x y }
-{
-    let g = x.sound & y.sound;
-    if !(x.upper < x.lower) & !(y.upper < y.lower) {
-        let a = x.lower + y.lower;
-        let b = x.upper + y.upper;
-        if above(a, b) {
-            return rising(g, a, b);
-        }
-        if below(a, b) {
-            return falling(g, a, b);
-        }
-    }
-    let q = corners(Operands {
-        operation: Operation::Sum,
-        sound: g,
-        xl: x.lower,
-        xu: x.upper,
-        yl: y.lower,
-        yu: y.upper,
-    });
-    Interval {
-        lower: q.lower,
-        upper: q.upper,
-        sound: q.sound,
-    }
-}
-
-pub fn sub(x: Interval, y: Interval) -> Interval
-    ensures { result ≡ sub_i x y }
-{
-    let g = x.sound & y.sound;
-    if !(x.upper < x.lower) & !(y.upper < y.lower) {
-        let a = x.lower - y.upper;
-        let b = x.upper - y.lower;
-        if above(a, b) {
-            return rising(g, a, b);
-        }
-        if below(a, b) {
-            return falling(g, a, b);
-        }
-    }
-    let q = corners(Operands {
-        operation: Operation::Difference,
-        sound: g,
-        xl: x.lower,
-        xu: x.upper,
-        yl: y.lower,
-        yu: y.upper,
-    });
-    Interval {
-        lower: q.lower,
-        upper: q.upper,
-        sound: q.sound,
-    }
-}
-
-pub fn mul(x: Interval, y: Interval) -> Interval
-    ensures { result ≡ mul_i x y }
-{
-    let g = x.sound & y.sound;
-    if (0.0 < x.lower)
-        & !(x.upper < x.lower)
-        & (x.upper < 1.7976931348623157e308)
-        & !(y.upper < y.lower)
+impl Interval {
+    pub fn point(x: f64) -> Interval
+        ensures { result ≡ point x }
     {
-        let a = chosen(y.lower < 0.0, x.upper, x.lower) * y.lower;
-        let b = chosen(y.upper < 0.0, x.lower, x.upper) * y.upper;
-        if above(a, b) {
-            return rising(g, a, b);
-        }
-        if below(a, b) {
-            return falling(g, a, b);
+        Interval {
+            lower: x,
+            upper: x,
+            sound: number::is_finite(x),
         }
     }
-    let q = product(g, x.lower, x.upper, y.lower, y.upper);
-    Interval {
-        lower: q.lower,
-        upper: q.upper,
-        sound: q.sound,
-    }
-}
 
-pub fn div(x: Interval, y: Interval) -> Interval
-    ensures { result ≡ div_i x y }
-{
-    let g = x.sound & y.sound;
-    if !(x.upper < x.lower)
-        & (0.0 < y.lower)
-        & !(y.upper < y.lower)
-        & (y.upper < 1.7976931348623157e308)
+    pub fn pow_up(self, n: u32) -> Interval
+        ensures { result ≡ pow_i self n }
     {
-        let a = x.lower / chosen(x.lower < 0.0, y.lower, y.upper);
-        let b = x.upper / chosen(x.upper < 0.0, y.upper, y.lower);
-        if above(a, b) {
-            return rising(g, a, b);
+        if n == 2 {
+            return second(self);
         }
-        if below(a, b) {
-            return falling(g, a, b);
+        if n == 3 {
+            return third(self);
         }
+        any_power(self, n)
     }
-    let one_sign = (0.0 < y.lower) | (y.upper < 0.0);
-    let q = corners(Operands {
-        operation: Operation::Quotient,
-        sound: g & one_sign,
-        xl: x.lower,
-        xu: x.upper,
-        yl: y.lower,
-        yu: y.upper,
-    });
-    Interval {
-        lower: q.lower,
-        upper: q.upper,
-        sound: q.sound,
+
+    // The whole power minus n.
+    pub fn pow_down(self, n: u32) -> Interval
+        ensures { result ≡ down_i self n }
+    {
+        Interval::point(1.0) / self.pow_up(n)
+    }
+
+    // x, where u was worked on the way.
+    pub fn after(self, u: Interval) -> Interval
+        ensures { result ≡ after_i u self }
+    {
+        Interval {
+            lower: self.lower,
+            upper: self.upper,
+            sound: u.sound & self.sound,
+        }
     }
 }
 
-pub fn neg(x: Interval) -> Interval
-    ensures { result ≡ neg_i x }
-{
-    Interval {
-        lower: -x.upper,
-        upper: -x.lower,
-        sound: x.sound,
+impl Add for Interval {
+    type Output = Interval;
+
+    ghost add_gives = { λ x y r. r ≡ add_i x y };
+
+    fn add(self, y: Interval) -> Interval {
+        let g = self.sound & y.sound;
+        if !(self.upper < self.lower) & !(y.upper < y.lower) {
+            let a = self.lower + y.lower;
+            let b = self.upper + y.upper;
+            if above(a, b) {
+                return rising(g, a, b);
+            }
+            if below(a, b) {
+                return falling(g, a, b);
+            }
+        }
+        let q = corners(Operands {
+            operation: Operation::Sum,
+            sound: g,
+            xl: self.lower,
+            xu: self.upper,
+            yl: y.lower,
+            yu: y.upper,
+        });
+        Interval {
+            lower: q.lower,
+            upper: q.upper,
+            sound: q.sound,
+        }
+    }
+}
+
+impl Sub for Interval {
+    type Output = Interval;
+
+    ghost sub_gives = { λ x y r. r ≡ sub_i x y };
+
+    fn sub(self, y: Interval) -> Interval {
+        let g = self.sound & y.sound;
+        if !(self.upper < self.lower) & !(y.upper < y.lower) {
+            let a = self.lower - y.upper;
+            let b = self.upper - y.lower;
+            if above(a, b) {
+                return rising(g, a, b);
+            }
+            if below(a, b) {
+                return falling(g, a, b);
+            }
+        }
+        let q = corners(Operands {
+            operation: Operation::Difference,
+            sound: g,
+            xl: self.lower,
+            xu: self.upper,
+            yl: y.lower,
+            yu: y.upper,
+        });
+        Interval {
+            lower: q.lower,
+            upper: q.upper,
+            sound: q.sound,
+        }
+    }
+}
+
+impl Mul for Interval {
+    type Output = Interval;
+
+    ghost mul_gives = { λ x y r. r ≡ mul_i x y };
+
+    fn mul(self, y: Interval) -> Interval {
+        let g = self.sound & y.sound;
+        if (0.0 < self.lower)
+            & !(self.upper < self.lower)
+            & (self.upper < 1.7976931348623157e308)
+            & !(y.upper < y.lower)
+        {
+            let a = chosen(y.lower < 0.0, self.upper, self.lower) * y.lower;
+            let b = chosen(y.upper < 0.0, self.lower, self.upper) * y.upper;
+            if above(a, b) {
+                return rising(g, a, b);
+            }
+            if below(a, b) {
+                return falling(g, a, b);
+            }
+        }
+        let q = product(g, self.lower, self.upper, y.lower, y.upper);
+        Interval {
+            lower: q.lower,
+            upper: q.upper,
+            sound: q.sound,
+        }
+    }
+}
+
+impl Div for Interval {
+    type Output = Interval;
+
+    ghost div_gives = { λ x y r. r ≡ div_i x y };
+
+    fn div(self, y: Interval) -> Interval {
+        let g = self.sound & y.sound;
+        if !(self.upper < self.lower)
+            & (0.0 < y.lower)
+            & !(y.upper < y.lower)
+            & (y.upper < 1.7976931348623157e308)
+        {
+            let a = self.lower / chosen(self.lower < 0.0, y.lower, y.upper);
+            let b = self.upper / chosen(self.upper < 0.0, y.upper, y.lower);
+            if above(a, b) {
+                return rising(g, a, b);
+            }
+            if below(a, b) {
+                return falling(g, a, b);
+            }
+        }
+        let one_sign = (0.0 < y.lower) | (y.upper < 0.0);
+        let q = corners(Operands {
+            operation: Operation::Quotient,
+            sound: g & one_sign,
+            xl: self.lower,
+            xu: self.upper,
+            yl: y.lower,
+            yu: y.upper,
+        });
+        Interval {
+            lower: q.lower,
+            upper: q.upper,
+            sound: q.sound,
+        }
+    }
+}
+
+impl Neg for Interval {
+    type Output = Interval;
+
+    ghost neg_gives = { λ x r. r ≡ neg_i x };
+
+    fn neg(self) -> Interval {
+        Interval {
+            lower: -self.upper,
+            upper: -self.lower,
+            sound: self.sound,
+        }
     }
 }
 
@@ -284,20 +338,20 @@ pub fn neg(x: Interval) -> Interval
 fn second(x: Interval) -> Interval
     ensures { result ≡ pow_i x 2 }
 {
-    mul(point(1.0), mul(x, x))
+    Interval::point(1.0) * (x * x)
 }
 
 fn third(x: Interval) -> Interval
     ensures { result ≡ pow_i x 3 }
 {
-    mul(mul(point(1.0), x), mul(x, x))
+    Interval::point(1.0) * x * (x * x)
 }
 
 // The whole power n, by its binary digits from the lowest.
 fn any_power(x: Interval, n: u32) -> Interval
     ensures { result ≡ pow_i x n }
 {
-    let mut acc = point(1.0);
+    let mut acc = Interval::point(1.0);
     let mut sq = x;
     let mut left = n;
     while 0 < left {
@@ -316,34 +370,4 @@ fn any_power(x: Interval, n: u32) -> Interval
         }
     }
     acc
-}
-
-pub fn pow_up(x: Interval, n: u32) -> Interval
-    ensures { result ≡ pow_i x n }
-{
-    if n == 2 {
-        return second(x);
-    }
-    if n == 3 {
-        return third(x);
-    }
-    any_power(x, n)
-}
-
-// The whole power minus n.
-pub fn pow_down(x: Interval, n: u32) -> Interval
-    ensures { result ≡ down_i x n }
-{
-    div(point(1.0), pow_up(x, n))
-}
-
-// x, where u was worked on the way.
-pub fn after(u: Interval, x: Interval) -> Interval
-    ensures { result ≡ after_i u x }
-{
-    Interval {
-        lower: x.lower,
-        upper: x.upper,
-        sound: u.sound & x.sound,
-    }
 }

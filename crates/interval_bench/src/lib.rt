@@ -22,16 +22,12 @@ fn interval_step(op: u8, x: Interval, y: Interval) -> Interval
     ensures { result ≡ interval_step op x y }
 {
     if op == 0 {
-        return interval::add(x, y);
+        return x + y;
     }
     if op == 1 {
-        return interval::sub(x, y);
+        return x - y;
     }
-    if op == 2 {
-        interval::mul(x, y)
-    } else {
-        interval::div(x, y)
-    }
+    if op == 2 { x * y } else { x / y }
 }
 
 pub fn domthelv_bench_float(op: u8, x: f64, y: f64, n: u64) -> f64
@@ -47,8 +43,8 @@ pub fn domthelv_bench_float(op: u8, x: f64, y: f64, n: u64) -> f64
 pub fn domthelv_bench_interval(op: u8, x: f64, y: f64, n: u64) -> f64
     ensures { result ≡ (interval_repeat op x y n).upper }
 {
-    let mut s = interval::point(x);
-    let step = interval::point(y);
+    let mut s = Interval::point(x);
+    let step = Interval::point(y);
     for i in 0u64..n {
         s = interval_step(op, s, step);
     }

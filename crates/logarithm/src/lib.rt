@@ -12,7 +12,7 @@ ghost use Rattle.fixed_point.specs.Horner.{horner};
 ghost use Rattle.logarithm.specs.Logarithm.{coefficients, core, multiple, far, join, signed, reduced, ln_bits, ln_of};
 ghost use Rattle.logarithm.specs.Logarithm.{small1p, moved1p, large1p, bits1p, value1p, ln1p_of};
 
-use number::FloatAnswer;
+use number::Refusal;
 
 // The sum of q^i / (2i + 1), i below 11, in units of 2^-63, q in units of 2^-64.
 fn series(q: u64) -> u64
@@ -115,16 +115,16 @@ fn ln_bits(b: u64) -> f64
 }
 
 // The natural logarithm, for a positive, normal, finite x.
-pub fn ln(x: f64) -> FloatAnswer
+pub fn ln(x: f64) -> Result<f64, Refusal>
     ensures { answer result ≡ ln_of x }
 {
     if !(2.2250738585072014e-308 <= x) {
-        return FloatAnswer::Outside;
+        return Err(Refusal::Domain);
     }
     if !(x <= 1.7976931348623157e308) {
-        return FloatAnswer::Outside;
+        return Err(Refusal::Domain);
     }
-    FloatAnswer::Value(ln_bits(f64::to_bits(x)))
+    Ok(ln_bits(f64::to_bits(x)))
 }
 
 // ln(1 + v) for |v| < 1/4, |v| = m 2^(f - 1075), a minus where s is 1.
@@ -190,14 +190,14 @@ fn value_1p(v: f64) -> f64
 }
 
 // The natural logarithm of 1 + v, for a v above -1, up to 2^20.
-pub fn ln_1p(v: f64) -> FloatAnswer
+pub fn ln_1p(v: f64) -> Result<f64, Refusal>
     ensures { answer result ≡ ln1p_of v }
 {
     if !(-1.0 < v) {
-        return FloatAnswer::Outside;
+        return Err(Refusal::Domain);
     }
     if !(v <= 1048576.0) {
-        return FloatAnswer::Outside;
+        return Err(Refusal::Domain);
     }
-    FloatAnswer::Value(value_1p(v))
+    Ok(value_1p(v))
 }

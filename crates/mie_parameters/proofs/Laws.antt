@@ -1,12 +1,13 @@
--- Laws of answers taken apart by `let .. else`, and of the count's limits. Assumes nothing.
+-- Laws of answers that `?` takes apart, and of the count's limits. Assumes nothing.
 use Rattle.std.proofs.Common.{◌≡◌, ℕ, ◌+◌, ◌*◌, ◌<◌, ◌≤◌, Bool, true, false, ◌&&◌, ltb, leb, refl, ap, ◌∙◌, mul-le-mul, ltb-true, leb-true}
+use Rattle.std.specs.Prelude.{Err, Ok, Result}
+use Rattle.number.specs.declared.refusal.Refusal.{Refusal}
 use Rattle.number.specs.Ans.{Ans, held, refused}
 use Rattle.sizes.specs.Sizes.{side, sheet}
 use Rattle.number.specs.Walk.{walk}
 use Rattle.number.proofs.Walk.{via, walk_next, walk_stop}
 use Rattle.limits.specs.Limits.{count_within, index_within}
-use Rattle.mie_parameters.specs.declared.ParameterAnswer.{ParameterAnswer}
-use Rattle.mie_parameters.specs.declared.ParameterAnswer.TheVariants.{Held, Refused}
+use Rattle.number.specs.Answer.{code}
 use Rattle.mie_parameters.specs.Answer.{outcome}
 
 pub and_left : (a b : Bool) → (a && b) ≡ true → a ≡ true
@@ -18,13 +19,13 @@ and_right true b p = p
 and_right false true p = refl
 and_right false false p = p
 
--- a turn of a walk whose answer is taken apart by `let .. else`
+-- a turn of a walk whose answer is taken apart by `?`
 module _ {S : Type 0} (f : ℕ → S → Ans S) (s : S) where
-  pub goes_on : (j : ℕ) (x y : S) (a : ParameterAnswer) → held x ≡ walk j f s → outcome a y ≡ f j x → a ≡ Held → held y ≡ walk (j + 1) f s
+  pub goes_on : (j : ℕ) (x y : S) (a : Result (Unit {0}) Refusal) → held x ≡ walk j f s → outcome a y ≡ f j x → a ≡ (Ok tt) → held y ≡ walk (j + 1) f s
   goes_on j x y a p q e = walk_next f s j x y p (via (λ b. outcome b y) q e)
 
-  pub stops : (n j : ℕ) (x y z : S) (a : ParameterAnswer) (m : ℕ) → j < n → held x ≡ walk j f s → outcome a y ≡ f j x → a ≡ Refused m → outcome a z ≡ walk n f s
-  stops n j x y z a m h p q e = ap (λ b. outcome b z) e ∙ walk_stop f s n j m x h p (via (λ b. outcome b y) q e)
+  pub stops : (n j : ℕ) (x y z : S) (a : Result (Unit {0}) Refusal) (m : Refusal) → j < n → held x ≡ walk j f s → outcome a y ≡ f j x → a ≡ Err m → outcome a z ≡ walk n f s
+  stops n j x y z a m h p q e = ap (λ b. outcome b z) e ∙ walk_stop f s n j (code m) x h p (via (λ b. outcome b y) q e)
 
 pub count_low : (n : ℕ) → count_within n ≡ true → 1 ≤ n
 unfolding count_within
@@ -38,10 +39,10 @@ pub count_square : (n : ℕ) → count_within n ≡ true → n * n ≤ sheet
 count_square n p = mul-le-mul (count_high n p) (count_high n p)
 
 -- what a call ensures of an answer and of the state beside it, at the case that it gave
-pub held_at : {S : Type 0} (a : ParameterAnswer) (s : S) (w : Ans S) → outcome a s ≡ w → a ≡ Held → w ≡ held s
+pub held_at : {S : Type 0} (a : Result (Unit {0}) Refusal) (s : S) (w : Ans S) → outcome a s ≡ w → a ≡ (Ok tt) → w ≡ held s
 held_at a s w p e = via (λ b. outcome b s) p e
 
-pub refused_at : {S : Type 0} (a : ParameterAnswer) (s : S) (w : Ans S) (k : ℕ) → outcome a s ≡ w → a ≡ Refused k → w ≡ refused k
+pub refused_at : {S : Type 0} (a : Result (Unit {0}) Refusal) (s : S) (w : Ans S) (k : Refusal) → outcome a s ≡ w → a ≡ Err k → w ≡ refused (code k)
 refused_at a s w k p e = via (λ b. outcome b s) p e
 
 -- an index that the first test let pass lies on a sheet

@@ -12,7 +12,7 @@ ghost use Rattle.mie_parameters.specs.Combine.{epsilon_k_ij, lambda_ij, c_ij};
 ghost use Rattle.mie_parameters.specs.Answer.{number_of};
 ghost use Rattle.mie_parameters.specs.Places.{in_places};
 
-use number::FloatAnswer;
+use number::Refusal;
 use sizes::SIDE;
 
 // std::f64::consts, in the float run. What they are in each run is `constant` of its arithmetic.
@@ -45,58 +45,36 @@ pub const LAM_COEFF: [[f64; 4]; 4] = [
     [1.0885, -6.1962, 106.98, -677.64],
 ];
 
-// Held, or the refusal's number; the set stands beside it.
-#[derive(Clone, Copy)]
-pub enum ParameterAnswer {
-    Held,
-    Refused(u8),
-}
-
-// What an operation answers that gives one number: it, or the refusal's.
-#[derive(Clone, Copy)]
-pub enum NumberAnswer {
-    Value(f64),
-    Refused(u8),
-}
-
-pub fn number(a: ParameterAnswer) -> u8
+// An answer at the C boundary: 0, or the refusal's number.
+pub fn number(a: Result<(), Refusal>) -> u8
     ensures { result ≡ number_of a }
 {
     match a {
-        ParameterAnswer::Held => 0,
-        ParameterAnswer::Refused(n) => n,
+        Ok(()) => 0,
+        Err(r) => r.code(),
     }
 }
 
-pub fn epsilon_k_ij(si: f64, sj: f64, ei: f64, ej: f64, sigma: f64, k: f64) -> FloatAnswer
+pub fn epsilon_k_ij(si: f64, sj: f64, ei: f64, ej: f64, sigma: f64, k: f64) -> Result<f64, Refusal>
     ensures { answer result ≡ epsilon_k_ij floats (calls floats port) si sj ei ej sigma k }
 {
-    let FloatAnswer::Value(cubes) = elementary::sqrt(number::pow_up(si, 3) * number::pow_up(sj, 3))
-    else {
-        return FloatAnswer::Outside;
-    };
-    let FloatAnswer::Value(energies) = elementary::sqrt(ei * ej) else {
-        return FloatAnswer::Outside;
-    };
-    FloatAnswer::Value((1.0 - k) * (cubes / number::pow_up(sigma, 3) * energies))
+    let cubes = elementary::sqrt(number::pow_up(si, 3) * number::pow_up(sj, 3))?;
+    let energies = elementary::sqrt(ei * ej)?;
+    Ok((1.0 - k) * (cubes / number::pow_up(sigma, 3) * energies))
 }
 
-pub fn lambda_ij(li: f64, lj: f64) -> FloatAnswer
+pub fn lambda_ij(li: f64, lj: f64) -> Result<f64, Refusal>
     ensures { answer result ≡ lambda_ij floats (calls floats port) li lj }
 {
-    let FloatAnswer::Value(r) = elementary::sqrt((li - 3.0) * (lj - 3.0)) else {
-        return FloatAnswer::Outside;
-    };
-    FloatAnswer::Value(r + 3.0)
+    let r = elementary::sqrt((li - 3.0) * (lj - 3.0))?;
+    Ok(r + 3.0)
 }
 
-pub fn c_ij(lr: f64, la: f64) -> FloatAnswer
+pub fn c_ij(lr: f64, la: f64) -> Result<f64, Refusal>
     ensures { answer result ≡ c_ij floats (calls floats port) lr la }
 {
-    let FloatAnswer::Value(p) = elementary::powf(lr / la, la / (lr - la)) else {
-        return FloatAnswer::Outside;
-    };
-    FloatAnswer::Value(lr / (lr - la) * p)
+    let p = elementary::powf(lr / la, la / (lr - la))?;
+    Ok(lr / (lr - la) * p)
 }
 
 // A list as long as the count, which is at most the places.

@@ -1,5 +1,6 @@
 -- Laws of walks, one for each place of a loop; of answers; and of what a call gave. Assumes nothing.
 use Rattle.std.proofs.Common.{◌≡◌, ℕ, zero, suc, ◌+◌, ◌-◌, ◌<◌, ◌≤◌, Bool, true, ◌&&◌, sym, refl, ap, ◌∙◌, subst, add-one, arith}
+use Rattle.std.specs.Prelude.{Result, Ok, Err, IsErr, IsErrAnd}
 use Rattle.number.specs.Ans.{Ans, held, refused, ◌>>=◌}
 use Rattle.number.specs.Walk.{turns, every, walk}
 
@@ -81,3 +82,8 @@ pub walk_keeps : {S : Type 0} (P : S → Type 0) (n : ℕ) (f : ℕ → S → An
 unfolding walk
 walk_keeps P zero f s y k p e = subst P (held_inj s y e) p
 walk_keeps P (suc n) f s y k p e = let h = then_held (walk n f s) (f n) y e in k n h.0 y (walk_keeps P n f s h.0 k p h.1) h.2
+
+-- an error that `?` hands on
+pub handed_on : {S E : Type 0} (r : Result S E) {e : E} → IsErr r × IsErrAnd r (λ x. x ≡ e) → r ≡ Err e
+handed_on (Err x) (_, p) = ap Err p
+handed_on (Ok x) (_, p) = absurd p

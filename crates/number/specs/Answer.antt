@@ -1,9 +1,33 @@
--- Document 01's number or value of each case of `FloatAnswer`: 6 is an elementary function's argument outside its domain.
-use Rattle.std.specs.Prelude.{Float}
+-- What an operation answers: the value, or the refusal by document 01's number.
+use Rattle.std.specs.Prelude.{ℕ, Result, Ok, Err}
 use Rattle.number.specs.Ans.{Ans, held, refused}
-use Rattle.number.specs.declared.FloatAnswer.{FloatAnswer}
-use Rattle.number.specs.declared.FloatAnswer.TheVariants.{Value, Outside}
+use Rattle.number.specs.declared.refusal.Refusal.{Refusal}
+use Rattle.number.specs.declared.refusal.Refusal.TheVariants.{Length, Limit, Segments, Order, MixedOrders, Domain, NotFinite, Unsound, Short, Heading, Filling, Room, Layers, StoredZero, Components, Occupied}
 
-abbrev pub answer : FloatAnswer → Ans Float
-answer (Value v) = held v
-answer Outside = refused 6
+-- the numbers of the refusals
+abbrev pub code : Refusal → ℕ
+code Length = 1
+code Limit = 2
+code Segments = 3
+code Order = 4
+code MixedOrders = 5
+code Domain = 6
+code NotFinite = 7
+code Unsound = 8
+code Short = 9
+code Heading = 10
+code Filling = 11
+code Room = 12
+code Layers = 14
+code StoredZero = 15
+code Components = 16
+code Occupied = 17
+
+-- what is held is read by `of`, as a pair of numbers is read as a value and a slope
+abbrev pub answer_by : {T N : Type 0} → (T → N) → Result T Refusal → Ans N
+answer_by of (Ok x) = held (of x)
+answer_by of (Err r) = refused (code r)
+
+abbrev pub answer : {T : Type 0} → Result T Refusal → Ans T
+answer (Ok x) = held x
+answer (Err r) = refused (code r)

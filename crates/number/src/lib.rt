@@ -8,12 +8,11 @@ ghost use Rattle.number.specs.Neighbour.{step_up, step_down, next_up, next_down,
 ghost use Rattle.number.specs.Arith as Arith;
 ghost use Rattle.number.specs.Arith.{floats};
 
-// What a call in floats answers: a value, or that an elementary function's argument lies outside its domain.
-#[derive(Clone, Copy)]
-pub enum FloatAnswer {
-    Value(f64),
-    Outside,
-}
+mod arithmetic;
+mod refusal;
+
+pub use arithmetic::Arithmetic;
+pub use refusal::Refusal;
 
 // The float that a pattern stands for, of any pattern: all of a NaN's give the one NaN.
 pub fn of_bits(n: u64) -> f64

@@ -1,5 +1,4 @@
 -- 'Two components give 7, 7 and 2; three give 15, 35 and 14', computed from the definition list by list; counts outside are 1.
-use Prim.Native.Nat.{ℕ}
 use mathlib.Core.Path.{◌≡◌, refl}
 use Rattle.number.specs.Ans.{held, refused, ◌>>=◌, demand}
 use Rattle.number.specs.Walk.{walk}

@@ -1,11 +1,11 @@
 -- `ticked n` is the set of the 4^n lists: 4^n members, each of n orders below 4, and each such list once. Assumes nothing.
-use Prim.Native.Nat.{ℕ, zero, suc, ◌+◌, ◌^◌}
+use Prim.Native.Nat.{ℕ, zero, suc, ◌^◌}
 use native.Mathlib.Nat.{pow-succ'}
 use native.Mathlib.Omega.{arith}
-use mathlib.Core.Path.{◌≡◌, refl, sym, ap, ◌∙◌}
-use mathlib.Core.Bool.{Bool, true, false, ◌&&◌, false≢true}
+use mathlib.Core.Path.{◌≡◌, refl, sym, ◌∙◌}
+use mathlib.Core.Bool.{true, ◌&&◌, false≢true}
 use mathlib.Core.List.{List, [], ◌∷◌}
-use lib.Dec.{eqb, ltb, eqb-suc-suc}
+use lib.Dec.{eqb, eqb-suc-suc}
 use lib.ListN.{length}
 use borrow.Author.Tests.{le-ltb}
 use Rattle.order_counts.specs.Counts.{ticked, how_many, below4, same}

@@ -4,8 +4,6 @@ use Rattle.number.specs.Ans.{Ans, held, refused, ◌>>=◌, demand}
 use Rattle.limits.specs.Limits.{count_within}
 use Rattle.saftvrqmie_parameters.specs.Parameters.{order_walk}
 use Rattle.order_counts.specs.declared.OrderCounts.{OrderCounts}
-use Rattle.order_counts.specs.declared.CountsAnswer.{CountsAnswer}
-use Rattle.order_counts.specs.declared.CountsAnswer.TheVariants.{Counts, Refused}
 
 -- each list of n orders that can be ticked, 0 to 3 for each component, once
 unfoldable pub ticked : ℕ → List (List ℕ)
@@ -44,7 +42,3 @@ falling t n = how_many (λ l. t (order_walk n l)) (ticked n)
 -- the operation: 'For 1 to 12 components (else 1)'
 unfoldable pub order_counts : ℕ → Ans OrderCounts
 order_counts n = demand 1 (count_within n) >>= λ _. held (record { passing = falling passes n; meeting_4 = falling (meets 4) n; meeting_5 = falling (meets 5) n })
-
-abbrev pub counts_answer : CountsAnswer → Ans OrderCounts
-counts_answer (Counts c) = held c
-counts_answer (Refused k) = refused k

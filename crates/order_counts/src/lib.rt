@@ -2,19 +2,16 @@
 #![tactic(auto)]
 
 ghost use Rattle.std.specs.Prelude.{◌≡◌, ◌+◌, ◌*◌, ◌-◌, ◌^◌, ◌≤◌};
-ghost use Rattle.order_counts.specs.Counts.{counts_answer, order_counts};
+ghost use Rattle.number.specs.Answer.{answer};
+ghost use Rattle.order_counts.specs.Counts.{order_counts};
+
+use number::Refusal;
 
 #[derive(Clone, Copy)]
 pub struct OrderCounts {
     pub passing: u64,
     pub meeting_4: u64,
     pub meeting_5: u64,
-}
-
-#[derive(Clone, Copy)]
-pub enum CountsAnswer {
-    Counts(OrderCounts),
-    Refused(u8),
 }
 
 // A whole power that stays small.
@@ -45,15 +42,15 @@ fn of_powers(two: u64, three: u64, four: u64) -> OrderCounts
 }
 
 // The three numbers, or 1 if the count is outside.
-pub fn order_counts(count: usize) -> CountsAnswer
-    ensures { counts_answer result ≡ order_counts count }
+pub fn order_counts(count: usize) -> Result<OrderCounts, Refusal>
+    ensures { answer result ≡ order_counts count }
 {
     if !limits::count_within(count) {
-        return CountsAnswer::Refused(1);
+        return Err(Refusal::Length);
     }
     let rest = count - 1;
     let two = power(2, rest);
     let three = power(3, rest);
     let four = power(4, rest);
-    CountsAnswer::Counts(of_powers(two, three, four))
+    Ok(of_powers(two, three, four))
 }

@@ -9,7 +9,7 @@ ghost use Rattle.number.specs.Functions.{calls};
 ghost use Rattle.patterns.specs.Formulas.{root_alone, squares, slope, blend, sample};
 
 use dual::Dual;
-use number::FloatAnswer;
+use number::Refusal;
 
 pub fn squares(xs: &[f64]) -> f64
     ensures { result ≡ squares floats (length xs.now) (at xs.now) }
@@ -25,28 +25,20 @@ pub fn slope(x: f64, y: f64) -> f64
     ensures { result ≡ slope floats x y }
 {
     let d = Dual { re: x, eps: 1.0 };
-    let q = dual::div(dual::pow_up(d, 3), dual::add(d, dual::plain(y)));
+    let q = d.pow_up(3) / (d + Dual::plain(y));
     q.eps
 }
 
-pub fn blend(x: f64, y: f64) -> FloatAnswer
+pub fn blend(x: f64, y: f64) -> Result<f64, Refusal>
     ensures { answer result ≡ blend floats (calls floats root_alone) x y }
 {
-    let FloatAnswer::Value(r) = root::sqrt(x) else {
-        return FloatAnswer::Outside;
-    };
-    if r < y {
-        FloatAnswer::Value(r + y)
-    } else {
-        FloatAnswer::Value(r * y)
-    }
+    let r = root::sqrt(x)?;
+    if r < y { Ok(r + y) } else { Ok(r * y) }
 }
 
-pub fn sample(xs: &[f64], y: f64) -> FloatAnswer
+pub fn sample(xs: &[f64], y: f64) -> Result<f64, Refusal>
     ensures { answer result ≡ sample floats (calls floats root_alone) (length xs.now) (at xs.now) y }
 {
-    let FloatAnswer::Value(b) = blend(squares(xs), y) else {
-        return FloatAnswer::Outside;
-    };
-    FloatAnswer::Value(slope(b, y))
+    let b = blend(squares(xs), y)?;
+    Ok(slope(b, y))
 }

@@ -10,7 +10,7 @@ ghost use Rattle.power.specs.Power.{exponent_of, product_of, word_of, power_of, 
 use binary_log::{Log, base_inside, log_base};
 use exponential::raise_core;
 use fixed_point::{high_product, shift_right};
-use number::FloatAnswer;
+use number::Refusal;
 
 // An exponent in fixed point: the size in units of 2^-56, whether it is below 0, and whether it is 1.
 #[derive(Clone, Copy)]
@@ -88,14 +88,14 @@ pub fn raise(log: Log, exponent: FixedExponent) -> f64
 }
 
 // The power; no value where the base or the exponent is outside its domain.
-pub fn powf(x: f64, y: f64) -> FloatAnswer
+pub fn powf(x: f64, y: f64) -> Result<f64, Refusal>
     ensures { answer result ≡ powf_of x y }
 {
     if !base_inside(x) {
-        return FloatAnswer::Outside;
+        return Err(Refusal::Domain);
     }
     if !exponent_inside(y) {
-        return FloatAnswer::Outside;
+        return Err(Refusal::Domain);
     }
-    FloatAnswer::Value(raise(log_base(x), exponent(y)))
+    Ok(raise(log_base(x), exponent(y)))
 }

@@ -13,7 +13,7 @@ ghost use Rattle.root.specs.Root.{root, positive_root, whole_root};
 ghost use Rattle.root.specs.Reciprocals.{reciprocals};
 ghost use Rattle.root.specs.Inverse.{Inverse};
 
-use number::FloatAnswer;
+use number::Refusal;
 
 const TWO_18: u64 = 1 << 18;
 
@@ -86,28 +86,28 @@ fn nearest_root(m: u64, e: u64) -> f64
 
 // The square root, correctly rounded; either zero gives itself; below zero or not finite is outside.
 // That `root` is what IEEE 754 asks is the law `nearest` of proofs/Correct.antt.
-pub fn sqrt(x: f64) -> FloatAnswer
+pub fn sqrt(x: f64) -> Result<f64, Refusal>
     ensures { answer result ≡ root x }
 {
     if !(0.0 < x) {
         if x == 0.0 {
-            return FloatAnswer::Value(x);
+            return Ok(x);
         }
-        return FloatAnswer::Outside;
+        return Err(Refusal::Domain);
     }
     let infinity = f64::from_bits(0x7ff0_0000_0000_0000);
     if !(x < infinity) {
-        return FloatAnswer::Outside;
+        return Err(Refusal::Domain);
     }
     let b = f64::to_bits(x);
     let f = b / TWO_52;
     let m = b % TWO_52;
     if f == 0 {
         let small = nearest_root(m, 0);
-        return FloatAnswer::Value(small);
+        return Ok(small);
     }
     let r = nearest_root(m + TWO_52, f - 1);
-    FloatAnswer::Value(r)
+    Ok(r)
 }
 
 // Near 2^20 / √(64.5 + j): a match, since a constant array would be built anew at each call.

@@ -1,19 +1,18 @@
 // Operations of SAFT-VR Mie on a set: the components' diameters, and a pair's lower limit and diameter.
 #![tactic(auto)]
 
-ghost use Rattle.std.specs.Prelude.{◌≡◌, ◌+◌, ◌*◌, ◌<◌, ◌≤◌, length};
+ghost use Rattle.std.specs.Prelude.{true, ◌≡◌, ◌+◌, ◌*◌, ◌<◌, ◌≤◌, length};
 ghost use Rattle.number.specs.Answer.{answer};
 ghost use Rattle.number.specs.Lists.{at};
 ghost use Rattle.sizes.specs.Sizes.{side, sheet, cell};
 ghost use Rattle.number.specs.Walk.{filled, walk};
-ghost use Rattle.mie_parameters.specs.Answer.{outcome, verdict, number_answer, stored};
+ghost use Rattle.mie_parameters.specs.Answer.{outcome, verdict, stored};
 ghost use Rattle.saftvrmie_diameter.specs.Diameter.{c_eps_t};
 ghost use Rattle.saftvrmie.specs.Diameters.{diameter_at, diameter_turn, diameters_finite, right_length, diameters};
 ghost use Rattle.number.specs.Arith.{floats};
 ghost use Rattle.saftvrmie.specs.Pairs.{radius_ij, diameter_ij};
 
-use mie_parameters::{NumberAnswer, ParameterAnswer};
-use number::FloatAnswer;
+use number::Refusal;
 use saftvrmie_parameters::SaftVRMiePars;
 use sizes::{SHEET, SHEETS, SIDE};
 
@@ -24,7 +23,7 @@ fn diagonal(sheets: &[f64; SHEETS], k: usize, i: usize) -> f64
     sheets[SHEET * k + (SIDE * i + i)]
 }
 
-fn diameter_at(sheets: &[f64; SHEETS], temperature: f64, i: usize) -> FloatAnswer
+fn diameter_at(sheets: &[f64; SHEETS], temperature: f64, i: usize) -> Result<f64, Refusal>
     requires { i < side }
     ensures { answer result ≡ diameter_at sheets.now temperature i }
 {
@@ -36,17 +35,20 @@ fn diameter_at(sheets: &[f64; SHEETS], temperature: f64, i: usize) -> FloatAnswe
     saftvrmie_diameter::hs_diameter_ij(la, lr, c, epsilon_k, sigma, temperature)
 }
 
-fn work(n: usize, sheets: &[f64; SHEETS], temperature: f64, d: &mut [f64; SIDE]) -> ParameterAnswer
+fn work(
+    n: usize,
+    sheets: &[f64; SHEETS],
+    temperature: f64,
+    d: &mut [f64; SIDE],
+) -> Result<(), Refusal>
     requires { n ≤ side }
     ensures { outcome result d.new ≡ walk n (diameter_turn sheets.now temperature) d.old }
 {
     for i in 0usize..n {
-        let FloatAnswer::Value(v) = diameter_at(sheets, temperature, i) else {
-            return ParameterAnswer::Refused(6);
-        };
+        let v = diameter_at(sheets, temperature, i)?;
         d[i] = v;
     }
-    ParameterAnswer::Held
+    Ok(())
 }
 
 fn all_finite(n: usize, d: &[f64; SIDE]) -> bool
@@ -81,32 +83,29 @@ pub fn diameters_of(
     sheets: &[f64; SHEETS],
     temperature: f64,
     out: &mut [f64],
-) -> ParameterAnswer
+) -> Result<(), Refusal>
     ensures { let q = diameters n sheets.now temperature out.old in
-        (result ≡ verdict q) × (out.new ≡ stored out.old q) }
+        (outcome result true ≡ verdict q) × (out.new ≡ stored out.old q) }
 {
     if !right_length(n, out.len()) {
-        return ParameterAnswer::Refused(1);
+        return Err(Refusal::Length);
     }
     if !limits::temperature_within(temperature) {
-        return ParameterAnswer::Refused(2);
+        return Err(Refusal::Limit);
     }
     let mut d = [0.0; SIDE];
-    let worked = work(n, sheets, temperature, &mut d);
-    let ParameterAnswer::Held = worked else {
-        return worked;
-    };
+    work(n, sheets, temperature, &mut d)?;
     if !all_finite(n, &d) {
-        return ParameterAnswer::Refused(7);
+        return Err(Refusal::NotFinite);
     }
     write(n, &d, out);
-    ParameterAnswer::Held
+    Ok(())
 }
 
 // `hs_diameter`: the diameter of each component, into a list as long as the count. 1, 2, 6, 7.
-pub fn hs_diameter(set: SaftVRMiePars, temperature: f64, out: &mut [f64]) -> ParameterAnswer
+pub fn hs_diameter(set: SaftVRMiePars, temperature: f64, out: &mut [f64]) -> Result<(), Refusal>
     ensures { let q = diameters set.count set.sheets temperature out.old in
-        (result ≡ verdict q) × (out.new ≡ stored out.old q) }
+        (outcome result true ≡ verdict q) × (out.new ≡ stored out.old q) }
 {
     let sheets = set.sheets;
     diameters_of(set.count, &sheets, temperature, out)
@@ -129,24 +128,21 @@ fn c_eps_at(sheets: &[f64; SHEETS], temperature: f64, e: usize) -> f64
 }
 
 // The reduced lower limit of the pair (i, j). 1, 2, 6.
-pub fn radius_ij(set: SaftVRMiePars, i: usize, j: usize, temperature: f64) -> NumberAnswer
-    ensures { number_answer result ≡ radius_ij set i j temperature }
+pub fn radius_ij(set: SaftVRMiePars, i: usize, j: usize, temperature: f64) -> Result<f64, Refusal>
+    ensures { answer result ≡ radius_ij set i j temperature }
 {
     if !limits::index_within(set.count, i, j) {
-        return NumberAnswer::Refused(1);
+        return Err(Refusal::Length);
     }
     if !limits::temperature_within(temperature) {
-        return NumberAnswer::Refused(2);
+        return Err(Refusal::Limit);
     }
     let sheets = set.sheets;
     let e = SIDE * i + j;
     let la = entry(&sheets, 3, e);
     let lr = entry(&sheets, 2, e);
     let c_eps_t = c_eps_at(&sheets, temperature, e);
-    let FloatAnswer::Value(r) = saftvrmie_diameter::lower_integratal_limit(la, lr, c_eps_t) else {
-        return NumberAnswer::Refused(6);
-    };
-    NumberAnswer::Value(r)
+    saftvrmie_diameter::lower_integratal_limit(la, lr, c_eps_t)
 }
 
 // The diameter of the pair (i, j) from its reduced lower limit. 1, 2, 6, 7.
@@ -156,14 +152,14 @@ pub fn diameter_ij(
     j: usize,
     temperature: f64,
     r0: f64,
-) -> NumberAnswer
-    ensures { number_answer result ≡ diameter_ij set i j temperature r0 }
+) -> Result<f64, Refusal>
+    ensures { answer result ≡ diameter_ij set i j temperature r0 }
 {
     if !limits::index_within(set.count, i, j) {
-        return NumberAnswer::Refused(1);
+        return Err(Refusal::Length);
     }
     if !limits::temperature_within(temperature) {
-        return NumberAnswer::Refused(2);
+        return Err(Refusal::Limit);
     }
     let sheets = set.sheets;
     let e = SIDE * i + j;
@@ -171,11 +167,10 @@ pub fn diameter_ij(
     let lr = entry(&sheets, 2, e);
     let c_eps_t = c_eps_at(&sheets, temperature, e);
     let sigma = entry(&sheets, 0, e);
-    let FloatAnswer::Value(d) = saftvrmie_diameter::diameter_from(la, lr, c_eps_t, sigma, r0) else {
-        return NumberAnswer::Refused(6);
-    };
-    if !number::is_finite(d) {
-        return NumberAnswer::Refused(7);
+    let d = saftvrmie_diameter::diameter_from(la, lr, c_eps_t, sigma, r0)?;
+    if number::is_finite(d) {
+        Ok(d)
+    } else {
+        Err(Refusal::NotFinite)
     }
-    NumberAnswer::Value(d)
 }

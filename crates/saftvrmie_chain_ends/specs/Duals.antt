@@ -1,7 +1,11 @@
 -- The code's structs in the two-ended run, as the formulas take them, and the values of each case of the answers.
-use Rattle.number.specs.Ans.{Ans, held, refused}
+use Rattle.number.specs.Ans.{Ans}
+use Rattle.std.specs.Prelude.{Result}
+use Rattle.number.specs.Answer.{answer_by}
+use Rattle.number.specs.declared.refusal.Refusal.{Refusal}
 use Rattle.enclosure.specs.declared.Enclosure.{Enclosure}
 use Rattle.dual.specs.Dual.{DualOf}
+use Rattle.enclosure_dual.specs.declared.EnclosureDual.{EnclosureDual}
 use Rattle.enclosure_dual.specs.Value.{dual_of}
 use Rattle.saftvrmie_dispersion.specs.Sutherland.{FluidIn}
 use Rattle.saftvrmie_dispersion.specs.Terms.{FiveIn, OrdersIn}
@@ -10,9 +14,6 @@ use Rattle.saftvrmie_chain_ends.specs.declared.FluidDuals.{FluidDuals}
 use Rattle.saftvrmie_chain_ends.specs.declared.FiveDuals.{FiveDuals}
 use Rattle.saftvrmie_chain_ends.specs.declared.OrdersDuals.{OrdersDuals}
 use Rattle.saftvrmie_chain_ends.specs.declared.LinkEnclosures.{LinkEnclosures}
-use Rattle.saftvrmie_chain_ends.specs.declared.DualsAnswer as the-dual
-use Rattle.saftvrmie_chain_ends.specs.declared.FiveDualsAnswer as the-five
-use Rattle.saftvrmie_chain_ends.specs.declared.OrdersDualsAnswer as the-orders
 
 abbrev pub fluid_dual_in : FluidDuals → FluidIn (DualOf Enclosure)
 fluid_dual_in w = record { segment_density = dual_of w.segment_density; zeta_x = dual_of w.zeta_x; k_hs = dual_of w.k_hs; b1 = dual_of w.b1; b2 = dual_of w.b2; b3 = dual_of w.b3 }
@@ -26,14 +27,11 @@ orders_dual_in o = record { five = five_dual_in o.five; a1 = dual_of o.a1; a2 = 
 abbrev pub link_in : LinkEnclosures → LinkIn Enclosure
 link_in l = record { m = l.m; fraction = l.fraction; t_inv = l.t_inv }
 
-abbrev pub dual_answer : the-dual.DualsAnswer → Ans (DualOf Enclosure)
-dual_answer (the-dual.TheVariants.At x) = held (dual_of x)
-dual_answer the-dual.TheVariants.Outside = refused 6
+abbrev pub dual_answer : Result EnclosureDual Refusal → Ans (DualOf Enclosure)
+dual_answer = answer_by dual_of
 
-abbrev pub five_dual_answer : the-five.FiveDualsAnswer → Ans (FiveIn (DualOf Enclosure))
-five_dual_answer (the-five.TheVariants.At s) = held (five_dual_in s)
-five_dual_answer the-five.TheVariants.Outside = refused 6
+abbrev pub five_dual_answer : Result FiveDuals Refusal → Ans (FiveIn (DualOf Enclosure))
+five_dual_answer = answer_by five_dual_in
 
-abbrev pub orders_dual_answer : the-orders.OrdersDualsAnswer → Ans (OrdersIn (DualOf Enclosure))
-orders_dual_answer (the-orders.TheVariants.At o) = held (orders_dual_in o)
-orders_dual_answer the-orders.TheVariants.Outside = refused 6
+abbrev pub orders_dual_answer : Result OrdersDuals Refusal → Ans (OrdersIn (DualOf Enclosure))
+orders_dual_answer = answer_by orders_dual_in

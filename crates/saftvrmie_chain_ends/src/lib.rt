@@ -47,21 +47,3 @@ pub struct LinkEnclosures {
     pub fraction: Enclosure,
     pub t_inv: Enclosure,
 }
-
-#[derive(Clone, Copy)]
-pub enum DualsAnswer {
-    At(EnclosureDual),
-    Outside,
-}
-
-#[derive(Clone, Copy)]
-pub enum FiveDualsAnswer {
-    At(FiveDuals),
-    Outside,
-}
-
-#[derive(Clone, Copy)]
-pub enum OrdersDualsAnswer {
-    At(OrdersDuals),
-    Outside,
-}

@@ -23,10 +23,10 @@ fn j_slope(p4: Enclosure, p3: Enclosure, l3: Enclosure, l4: Enclosure) -> Enclos
 {
     let finite = finite_ends(p4) & (finite_ends(p3) & (finite_ends(l3) & finite_ends(l4)));
     if !finite {
-        let zero = enclosure::point(0.0);
-        let a = enclosure::add(enclosure::mul(zero, l3), enclosure::mul(p4, zero));
-        let z = enclosure::add(enclosure::mul(zero, l4), enclosure::mul(p3, zero));
-        return enclosure::neg(enclosure::sub(enclosure::sub(a, z), zero));
+        let zero = Enclosure::point(0.0);
+        let a = zero * l3 + p4 * zero;
+        let z = zero * l4 + p3 * zero;
+        return -(a - z - zero);
     }
     let a = 0.0 * l3.value + p4.value * 0.0;
     let z = 0.0 * l4.value + p3.value * 0.0;
@@ -100,32 +100,29 @@ fn lost_sum(x: Enclosure, b: f64, t: f64, c: f64, e: f64) -> Enclosure
         upper: 0.0,
         sound: true,
     };
-    enclosure::add(
-        x,
-        Enclosure {
-            value: b * ((t * e - c * 0.0) / (e * e)),
-            ends: nothing,
-        },
-    )
+    x + Enclosure {
+        value: b * ((t * e - c * 0.0) / (e * e)),
+        ends: nothing,
+    }
 }
 
 // The sum in full; two callers keep it out of line.
 fn whole_sum(x: Enclosure, b: Enclosure, t: Enclosure, c: Enclosure, e: Enclosure) -> Enclosure
     ensures { result ≡ add_e x (mul_e b (quotient_slope t c e)) }
 {
-    let top = enclosure::sub(enclosure::mul(t, e), enclosure_dual::times_zero(c));
-    let slope = enclosure::div(top, enclosure::mul(e, e));
-    enclosure::add(x, enclosure::mul(b, slope))
+    let top = t * e - enclosure_dual::times_zero(c);
+    let slope = top / (e * e);
+    x + b * slope
 }
 
 // b times i.
 pub fn times_i(b: EnclosureDual, p3: Enclosure, l3: Enclosure) -> EnclosureDual
     ensures { dual_of result ≡ mul_d enclosures (dual_of b) (i_by (duals enclosures) (plain_d enclosures) (plain_d enclosures p3) l3) }
 {
-    let c = enclosure::neg(enclosure::sub(p3, enclosure::point(1.0)));
-    let i = enclosure::div(c, l3);
-    let x = enclosure::mul(b.eps, i);
-    let re = enclosure::mul(b.re, i);
+    let c = -(p3 - Enclosure::point(1.0));
+    let i = c / l3;
+    let x = b.eps * i;
+    let re = b.re * i;
     let t = i_slope();
     if is_lost(x.ends, b.re.ends, l3.ends) & is_tiny(t.ends) {
         let eps = lost_sum(x, b.re.value, t.value, c.value, l3.value);
@@ -145,12 +142,12 @@ pub fn times_j(
 ) -> EnclosureDual
     ensures { dual_of result ≡ mul_d enclosures (dual_of b) (j_by (duals enclosures) (plain_d enclosures) (plain_d enclosures p4) (plain_d enclosures p3) l3 l4) }
 {
-    let a = enclosure::sub(enclosure::mul(p4, l3), enclosure::mul(p3, l4));
-    let c = enclosure::neg(enclosure::sub(a, enclosure::point(1.0)));
-    let e = enclosure::mul(l3, l4);
-    let j = enclosure::div(c, e);
-    let x = enclosure::mul(b.eps, j);
-    let re = enclosure::mul(b.re, j);
+    let a = p4 * l3 - p3 * l4;
+    let c = -(a - Enclosure::point(1.0));
+    let e = l3 * l4;
+    let j = c / e;
+    let x = b.eps * j;
+    let re = b.re * j;
     let t = j_slope(p4, p3, l3, l4);
     if is_lost(x.ends, b.re.ends, e.ends) & is_tiny(t.ends) {
         let eps = lost_sum(x, b.re.value, t.value, c.value, e.value);

@@ -11,52 +11,49 @@ ghost use Rattle.saftvrmie_dispersion.specs.Answer.{pair_in};
 ghost use Rattle.saftvrmie_dispersion_ends.specs.Shared.{power_at};
 ghost use Rattle.saftvrmie_chain_ends.specs.Duals.{fluid_dual_in, five_dual_in, dual_answer, five_dual_answer, orders_dual_answer};
 
-use crate::{
-    DualsAnswer, FiveDuals, FiveDualsAnswer, FluidDuals, OrdersDuals, OrdersDualsAnswer,
-    lost_slopes, sutherland,
-};
+use crate::{FiveDuals, FluidDuals, OrdersDuals, lost_slopes, sutherland};
 use binary_log::Log;
-use enclosure::{Enclosure, EnclosureAnswer};
+use enclosure::Enclosure;
 use enclosure_dual::EnclosureDual;
+use number::Refusal;
 use saftvrmie_parameters::PairParameters;
 
 // From b1 times i and b2 times j.
 fn b_dual(b3: EnclosureDual, i: EnclosureDual, j: EnclosureDual) -> EnclosureDual
     ensures { dual_of result ≡ mul_d enclosures (sub_d enclosures (dual_of i) (dual_of j)) (dual_of b3) }
 {
-    let s = enclosure::sub(i.re, j.re);
-    let t = enclosure::mul(enclosure::sub(i.eps, j.eps), b3.re);
+    let s = i.re - j.re;
+    let t = (i.eps - j.eps) * b3.re;
     EnclosureDual {
-        re: enclosure::mul(s, b3.re),
-        eps: enclosure::add(t, enclosure::mul(s, b3.eps)),
+        re: s * b3.re,
+        eps: t + s * b3.eps,
     }
 }
 
 // x0 to lambda, to 3 - lambda and to 4 - lambda, then the sum.
-fn a1s_b_ij_dual(l: Log, x0: Enclosure, w: FluidDuals, lambda: Enclosure) -> DualsAnswer
+fn a1s_b_ij_dual(
+    l: Log,
+    x0: Enclosure,
+    w: FluidDuals,
+    lambda: Enclosure,
+) -> Result<EnclosureDual, Refusal>
     ensures { dual_answer result ≡ a1s_b enclosures (duals enclosures) (plain_d enclosures) (power_at l x0) (fluid_dual_in w) lambda }
 {
-    let l3 = enclosure::sub(enclosure::point(3.0), lambda);
-    let l4 = enclosure::sub(enclosure::point(4.0), lambda);
-    let EnclosureAnswer::Value(p) = saftvrmie_dispersion_ends::power_of(l, x0, lambda) else {
-        return DualsAnswer::Outside;
-    };
-    let EnclosureAnswer::Value(p3) = saftvrmie_dispersion_ends::power_of(l, x0, l3) else {
-        return DualsAnswer::Outside;
-    };
-    let EnclosureAnswer::Value(p4) = saftvrmie_dispersion_ends::power_of(l, x0, l4) else {
-        return DualsAnswer::Outside;
-    };
+    let l3 = Enclosure::point(3.0) - lambda;
+    let l4 = Enclosure::point(4.0) - lambda;
+    let p = saftvrmie_dispersion_ends::power_of(l, x0, lambda)?;
+    let p3 = saftvrmie_dispersion_ends::power_of(l, x0, l3)?;
+    let p4 = saftvrmie_dispersion_ends::power_of(l, x0, l4)?;
     let of = saftvrmie_dispersion_ends::lambda_of(lambda);
     let i = lost_slopes::times_i(w.b1, p3, of.l3);
     let j = lost_slopes::times_j(w.b2, p4, p3, of.l3, of.l4);
     let b = b_dual(w.b3, i, j);
     let a = sutherland::a1s_ij_dual(w.zeta_x, of);
-    let s = enclosure::add(a.re, b.re);
-    let right = enclosure::mul(p, enclosure::add(a.eps, b.eps));
-    DualsAnswer::At(EnclosureDual {
-        re: enclosure::mul(p, s),
-        eps: enclosure::add(enclosure_dual::zero_times(s), right),
+    let s = a.re + b.re;
+    let right = p * (a.eps + b.eps);
+    Ok(EnclosureDual {
+        re: p * s,
+        eps: enclosure_dual::zero_times(s) + right,
     })
 }
 
@@ -67,29 +64,19 @@ fn five_dual_by(
     w: FluidDuals,
     la: Enclosure,
     lr: Enclosure,
-) -> FiveDualsAnswer
+) -> Result<FiveDuals, Refusal>
     ensures { five_dual_answer result ≡ five enclosures (duals enclosures) (plain_d enclosures) (power_at l x0) (fluid_dual_in w) la lr }
 {
-    let two = enclosure::point(2.0);
-    let l2a = enclosure::mul(two, la);
-    let lar = enclosure::add(la, lr);
-    let l2r = enclosure::mul(two, lr);
-    let DualsAnswer::At(at_la) = a1s_b_ij_dual(l, x0, w, la) else {
-        return FiveDualsAnswer::Outside;
-    };
-    let DualsAnswer::At(at_lr) = a1s_b_ij_dual(l, x0, w, lr) else {
-        return FiveDualsAnswer::Outside;
-    };
-    let DualsAnswer::At(at_2la) = a1s_b_ij_dual(l, x0, w, l2a) else {
-        return FiveDualsAnswer::Outside;
-    };
-    let DualsAnswer::At(at_lalr) = a1s_b_ij_dual(l, x0, w, lar) else {
-        return FiveDualsAnswer::Outside;
-    };
-    let DualsAnswer::At(at_2lr) = a1s_b_ij_dual(l, x0, w, l2r) else {
-        return FiveDualsAnswer::Outside;
-    };
-    FiveDualsAnswer::At(FiveDuals {
+    let two = Enclosure::point(2.0);
+    let l2a = two * la;
+    let lar = la + lr;
+    let l2r = two * lr;
+    let at_la = a1s_b_ij_dual(l, x0, w, la)?;
+    let at_lr = a1s_b_ij_dual(l, x0, w, lr)?;
+    let at_2la = a1s_b_ij_dual(l, x0, w, l2a)?;
+    let at_lalr = a1s_b_ij_dual(l, x0, w, lar)?;
+    let at_2lr = a1s_b_ij_dual(l, x0, w, l2r)?;
+    Ok(FiveDuals {
         at_la,
         at_lr,
         at_2la,
@@ -99,11 +86,16 @@ fn five_dual_by(
 }
 
 // No power has a value where x0 is outside their domain.
-fn five_dual(x0: Enclosure, w: FluidDuals, la: Enclosure, lr: Enclosure) -> FiveDualsAnswer
+fn five_dual(
+    x0: Enclosure,
+    w: FluidDuals,
+    la: Enclosure,
+    lr: Enclosure,
+) -> Result<FiveDuals, Refusal>
     ensures { five_dual_answer result ≡ five enclosures (duals enclosures) (plain_d enclosures) ((calls enclosures port).powf x0) (fluid_dual_in w) la lr }
 {
     if !binary_log::base_inside(x0.value) {
-        return FiveDualsAnswer::Outside;
+        return Err(Refusal::Domain);
     }
     five_dual_by(binary_log::log_base(x0.value), x0, w, la, lr)
 }
@@ -113,15 +105,15 @@ fn pref_dual(rho: EnclosureDual, d3: Enclosure, eps_k: Enclosure, c: Enclosure) 
 {
     let a = enclosure_dual::mul_plain(rho, d3);
     let z = enclosure_dual::mul_plain(a, eps_k);
-    let twice = enclosure_dual::mul_plain(z, enclosure::point(2.0));
-    let round = enclosure_dual::mul_plain(twice, enclosure::pi());
+    let twice = enclosure_dual::mul_plain(z, Enclosure::point(2.0));
+    let round = enclosure_dual::mul_plain(twice, Enclosure::pi());
     enclosure_dual::mul_plain(round, c)
 }
 
 fn a1_dual(pref: EnclosureDual, s: FiveDuals) -> EnclosureDual
     ensures { dual_of result ≡ a1_of enclosures (duals enclosures) (plain_d enclosures) (dual_of pref) (five_dual_in s) }
 {
-    enclosure_dual::mul(pref, enclosure_dual::sub(s.at_la, s.at_lr))
+    pref * (s.at_la - s.at_lr)
 }
 
 fn a2_dual(
@@ -135,26 +127,24 @@ fn a2_dual(
 {
     let a = enclosure_dual::mul_plain(pref, eps_k);
     let z = enclosure_dual::mul_plain(a, c);
-    let half = enclosure_dual::mul_plain(enclosure_dual::mul(z, k_hs), enclosure::point(0.5));
-    let twice = enclosure_dual::mul_plain(s.at_lalr, enclosure::point(2.0));
-    let sums = enclosure_dual::add(enclosure_dual::sub(s.at_2la, twice), s.at_2lr);
-    enclosure_dual::mul(half, sums)
+    let half = enclosure_dual::mul_plain(z * k_hs, Enclosure::point(0.5));
+    let twice = enclosure_dual::mul_plain(s.at_lalr, Enclosure::point(2.0));
+    let sums = s.at_2la - twice + s.at_2lr;
+    half * sums
 }
 
 // The first two orders of a component, with slopes.
-pub fn orders_dual(w: FluidDuals, p: PairParameters, d: Enclosure) -> OrdersDualsAnswer
+pub fn orders_dual(w: FluidDuals, p: PairParameters, d: Enclosure) -> Result<OrdersDuals, Refusal>
     ensures { orders_dual_answer result ≡ term_orders_of enclosures (duals enclosures) (plain_d enclosures) (calls enclosures port) (fluid_dual_in w) (pair_in point p) d }
 {
-    let la = enclosure::point(p.la);
-    let lr = enclosure::point(p.lr);
-    let eps_k = enclosure::point(p.epsilon_k);
-    let c = enclosure::point(p.c);
-    let x0 = saftvrmie_dispersion_ends::x0_of(d, enclosure::point(p.sigma));
-    let FiveDualsAnswer::At(s) = five_dual(x0, w, la, lr) else {
-        return OrdersDualsAnswer::Outside;
-    };
-    let pref = pref_dual(w.segment_density, enclosure::pow_up(d, 3), eps_k, c);
-    OrdersDualsAnswer::At(OrdersDuals {
+    let la = Enclosure::point(p.la);
+    let lr = Enclosure::point(p.lr);
+    let eps_k = Enclosure::point(p.epsilon_k);
+    let c = Enclosure::point(p.c);
+    let x0 = saftvrmie_dispersion_ends::x0_of(d, Enclosure::point(p.sigma));
+    let s = five_dual(x0, w, la, lr)?;
+    let pref = pref_dual(w.segment_density, d.pow_up(3), eps_k, c);
+    Ok(OrdersDuals {
         five: s,
         a1: a1_dual(pref, s),
         a2: a2_dual(pref, eps_k, c, w.k_hs, s),

@@ -4,7 +4,6 @@ use native.Mathlib.Omega.{arith}
 use lib.Ieee.{Float, lt}
 use mathlib.Core.Path.{◌≡◌}
 use mathlib.Core.Bool.{true, false}
-use mathlib.Core.List.{[]}
 use Rattle.number.specs.Ans.{Ans, held, refused, ◌>>=◌}
 use Rattle.number.specs.Arith.{floats, zero64}
 use Rattle.number.specs.Functions.{calls}
@@ -21,9 +20,9 @@ module _ (la lr c r : Float) (n : ℕ) (whole : Ans Float) (h : halley floats (c
     turn : halley floats (calls floats port) la lr c (suc (n - 1)) r ≡ whole
     turn = let d : n ≡ suc (n - 1) = omega arith in rw d at h
 
-    pub outside : halley_step floats (calls floats port) la lr c r ≡ refused 6 → refused 6 ≡ whole
+    pub outside : (k : ℕ) → halley_step floats (calls floats port) la lr c r ≡ refused k → refused k ≡ whole
     unfolding halley ◌>>=◌
-    outside e = rw e at turn
+    outside k e = rw e at turn
 
     module _ (s : Halley Float) (e : halley_step floats (calls floats port) la lr c r ≡ held s) where
       pub below : lt s.f zero64 ≡ true → held r ≡ whole

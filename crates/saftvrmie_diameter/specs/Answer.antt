@@ -1,10 +1,10 @@
 -- Document 01's number or values of each case of the answer of one evaluation.
-use Rattle.std.specs.Prelude.{Float}
+use Rattle.std.specs.Prelude.{Float, Err, Ok, Result}
+use Rattle.number.specs.declared.refusal.Refusal.{Refusal}
+use Rattle.number.specs.Answer.{code}
 use Rattle.number.specs.Ans.{Ans, held, refused}
 use Rattle.saftvrmie_diameter.specs.Diameter.{Halley}
-use Rattle.saftvrmie_diameter.specs.declared.HalleyAnswer.{HalleyAnswer}
-use Rattle.saftvrmie_diameter.specs.declared.HalleyAnswer.TheVariants.{At, Outside}
 
-abbrev pub halley_answer : HalleyAnswer → Ans (Halley Float)
-halley_answer (At f dr) = held (record { f = f; dr = dr })
-halley_answer Outside = refused 6
+abbrev pub halley_answer : Result (Float × Float) Refusal → Ans (Halley Float)
+halley_answer (Ok (f, dr)) = held (record { f = f; dr = dr })
+halley_answer (Err r) = refused (code r)

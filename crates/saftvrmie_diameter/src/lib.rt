@@ -11,7 +11,7 @@ ghost use Rattle.saftvrmie_diameter.specs.Diameter.{positions, weights, c_eps_t,
 ghost use Rattle.saftvrmie_diameter.specs.Staged.{exponents_inside, exponents_of, inverse_at, beta_u_at, logs_of, betas_of, node_at};
 
 use binary_log::Log;
-use number::FloatAnswer;
+use number::Refusal;
 use power::FixedExponent;
 
 // ln of f64::EPSILON.
@@ -22,13 +22,6 @@ const LN_EPSILON: f64 = -36.04365338911715;
 pub struct Exponents {
     pub lr: FixedExponent,
     pub la: FixedExponent,
-}
-
-// What one evaluation gives: the function and the step.
-#[derive(Clone, Copy)]
-pub enum HalleyAnswer {
-    At(f64, f64),
-    Outside,
 }
 
 // 10-point Gauss-Legendre quadrature: positions and weights.
@@ -106,13 +99,13 @@ fn exponents_of(la: f64, lr: f64) -> Exponents
 }
 
 // `mie_potential_halley`, and the step.
-fn halley_step(la: f64, lr: f64, e: Exponents, c_eps_t: f64, r: f64) -> HalleyAnswer
+fn halley_step(la: f64, lr: f64, e: Exponents, c_eps_t: f64, r: f64) -> Result<(f64, f64), Refusal>
     requires { (exponents_inside la lr ≡ true) × (e ≡ exponents_of la lr) }
     ensures { halley_answer result ≡ halley_step floats (calls floats port) la lr c_eps_t r }
 {
     let ri = 1.0 / r;
     if !binary_log::base_inside(ri) {
-        return HalleyAnswer::Outside;
+        return Err(Refusal::Domain);
     }
     let log = binary_log::log_base(ri);
     let plr = power::raise(log, e.lr);
@@ -127,41 +120,35 @@ fn halley_step(la: f64, lr: f64, e: Exponents, c_eps_t: f64, r: f64) -> HalleyAn
     let d2f = -c_eps_t * d2u;
     let u_du = f / df;
     let du_d2u = df / d2f;
-    HalleyAnswer::At(f, u_du / (-u_du / du_d2u * 0.5 + 1.0))
+    Ok((f, u_du / (-u_du / du_d2u * 0.5 + 1.0)))
 }
 
 // At most 4 steps; a negative function value returns the radius as it is.
-fn halley(la: f64, lr: f64, e: Exponents, c_eps_t: f64, start: f64) -> FloatAnswer
+fn halley(la: f64, lr: f64, e: Exponents, c_eps_t: f64, start: f64) -> Result<f64, Refusal>
     requires { (exponents_inside la lr ≡ true) × (e ≡ exponents_of la lr) }
     ensures { answer result ≡ halley floats (calls floats port) la lr c_eps_t 4 start }
 {
     let mut r = start;
     let mut left: u8 = 4;
     while 0 < left {
-        let HalleyAnswer::At(f, dr) = halley_step(la, lr, e, c_eps_t, r) else {
-            return FloatAnswer::Outside;
-        };
+        let (f, dr) = halley_step(la, lr, e, c_eps_t, r)?;
         if f < 0.0 {
-            return FloatAnswer::Value(r);
+            return Ok(r);
         }
         r = r - dr;
         left = left - 1;
     }
-    FloatAnswer::Value(r)
+    Ok(r)
 }
 
 // `lower_integratal_limit`, reduced.
-pub fn lower_integratal_limit(la: f64, lr: f64, c_eps_t: f64) -> FloatAnswer
+pub fn lower_integratal_limit(la: f64, lr: f64, c_eps_t: f64) -> Result<f64, Refusal>
     ensures { answer result ≡ lower_limit floats (calls floats port) la lr c_eps_t }
 {
-    let FloatAnswer::Value(k) = elementary::ln(-(1.0 / c_eps_t) * LN_EPSILON) else {
-        return FloatAnswer::Outside;
-    };
-    let FloatAnswer::Value(r) = elementary::exp(-k / lr) else {
-        return FloatAnswer::Outside;
-    };
+    let k = elementary::ln(-(1.0 / c_eps_t) * LN_EPSILON)?;
+    let r = elementary::exp(-k / lr)?;
     if !exponents_inside(la, lr) {
-        return FloatAnswer::Outside;
+        return Err(Refusal::Domain);
     }
     halley(la, lr, exponents_of(la, lr), c_eps_t, r)
 }
@@ -208,37 +195,32 @@ fn betas_of(e: Exponents, c_eps_t: f64, logs: [Log; 10]) -> [f64; 10]
 }
 
 // Node k's part, added, from the inverse radius and the potential there.
-fn node(r0: f64, k: usize, ri: f64, u: f64, d: f64) -> FloatAnswer
+fn node(r0: f64, k: usize, ri: f64, u: f64, d: f64) -> Result<f64, Refusal>
     requires { k < 10 }
     ensures { answer result ≡ node_at r0 k ri u d }
 {
     if !binary_log::base_inside(ri) {
-        return FloatAnswer::Outside;
+        return Err(Refusal::Domain);
     }
-    let FloatAnswer::Value(e) = elementary::exp_m1(-u) else {
-        return FloatAnswer::Outside;
-    };
-    FloatAnswer::Value(d + (-r0 + 1.0) * 0.5 * (-e) * weight(k))
+    let e = elementary::exp_m1(-u)?;
+    Ok(d + (-r0 + 1.0) * 0.5 * (-e) * weight(k))
 }
 
 // A pair's diameter from its reduced lower limit.
-pub fn diameter_from(la: f64, lr: f64, c_eps_t: f64, sigma: f64, r0: f64) -> FloatAnswer
+pub fn diameter_from(la: f64, lr: f64, c_eps_t: f64, sigma: f64, r0: f64) -> Result<f64, Refusal>
     ensures { answer result ≡ diameter_from floats (calls floats port) la lr c_eps_t sigma r0 }
 {
     if !exponents_inside(la, lr) {
-        return FloatAnswer::Outside;
+        return Err(Refusal::Domain);
     }
     let logs = logs_of(r0);
     let betas = betas_of(exponents_of(la, lr), c_eps_t, logs);
     let mut d = r0;
     for k in 0usize..10usize {
         let log = logs[k];
-        let FloatAnswer::Value(next) = node(r0, k, log.base, betas[k], d) else {
-            return FloatAnswer::Outside;
-        };
-        d = next;
+        d = node(r0, k, log.base, betas[k], d)?;
     }
-    FloatAnswer::Value(d * sigma)
+    Ok(d * sigma)
 }
 
 // `hs_diameter_ij`.
@@ -249,12 +231,10 @@ pub fn hs_diameter_ij(
     epsilon_k: f64,
     sigma: f64,
     temperature: f64,
-) -> FloatAnswer
+) -> Result<f64, Refusal>
     ensures { answer result ≡ hs_diameter floats (calls floats port) la lr c epsilon_k sigma temperature }
 {
     let e = c_eps_t(temperature, c, epsilon_k);
-    let FloatAnswer::Value(r0) = lower_integratal_limit(la, lr, e) else {
-        return FloatAnswer::Outside;
-    };
+    let r0 = lower_integratal_limit(la, lr, e)?;
     diameter_from(la, lr, e, sigma, r0)
 }

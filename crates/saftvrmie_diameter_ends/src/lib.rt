@@ -6,14 +6,15 @@ ghost use Rattle.number.specs.Functions.{calls};
 ghost use Rattle.number.specs.Lists.{at};
 ghost use Rattle.sizes.specs.Sizes.{sheet};
 ghost use Rattle.elementary.specs.Port.{port};
-ghost use Rattle.enclosure.specs.Answer.{answer, ends};
+ghost use Rattle.number.specs.Answer.{answer};
 ghost use Rattle.enclosure.specs.Enclosure.{enclosures, point};
 ghost use Rattle.saftvrmie_diameter.specs.Diameter.{c_eps_t, beta_u_mie, node_turn, diameter_from};
 ghost use Rattle.saftvrmie_diameter_ends.specs.Operations.{diameter_ends};
 
 mod rule;
 
-use enclosure::{Enclosure, EnclosureAnswer, EndsAnswer};
+use enclosure::{Enclosure, Ends};
+use number::Refusal;
 use saftvrmie_parameters::SaftVRMiePars;
 use sizes::{SHEET, SHEETS, SIDE};
 
@@ -21,25 +22,23 @@ use sizes::{SHEET, SHEETS, SIDE};
 pub fn c_eps_t(temperature: Enclosure, c: Enclosure, epsilon_k: Enclosure) -> Enclosure
     ensures { result ≡ c_eps_t enclosures temperature c epsilon_k }
 {
-    let one = enclosure::point(1.0);
-    enclosure::mul(
-        enclosure::mul(enclosure::div(one, temperature), c),
-        epsilon_k,
-    )
+    let one = Enclosure::point(1.0);
+    one / temperature * c * epsilon_k
 }
 
-fn beta_u_mie(la: Enclosure, lr: Enclosure, c_eps_t: Enclosure, r: Enclosure) -> EnclosureAnswer
+fn beta_u_mie(
+    la: Enclosure,
+    lr: Enclosure,
+    c_eps_t: Enclosure,
+    r: Enclosure,
+) -> Result<Enclosure, Refusal>
     ensures { answer result ≡ beta_u_mie enclosures (calls enclosures port) la lr c_eps_t r }
 {
-    let one = enclosure::point(1.0);
-    let ri = enclosure::mul(enclosure::div(one, r), one);
-    let EnclosureAnswer::Value(plr) = elementary_ends::powf(ri, lr) else {
-        return EnclosureAnswer::Outside;
-    };
-    let EnclosureAnswer::Value(pla) = elementary_ends::powf(ri, la) else {
-        return EnclosureAnswer::Outside;
-    };
-    EnclosureAnswer::Value(enclosure::mul(enclosure::sub(plr, pla), c_eps_t))
+    let one = Enclosure::point(1.0);
+    let ri = one / r * one;
+    let plr = elementary_ends::powf(ri, lr)?;
+    let pla = elementary_ends::powf(ri, la)?;
+    Ok((plr - pla) * c_eps_t)
 }
 
 // One node's part, added.
@@ -50,24 +49,20 @@ fn node(
     r0: Enclosure,
     k: usize,
     d: Enclosure,
-) -> EnclosureAnswer
+) -> Result<Enclosure, Refusal>
     requires { k < 10 }
     ensures { answer result ≡ node_turn enclosures (calls enclosures port) la lr c_eps_t r0 k d }
 {
-    let one = enclosure::point(1.0);
-    let half = enclosure::point(0.5);
-    let width = enclosure::mul(enclosure::add(enclosure::neg(r0), one), half);
+    let one = Enclosure::point(1.0);
+    let half = Enclosure::point(0.5);
+    let width = (-r0 + one) * half;
     let x = rule::position(k);
     let w = rule::weight(k);
-    let r = enclosure::add(enclosure::add(enclosure::mul(width, x), width), r0);
-    let EnclosureAnswer::Value(u) = beta_u_mie(la, lr, c_eps_t, r) else {
-        return EnclosureAnswer::Outside;
-    };
-    let EnclosureAnswer::Value(e) = elementary_ends::exp_m1(enclosure::neg(u)) else {
-        return EnclosureAnswer::Outside;
-    };
-    let part = enclosure::mul(enclosure::mul(width, enclosure::neg(e)), w);
-    EnclosureAnswer::Value(enclosure::add(d, part))
+    let r = width * x + width + r0;
+    let u = beta_u_mie(la, lr, c_eps_t, r)?;
+    let e = elementary_ends::exp_m1(-u)?;
+    let part = width * -e * w;
+    Ok(d + part)
 }
 
 // A pair's diameter from its reduced lower limit.
@@ -77,17 +72,14 @@ pub fn diameter_from(
     c_eps_t: Enclosure,
     sigma: Enclosure,
     r0: Enclosure,
-) -> EnclosureAnswer
+) -> Result<Enclosure, Refusal>
     ensures { answer result ≡ diameter_from enclosures (calls enclosures port) la lr c_eps_t sigma r0 }
 {
     let mut d = r0;
     for k in 0usize..10usize {
-        let EnclosureAnswer::Value(next) = node(la, lr, c_eps_t, r0, k, d) else {
-            return EnclosureAnswer::Outside;
-        };
-        d = next;
+        d = node(la, lr, c_eps_t, r0, k, d)?;
     }
-    EnclosureAnswer::Value(enclosure::mul(d, sigma))
+    Ok(d * sigma)
 }
 
 // A number of a set, as a point.
@@ -95,7 +87,7 @@ fn entry_point(sheets: &[f64; SHEETS], k: usize, e: usize) -> Enclosure
     requires { (k < 6) × (e < sheet) }
     ensures { result ≡ point (at sheets.now (sheet * k + e)) }
 {
-    enclosure::point(sheets[SHEET * k + e])
+    Enclosure::point(sheets[SHEET * k + e])
 }
 
 fn c_eps_at(sheets: &[f64; SHEETS], temperature: f64, e: usize) -> Enclosure
@@ -104,7 +96,7 @@ fn c_eps_at(sheets: &[f64; SHEETS], temperature: f64, e: usize) -> Enclosure
 {
     let c = entry_point(sheets, 4, e);
     let epsilon_k = entry_point(sheets, 1, e);
-    c_eps_t(enclosure::point(temperature), c, epsilon_k)
+    c_eps_t(Enclosure::point(temperature), c, epsilon_k)
 }
 
 // The diameter of the pair (i, j) from its reduced lower limit, with two ends. 1, 2, 6, 7, 8.
@@ -114,14 +106,14 @@ pub fn hs_diameter_ij_ends(
     j: usize,
     temperature: f64,
     r0: f64,
-) -> EndsAnswer
-    ensures { ends result ≡ diameter_ends port set i j temperature r0 }
+) -> Result<Ends, Refusal>
+    ensures { answer result ≡ diameter_ends port set i j temperature r0 }
 {
     if !limits::index_within(set.count, i, j) {
-        return EndsAnswer::Refused(1);
+        return Err(Refusal::Length);
     }
     if !limits::temperature_within(temperature) {
-        return EndsAnswer::Refused(2);
+        return Err(Refusal::Limit);
     }
     let sheets = set.sheets;
     let e = SIDE * i + j;
@@ -129,6 +121,6 @@ pub fn hs_diameter_ij_ends(
     let lr = entry_point(&sheets, 2, e);
     let c_eps_t = c_eps_at(&sheets, temperature, e);
     let sigma = entry_point(&sheets, 0, e);
-    let r = enclosure::point(r0);
+    let r = Enclosure::point(r0);
     enclosure::ends_of(diameter_from(la, lr, c_eps_t, sigma, r))
 }

@@ -138,10 +138,10 @@ module _ (l : Log) (w : FluidIn Float) (la lr : Float) where
   sum_refused h = rw (← h) at five_walked
 
 -- ---- whether k0 to k3 have a value
-pub k_held : (z v : Float) → (calls floats port).ln (floats.add (floats.neg z) (decimal false 1 0)) ≡ held v → demand 6 true ≡ k_tested z
-unfolding k_tested k_of demand ◌>>=◌
+pub k_held : (z v : Float) → (calls floats port).ln (floats.add (floats.neg z) (decimal false 1 0)) ≡ held v → held true ≡ k_tested z
+unfolding k_tested k_of ◌>>=◌
 k_held z v h = rw h
 
-pub k_refused : (z : Float) → (calls floats port).ln (floats.add (floats.neg z) (decimal false 1 0)) ≡ refused 6 → demand 6 false ≡ k_tested z
-unfolding k_tested k_of demand ◌>>=◌
-k_refused z h = rw h
+pub k_refused : (z : Float) (k : ℕ) → (calls floats port).ln (floats.add (floats.neg z) (decimal false 1 0)) ≡ refused k → refused k ≡ k_tested z
+unfolding k_tested k_of ◌>>=◌
+k_refused z k h = rw h

@@ -1,6 +1,8 @@
 -- The code's structs as the formulas' records, and the number or values of each case of the answers.
-use Rattle.std.specs.Prelude.{Float}
-use Rattle.number.specs.Ans.{Ans, held, refused}
+use Rattle.std.specs.Prelude.{Float, Result}
+use Rattle.number.specs.Answer.{answer_by}
+use Rattle.number.specs.declared.refusal.Refusal.{Refusal}
+use Rattle.number.specs.Ans.{Ans}
 use Rattle.dual.specs.Dual.{DualOf}
 use Rattle.dual.specs.Value.{dual_of}
 use Rattle.saftvrmie_parameters.specs.declared.PairParameters.{PairParameters}
@@ -17,11 +19,6 @@ use Rattle.saftvrmie_dispersion.specs.declared.Terms.{Terms}
 use Rattle.saftvrmie_dispersion.specs.declared.Sums.{Sums}
 use Rattle.saftvrmie_dispersion.specs.declared.KValues.{KValues}
 use Rattle.saftvrmie_dispersion.specs.declared.Link.{Link}
-use Rattle.saftvrmie_dispersion.specs.declared.FiveAnswer as the-five
-use Rattle.saftvrmie_dispersion.specs.declared.OrdersDualAnswer as the-orders
-use Rattle.saftvrmie_dispersion.specs.declared.TermsAnswer as the-terms
-use Rattle.saftvrmie_dispersion.specs.declared.SumsAnswer as the-sums
-use Rattle.saftvrmie_dispersion.specs.declared.KAnswer as the-k
 
 -- the parameters of a pair, each number entered by lit
 abbrev pub pair_in : {N : Type 0} → (Float → N) → PairParameters → PairIn N
@@ -60,22 +57,17 @@ k_in k = record { k0 = k.k0; k1 = k.k1; k2 = k.k2; k3 = k.k3 }
 abbrev pub link_in : Link → LinkIn Float
 link_in l = record { m = l.m; fraction = l.fraction; t_inv = l.t_inv }
 
-abbrev pub five_answer : the-five.FiveAnswer → Ans (FiveIn Float)
-five_answer (the-five.TheVariants.At s) = held (five_in s)
-five_answer the-five.TheVariants.Outside = refused 6
+abbrev pub five_answer : Result Five Refusal → Ans (FiveIn Float)
+five_answer = answer_by five_in
 
-abbrev pub orders_dual_answer : the-orders.OrdersDualAnswer → Ans (OrdersIn (DualOf Float))
-orders_dual_answer (the-orders.TheVariants.At o) = held (orders_dual_in o)
-orders_dual_answer the-orders.TheVariants.Outside = refused 6
+abbrev pub orders_dual_answer : Result OrdersDual Refusal → Ans (OrdersIn (DualOf Float))
+orders_dual_answer = answer_by orders_dual_in
 
-abbrev pub terms_answer : the-terms.TermsAnswer → Ans (TermsIn Float)
-terms_answer (the-terms.TheVariants.At t) = held (terms_in t)
-terms_answer the-terms.TheVariants.Outside = refused 6
+abbrev pub terms_answer : Result Terms Refusal → Ans (TermsIn Float)
+terms_answer = answer_by terms_in
 
-abbrev pub sums_answer : the-sums.SumsAnswer → Ans (SumsIn Float)
-sums_answer (the-sums.TheVariants.At s) = held (sums_in s)
-sums_answer the-sums.TheVariants.Outside = refused 6
+abbrev pub sums_answer : Result Sums Refusal → Ans (SumsIn Float)
+sums_answer = answer_by sums_in
 
-abbrev pub k_answer : the-k.KAnswer → Ans (KIn Float)
-k_answer (the-k.TheVariants.At k) = held (k_in k)
-k_answer the-k.TheVariants.Outside = refused 6
+abbrev pub k_answer : Result KValues Refusal → Ans (KIn Float)
+k_answer = answer_by k_in

@@ -1,7 +1,7 @@
 // The chain: the hard spheres' k-values, the fluid with slopes, and what a component's link adds.
-ghost use Rattle.std.specs.Prelude.{◌≡◌};
-ghost use Rattle.number.specs.Ans.{demand};
+ghost use Rattle.std.specs.Prelude.{true, ◌≡◌};
 ghost use Rattle.number.specs.Answer.{answer};
+ghost use Rattle.mie_parameters.specs.Answer.{outcome};
 ghost use Rattle.number.specs.Arith.{floats};
 ghost use Rattle.number.specs.Functions.{calls};
 ghost use Rattle.elementary.specs.Port.{port};
@@ -10,27 +10,22 @@ ghost use Rattle.saftvrmie_dispersion.specs.Chain.{k_of, rho_dual, zeta_dual, fl
 ghost use Rattle.saftvrmie_dispersion.specs.Answer.{pair_of, fluid_dual_in, bar_in, orders_dual_in, sums_in, k_in, link_in, sums_answer, k_answer};
 ghost use Rattle.saftvrmie_dispersion.specs.Staged.{k_tested};
 
-use crate::{
-    Bar, FluidDual, KAnswer, KValues, Link, OrdersDual, OrdersDualAnswer, Sums, SumsAnswer, Terms,
-    orders, slopes,
-};
+use crate::{Bar, FluidDual, KValues, Link, OrdersDual, Sums, Terms, orders, slopes};
 use dual::Dual;
 use mie_parameters::PI;
-use number::FloatAnswer;
+use number::Refusal;
 use saftvrmie_parameters::PairParameters;
 
 // k0 to k3 of `Properties::new`.
-pub fn k_values(zeta_x: f64) -> KAnswer
+pub fn k_values(zeta_x: f64) -> Result<KValues, Refusal>
     ensures { k_answer result ≡ k_of floats (calls floats port) zeta_x }
 {
     let frac = 1.0 / number::pow_up(-zeta_x + 1.0, 3);
     let z = zeta_x;
     let z2 = z * z;
     let z3 = z2 * z;
-    let FloatAnswer::Value(l) = elementary::ln(-z + 1.0) else {
-        return KAnswer::Outside;
-    };
-    KAnswer::At(KValues {
+    let l = elementary::ln(-z + 1.0)?;
+    Ok(KValues {
         k0: -l + z * (-z * 39.0 + z2 * 9.0 - z3 * 2.0 + 42.0) * frac / 6.0,
         k1: z * frac * 0.5 * (z3 + z * 6.0 - 12.0),
         k2: -z2 * 3.0 / 8.0 * frac * (-zeta_x + 1.0),
@@ -39,13 +34,11 @@ pub fn k_values(zeta_x: f64) -> KAnswer
 }
 
 // Whether they have a value: all that dispersion alone asks of them.
-pub fn k_inside(zeta_x: f64) -> bool
-    ensures { demand 6 result ≡ k_tested zeta_x }
+pub fn k_inside(zeta_x: f64) -> Result<(), Refusal>
+    ensures { outcome result true ≡ k_tested zeta_x }
 {
-    match elementary::ln(-zeta_x + 1.0) {
-        FloatAnswer::Value(_) => true,
-        FloatAnswer::Outside => false,
-    }
+    elementary::ln(-zeta_x + 1.0)?;
+    Ok(())
 }
 
 fn rho_dual(rho: f64) -> Dual
@@ -59,24 +52,24 @@ fn zeta_dual(zeta_x: f64, rho: f64) -> Dual
 {
     let rho_s = rho_dual(rho);
     if rho == 0.0 {
-        return dual::mul(rho_s, dual::plain(0.0));
+        return rho_s * Dual::plain(0.0);
     }
-    dual::mul(dual::plain(zeta_x / rho), rho_s)
+    Dual::plain(zeta_x / rho) * rho_s
 }
 
 pub fn fluid_dual(zeta_x: f64, rho: f64) -> FluidDual
     ensures { fluid_dual_in result ≡ fluid_dual floats zeta_x rho }
 {
     let z = zeta_dual(zeta_x, rho);
-    let one = dual::plain(1.0);
-    let minus = dual::neg(z);
+    let one = Dual::plain(1.0);
+    let minus = -z;
     FluidDual {
         segment_density: rho_dual(rho),
         zeta_x: z,
         k_hs: slopes::k_hs_dual(z),
-        b1: dual::add(dual::mul(minus, dual::plain(0.5)), one),
-        b2: dual::mul(dual::mul(z, dual::add(z, one)), dual::plain(4.5)),
-        b3: dual::pow_down(dual::add(minus, one), 3),
+        b1: minus * Dual::plain(0.5) + one,
+        b2: z * (z + one) * Dual::plain(4.5),
+        b3: (minus + one).pow_down(3),
     }
 }
 
@@ -101,35 +94,27 @@ fn link_pref(d3: f64, eps_k: f64) -> f64
     d3 * eps_k * 2.0 * PI
 }
 
-fn g_hs(k: KValues, x0: f64) -> FloatAnswer
+fn g_hs(k: KValues, x0: f64) -> Result<f64, Refusal>
     ensures { answer result ≡ g_hs floats (calls floats port) (k_in k) x0 }
 {
     elementary::exp(k.k0 + k.k1 * x0 + k.k2 * number::pow_up(x0, 2) + k.k3 * number::pow_up(x0, 3))
 }
 
-fn gamma(zeta_x_bar: f64, beta_eps: f64, alpha: f64) -> FloatAnswer
+fn gamma(zeta_x_bar: f64, beta_eps: f64, alpha: f64) -> Result<f64, Refusal>
     ensures { answer result ≡ gamma_of floats (calls floats port) zeta_x_bar beta_eps alpha }
 {
-    let FloatAnswer::Value(e) = elementary::exp_m1(beta_eps) else {
-        return FloatAnswer::Outside;
-    };
-    let FloatAnswer::Value(t) = elementary::tanh(10.0 * (0.57 - alpha)) else {
-        return FloatAnswer::Outside;
-    };
+    let e = elementary::exp_m1(beta_eps)?;
+    let t = elementary::tanh(10.0 * (0.57 - alpha))?;
     let x = -zeta_x_bar * 6.7 - number::pow_up(zeta_x_bar, 2) * 8.0;
-    let FloatAnswer::Value(g) = elementary::exp(x) else {
-        return FloatAnswer::Outside;
-    };
-    FloatAnswer::Value(zeta_x_bar * e * 10.0 * (-t + 1.0) * g)
+    let g = elementary::exp(x)?;
+    Ok(zeta_x_bar * e * 10.0 * (-t + 1.0) * g)
 }
 
-fn ln_g_mie(g_hs: f64, beta_eps: f64, g1: f64, g2: f64) -> FloatAnswer
+fn ln_g_mie(g_hs: f64, beta_eps: f64, g1: f64, g2: f64) -> Result<f64, Refusal>
     ensures { answer result ≡ ln_g_mie floats (calls floats port) g_hs beta_eps g1 g2 }
 {
-    let FloatAnswer::Value(l) = elementary::ln(g_hs) else {
-        return FloatAnswer::Outside;
-    };
-    FloatAnswer::Value(l + (beta_eps * g1 + number::pow_up(beta_eps, 2) * g2) / g_hs)
+    let l = elementary::ln(g_hs)?;
+    Ok(l + (beta_eps * g1 + number::pow_up(beta_eps, 2) * g2) / g_hs)
 }
 
 // What a component adds to a_chain.
@@ -141,22 +126,16 @@ fn link_term(
     p: PairParameters,
     d: f64,
     link: Link,
-) -> FloatAnswer
+) -> Result<f64, Refusal>
     ensures { answer result ≡ link_of floats (calls floats port) (k_in k) zeta_x_bar (orders_dual_in o) k_hs (pair_of p) d (link_in link) }
 {
     let pref = link_pref(number::pow_up(d, 3), p.epsilon_k);
     let beta_eps = link.t_inv * p.epsilon_k;
-    let FloatAnswer::Value(g) = g_hs(k, orders::x0_of(d, p.sigma)) else {
-        return FloatAnswer::Outside;
-    };
-    let FloatAnswer::Value(gamma) = gamma(zeta_x_bar, beta_eps, p.alpha) else {
-        return FloatAnswer::Outside;
-    };
+    let g = g_hs(k, orders::x0_of(d, p.sigma))?;
+    let gamma = gamma(zeta_x_bar, beta_eps, p.alpha)?;
     let g2 = g2_mca(o, p, pref, k_hs) * (gamma + 1.0);
-    let FloatAnswer::Value(ln_g) = ln_g_mie(g, beta_eps, g1(o, p, pref), g2) else {
-        return FloatAnswer::Outside;
-    };
-    FloatAnswer::Value(-link.fraction * (link.m - 1.0) * ln_g)
+    let ln_g = ln_g_mie(g, beta_eps, g1(o, p, pref), g2)?;
+    Ok(-link.fraction * (link.m - 1.0) * ln_g)
 }
 
 fn add_link(s: Sums, l: f64) -> Sums
@@ -180,15 +159,11 @@ pub fn chain_pure(
     of: Link,
     xs: f64,
     s: Sums,
-) -> SumsAnswer
+) -> Result<Sums, Refusal>
     ensures { sums_answer result ≡ chain_pure floats (calls floats port) (fluid_dual_in w) (bar_in bar) (k_in k) (pair_of p) d (link_in of) xs (sums_in s) }
 {
-    let OrdersDualAnswer::At(o) = slopes::orders_dual(w, p, d) else {
-        return SumsAnswer::Outside;
-    };
-    let FloatAnswer::Value(a3) = orders::a3(bar.zeta_x_bar, p.alpha, p.epsilon_k) else {
-        return SumsAnswer::Outside;
-    };
+    let o = slopes::orders_dual(w, p, d)?;
+    let a3 = orders::a3(bar.zeta_x_bar, p.alpha, p.epsilon_k)?;
     let terms = Terms {
         a1: o.a1.re,
         a2: o.a2.re,
@@ -196,8 +171,6 @@ pub fn chain_pure(
         xi: orders::xi(bar, p.alpha),
     };
     let t = orders::add_pure(xs, terms, s);
-    let FloatAnswer::Value(l) = link_term(k, bar.zeta_x_bar, o, w.k_hs.re, p, d, of) else {
-        return SumsAnswer::Outside;
-    };
-    SumsAnswer::At(add_link(t, l))
+    let l = link_term(k, bar.zeta_x_bar, o, w.k_hs.re, p, d, of)?;
+    Ok(add_link(t, l))
 }

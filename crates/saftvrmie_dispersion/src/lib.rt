@@ -102,33 +102,3 @@ pub struct Link {
     pub fraction: f64,
     pub t_inv: f64,
 }
-
-#[derive(Clone, Copy)]
-pub enum FiveAnswer {
-    At(Five),
-    Outside,
-}
-
-#[derive(Clone, Copy)]
-pub enum OrdersDualAnswer {
-    At(OrdersDual),
-    Outside,
-}
-
-#[derive(Clone, Copy)]
-pub enum TermsAnswer {
-    At(Terms),
-    Outside,
-}
-
-#[derive(Clone, Copy)]
-pub enum SumsAnswer {
-    At(Sums),
-    Outside,
-}
-
-#[derive(Clone, Copy)]
-pub enum KAnswer {
-    At(KValues),
-    Outside,
-}

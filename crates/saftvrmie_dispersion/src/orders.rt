@@ -8,9 +8,9 @@ ghost use Rattle.mie_parameters.specs.Sums.{orders_sum};
 ghost use Rattle.saftvrmie_dispersion.specs.Terms.{f, bar_of, xi_of, a3_of, x0_of, add_pure, add_pair, pref_of, a1_of, a2_of, terms_of};
 ghost use Rattle.saftvrmie_dispersion.specs.Answer.{pair_of, fluid_in, bar_in, five_in, terms_in, sums_in, terms_answer};
 
-use crate::{Bar, Five, FiveAnswer, Fluid, Sums, Terms, TermsAnswer, sutherland};
+use crate::{Bar, Five, Fluid, Sums, Terms, sutherland};
 use mie_parameters::{PHI, PI};
-use number::FloatAnswer;
+use number::Refusal;
 use saftvrmie_parameters::PairParameters;
 
 fn f(phi: [f64; 7], alpha: f64) -> f64
@@ -41,16 +41,14 @@ pub fn xi(bar: Bar, alpha: f64) -> f64
     bar.zeta_x_bar * f0 + bar.zx5 * f1 + bar.zx8 * f2
 }
 
-pub fn a3(zeta_x_bar: f64, alpha: f64, eps_k: f64) -> FloatAnswer
+pub fn a3(zeta_x_bar: f64, alpha: f64, eps_k: f64) -> Result<f64, Refusal>
     ensures { answer result ≡ a3_of floats (calls floats port) zeta_x_bar alpha eps_k }
 {
     let f3 = f(PHI[3], alpha);
     let f4 = f(PHI[4], alpha);
     let f5 = f(PHI[5], alpha);
-    let FloatAnswer::Value(e) = elementary::exp(zeta_x_bar * (zeta_x_bar * f5 + f4)) else {
-        return FloatAnswer::Outside;
-    };
-    FloatAnswer::Value(-zeta_x_bar * f3 * e * number::pow_up(eps_k, 3))
+    let e = elementary::exp(zeta_x_bar * (zeta_x_bar * f5 + f4))?;
+    Ok(-zeta_x_bar * f3 * e * number::pow_up(eps_k, 3))
 }
 
 pub fn x0_of(d: f64, sigma: f64) -> f64
@@ -78,21 +76,17 @@ pub fn a2(pref: f64, eps_k: f64, c: f64, k_hs: f64, s: Five) -> f64
 }
 
 // The three orders of a pair, or of a component without chain, from its diameter.
-pub fn pair_terms(w: Fluid, bar: Bar, p: PairParameters, d: f64) -> TermsAnswer
+pub fn pair_terms(w: Fluid, bar: Bar, p: PairParameters, d: f64) -> Result<Terms, Refusal>
     ensures { terms_answer result ≡ terms_of floats (calls floats port) (fluid_in w) (bar_in bar) (pair_of p) d }
 {
     let x0 = x0_of(d, p.sigma);
     if !binary_log::base_inside(x0) {
-        return TermsAnswer::Outside;
+        return Err(Refusal::Domain);
     }
-    let FiveAnswer::At(s) = sutherland::five_sums(binary_log::log_base(x0), w, p.la, p.lr) else {
-        return TermsAnswer::Outside;
-    };
+    let s = sutherland::five_sums(binary_log::log_base(x0), w, p.la, p.lr)?;
     let pref = pref(w.segment_density, number::pow_up(d, 3), p.epsilon_k, p.c);
-    let FloatAnswer::Value(a3) = a3(bar.zeta_x_bar, p.alpha, p.epsilon_k) else {
-        return TermsAnswer::Outside;
-    };
-    TermsAnswer::At(Terms {
+    let a3 = a3(bar.zeta_x_bar, p.alpha, p.epsilon_k)?;
+    Ok(Terms {
         a1: a1(pref, s),
         a2: a2(pref, p.epsilon_k, p.c, w.k_hs, s),
         a3,

@@ -5,9 +5,10 @@ ghost use Rattle.saftvrmie_dispersion.specs.Sutherland.{k_hs, fluid_of, c_row, z
 ghost use Rattle.saftvrmie_dispersion.specs.Answer.{fluid_in, five_answer};
 ghost use Rattle.saftvrmie_dispersion.specs.Staged.{lambda_inside, five_inside, a1s_b_at, lambdas, five_tested};
 
-use crate::{Five, FiveAnswer, Fluid};
+use crate::{Five, Fluid};
 use binary_log::Log;
 use mie_parameters::LAM_COEFF;
+use number::Refusal;
 
 pub fn k_hs(zeta_x: f64) -> f64
     ensures { result ≡ k_hs floats zeta_x }
@@ -108,7 +109,7 @@ fn lambdas(la: f64, lr: f64) -> [f64; 5]
 }
 
 // In a loop, so that each sum's code stands once: the tests of an exponent and its powers then share what they read.
-pub fn five_sums(l: Log, w: Fluid, la: f64, lr: f64) -> FiveAnswer
+pub fn five_sums(l: Log, w: Fluid, la: f64, lr: f64) -> Result<Five, Refusal>
     ensures { five_answer result ≡ five_tested l (fluid_in w) la lr }
 {
     let y = lambdas(la, lr);
@@ -116,11 +117,11 @@ pub fn five_sums(l: Log, w: Fluid, la: f64, lr: f64) -> FiveAnswer
     for k in 0usize..5usize {
         let lambda = y[k];
         if !lambda_inside(lambda) {
-            return FiveAnswer::Outside;
+            return Err(Refusal::Domain);
         }
         s[k] = a1s_b_ij(l, w, lambda);
     }
-    FiveAnswer::At(Five {
+    Ok(Five {
         at_la: s[0],
         at_lr: s[1],
         at_2la: s[2],

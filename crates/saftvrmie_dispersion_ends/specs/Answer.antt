@@ -1,5 +1,8 @@
 -- The code's structs in the two-ended run as the formulas' records, and the number or values of each case of the answers.
-use Rattle.number.specs.Ans.{Ans, held, refused}
+use Rattle.number.specs.Ans.{Ans}
+use Rattle.std.specs.Prelude.{Result}
+use Rattle.number.specs.Answer.{answer_by}
+use Rattle.number.specs.declared.refusal.Refusal.{Refusal}
 use Rattle.enclosure.specs.declared.Enclosure.{Enclosure}
 use Rattle.saftvrmie_dispersion.specs.Sutherland.{FluidIn}
 use Rattle.saftvrmie_dispersion.specs.Terms.{BarIn, FiveIn, TermsIn, SumsIn}
@@ -8,9 +11,6 @@ use Rattle.saftvrmie_dispersion_ends.specs.declared.BarEnclosures.{BarEnclosures
 use Rattle.saftvrmie_dispersion_ends.specs.declared.FiveEnclosures.{FiveEnclosures}
 use Rattle.saftvrmie_dispersion_ends.specs.declared.TermsEnclosures.{TermsEnclosures}
 use Rattle.saftvrmie_dispersion_ends.specs.declared.SumsEnclosures.{SumsEnclosures}
-use Rattle.saftvrmie_dispersion_ends.specs.declared.FiveEnclosuresAnswer as the-five
-use Rattle.saftvrmie_dispersion_ends.specs.declared.TermsEnclosuresAnswer as the-terms
-use Rattle.saftvrmie_dispersion_ends.specs.declared.SumsEnclosuresAnswer as the-sums
 
 abbrev pub fluid_in : FluidEnclosures → FluidIn Enclosure
 fluid_in w = record { segment_density = w.segment_density; zeta_x = w.zeta_x; k_hs = w.k_hs; b1 = w.b1; b2 = w.b2; b3 = w.b3 }
@@ -27,14 +27,11 @@ terms_in t = record { a1 = t.a1; a2 = t.a2; a3 = t.a3; xi = t.xi }
 abbrev pub sums_in : SumsEnclosures → SumsIn Enclosure
 sums_in s = record { a1 = s.a1; a2 = s.a2; a3 = s.a3; a_chain = s.a_chain }
 
-abbrev pub five_answer : the-five.FiveEnclosuresAnswer → Ans (FiveIn Enclosure)
-five_answer (the-five.TheVariants.At s) = held (five_in s)
-five_answer the-five.TheVariants.Outside = refused 6
+abbrev pub five_answer : Result FiveEnclosures Refusal → Ans (FiveIn Enclosure)
+five_answer = answer_by five_in
 
-abbrev pub terms_answer : the-terms.TermsEnclosuresAnswer → Ans (TermsIn Enclosure)
-terms_answer (the-terms.TheVariants.At t) = held (terms_in t)
-terms_answer the-terms.TheVariants.Outside = refused 6
+abbrev pub terms_answer : Result TermsEnclosures Refusal → Ans (TermsIn Enclosure)
+terms_answer = answer_by terms_in
 
-abbrev pub sums_answer : the-sums.SumsEnclosuresAnswer → Ans (SumsIn Enclosure)
-sums_answer (the-sums.TheVariants.At s) = held (sums_in s)
-sums_answer the-sums.TheVariants.Outside = refused 6
+abbrev pub sums_answer : Result SumsEnclosures Refusal → Ans (SumsIn Enclosure)
+sums_answer = answer_by sums_in

@@ -1,6 +1,10 @@
 -- Laws of the energies over plain values: unused work leaves a float as it is; the operation, test by test. Assumes nothing.
 use Prim.Native.Nat.{ℕ, zero, suc, ◌≤◌}
 use native.Mathlib.Omega.{arith}
+use Rattle.std.specs.Prelude.{Err, Ok, Result}
+use Rattle.number.specs.declared.refusal.Refusal.{Refusal}
+use Rattle.number.specs.Answer.{code}
+use Rattle.mie_parameters.specs.Answer.{outcome}
 use lib.Dec.{eqb}
 use lib.Ieee.{Float}
 use lib.Ieee.Scale.{finite}
@@ -47,26 +51,26 @@ module _ (n : ℕ) (xs density d m : ℕ → Float) (pair : ℕ → ℕ → Pair
   unfolding properties packing_of ◌>>=◌
   properties_held k e = rw (lower_is, p) (let e' = rw p at e in rw e')
 
-  pub properties_refused : k_of floats (calls floats port) q.zeta_x ≡ refused 6 → properties floats (calls floats port) n xs density d m pair ≡ refused 6
+  pub properties_refused : (j : ℕ) → k_of floats (calls floats port) q.zeta_x ≡ refused j → properties floats (calls floats port) n xs density d m pair ≡ refused j
   unfolding properties packing_of ◌>>=◌
-  properties_refused e = rw lower_is (let e' = rw p at e in rw e')
+  properties_refused j e = rw lower_is (let e' = rw p at e in rw e')
 
 never : {S : Type 0} {i : ℕ} {x : S} → refused i ≡ held x → ⊥
 never {S} {i} {x} p = let z : ◌≡◌ {A = ℕ} 0 1 = cc in omega arith
 
 -- whether k0 to k3 have a value, r being the test's answer
-module _ (z : Float) (r : Bool) (p : demand 6 r ≡ k_tested z) where
-  pub k_some : r ≡ true → (k : KIn Float) × (k_of floats (calls floats port) z ≡ held k)
-  unfolding k_tested demand
+module _ (z : Float) (r : Result (Unit {0}) Refusal) (p : outcome r true ≡ k_tested z) where
+  pub k_some : r ≡ Ok tt → (k : KIn Float) × (k_of floats (calls floats port) z ≡ held k)
+  unfolding k_tested
   k_some h = let e = then_held _ (λ _. held true) true (sym (rw h at p)) in (e.0, e.1)
 
-  pub k_none : r ≡ false → k_of floats (calls floats port) z ≡ refused 6
-  unfolding k_tested demand ◌>>=◌
-  k_none h = only _ (rw h at p)
+  pub k_none : (m : Refusal) → r ≡ Err m → k_of floats (calls floats port) z ≡ refused (code m)
+  unfolding k_tested ◌>>=◌
+  k_none m h = only _ (rw h at p)
     where
-      only : (a : Ans (KIn Float)) → refused 6 ≡ (a >>= λ _. held true) → a ≡ refused 6
+      only : (a : Ans (KIn Float)) → refused (code m) ≡ (a >>= λ _. held true) → a ≡ refused (code m)
       only (held k) e = absurd (never e)
-      only (refused i) e = let z : i ≡ 6 = cc in rw z
+      only (refused i) e = let z : i ≡ code m = cc in rw z
 
 -- k_hs of the state with slopes
 pub value_is : (v : FluidDual) (f : FluidIn (DualOf Float)) → fluid_dual_in v ≡ f → v.k_hs.re ≡ f.k_hs.re
@@ -103,9 +107,9 @@ module _ (s : SaftVRMiePars) (t : Float) (x rho d : List Float) (chain : Bool) w
     refuses_2 q = rw (p, q)
 
     module _ (q : state_within s.count t x rho ≡ true) where
-      pub refuses_6 : energy_run floats (calls floats port) s t x rho d chain ≡ refused 6 → refused 6 ≡ energy s t x rho d chain
+      pub refuses_6 : (k : ℕ) → energy_run floats (calls floats port) s t x rho d chain ≡ refused k → refused k ≡ energy s t x rho d chain
       unfolding energy_by demand ◌>>=◌
-      refuses_6 r = rw (p, q, r)
+      refuses_6 k r = rw (p, q, r)
 
       module _ (v : Float) (r : energy_run floats (calls floats port) s t x rho d chain ≡ held v) where
         pub refuses_7 : finite v ≡ false → refused 7 ≡ energy s t x rho d chain

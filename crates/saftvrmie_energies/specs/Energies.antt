@@ -1,7 +1,7 @@
 -- Dispersion, and dispersion with chain, as an operation on a set: where each number is read, the tests in their order, and the answer.
 use Rattle.std.specs.Prelude.{ℕ, ◌+◌, ◌*◌, eqb, Float, length, List, Bool, ◌&&◌, cond}
 use Rattle.std.specs.Float.Ieee.Scale.{finite}
-use Rattle.number.specs.Ans.{Ans, held, refused, ◌>>=◌, demand}
+use Rattle.number.specs.Ans.{Ans, held, ◌>>=◌, demand}
 use Rattle.number.specs.Arith.{Arith, floats}
 use Rattle.number.specs.Functions.{Answers, Functions, calls}
 use Rattle.number.specs.Lists.{at}
@@ -17,14 +17,6 @@ use Rattle.saftvrmie_dispersion.specs.Answer.{pair_in}
 use Rattle.saftvrmie_energies.specs.Properties.{d3_ij, s3_ij, zeta_sum}
 use Rattle.saftvrmie_energies.specs.Dispersion.{StateIn, dispersion, dispersion_chain}
 use Rattle.saftvrmie_energies.specs.declared.Properties.{Properties}
-use Rattle.saftvrmie_energies.specs.declared.EnergyAnswer.{EnergyAnswer}
-use Rattle.saftvrmie_energies.specs.declared.EnergyAnswer.TheVariants.{Value, Refused}
-
--- ---- document 01's number or values of each case of the answers
-
-abbrev pub energy_answer : EnergyAnswer → Ans Float
-energy_answer (Value v) = held v
-energy_answer (Refused n) = refused n
 
 -- segment_density, zeta_x and zeta_x_bar of `properties` in floats: the contract of a helper alone. proofs/Laws shows that `properties` is this and `k_of`
 unfoldable pub packing_of : ℕ → (ℕ → Float) → (ℕ → Float) → (ℕ → Float) → (ℕ → Float) → (ℕ → ℕ → PairIn Float) → Properties

@@ -16,13 +16,11 @@ ghost use Rattle.mie_parameters.specs.Sums.{weighted};
 ghost use Rattle.saftvrmie_energies.specs.Properties.{total, xs_of, d_ij, d3_ij, s3_ij, zeta_row, zeta_sum};
 ghost use Rattle.saftvrmie_energies.specs.Dispersion.{pair_turn, pair_row, disp_row, chain_row, disp_rows, chain_rows, dispersion, dispersion_chain};
 ghost use Rattle.saftvrmie_parameters.specs.Parameters.{pair_at};
-ghost use Rattle.saftvrmie_energies.specs.Energies.{packing_of, energy_answer, pure_at, state_in, state_lengths, energy_run, energy};
+ghost use Rattle.saftvrmie_energies.specs.Energies.{packing_of, pure_at, state_in, state_lengths, energy_run, energy};
 
 use mie_parameters::FRAC_PI_6;
-use number::FloatAnswer;
-use saftvrmie_dispersion::{
-    Bar, Fluid, FluidDual, KAnswer, KValues, Link, Sums, SumsAnswer, TermsAnswer,
-};
+use number::Refusal;
+use saftvrmie_dispersion::{Bar, Fluid, FluidDual, KValues, Link, Sums, Terms};
 use saftvrmie_parameters::{PairParameters, SaftVRMiePars};
 use sizes::mie_set::{ALPHA_IJ, C_IJ, EPSILON_K_IJ, LA_IJ, LR_IJ};
 use sizes::{SHEETS, SIDE};
@@ -33,13 +31,6 @@ pub struct Properties {
     pub segment_density: f64,
     pub zeta_x: f64,
     pub zeta_x_bar: f64,
-}
-
-// An energy, or the refusal's number.
-#[derive(Clone, Copy)]
-pub enum EnergyAnswer {
-    Value(f64),
-    Refused(u8),
 }
 
 // ---- `Properties::new`
@@ -224,7 +215,7 @@ fn pair_turn(
     i: usize,
     j: usize,
     s: Sums,
-) -> SumsAnswer
+) -> Result<Sums, Refusal>
     requires { (i < side) × (j < side) × (i < length d.now) × (j < length d.now) }
     ensures { let xs = at xs.entry.now in
         let d = at d.entry.now in
@@ -232,10 +223,8 @@ fn pair_turn(
         sums_answer result ≡ pair_turn floats (calls floats port) xs d pair (fluid_in w) (bar_in bar) i j (sums_in s) }
 {
     let p = pair_at(sheets, i, j);
-    let TermsAnswer::At(t) = saftvrmie_dispersion::pair_terms(w, bar, p, d_ij(d, i, j)) else {
-        return SumsAnswer::Outside;
-    };
-    SumsAnswer::At(saftvrmie_dispersion::add_pair(xs[i], xs[j], t, s))
+    let t = saftvrmie_dispersion::pair_terms(w, bar, p, d_ij(d, i, j))?;
+    Ok(saftvrmie_dispersion::add_pair(xs[i], xs[j], t, s))
 }
 
 // The pairs (i, j) with j > i.
@@ -248,7 +237,7 @@ fn pair_row(
     bar: Bar,
     i: usize,
     start: Sums,
-) -> SumsAnswer
+) -> Result<Sums, Refusal>
     requires { (n ≤ side) × (i < n) × (length d.now ≡ n) }
     ensures { let xs = at xs.entry.now in
         let d = at d.entry.now in
@@ -257,12 +246,9 @@ fn pair_row(
 {
     let mut s = start;
     for k in 0usize..n - (i + 1) {
-        let SumsAnswer::At(next) = pair_turn(sheets, xs, d, w, bar, i, i + 1 + k, s) else {
-            return SumsAnswer::Outside;
-        };
-        s = next;
+        s = pair_turn(sheets, xs, d, w, bar, i, i + 1 + k, s)?;
     }
-    SumsAnswer::At(s)
+    Ok(s)
 }
 
 // Component i without chain, then its pairs.
@@ -276,16 +262,14 @@ fn disp_row(
     p: PairParameters,
     i: usize,
     s: Sums,
-) -> SumsAnswer
+) -> Result<Sums, Refusal>
     requires { (n ≤ side) × (i < n) × (length d.now ≡ n) }
     ensures { let xs = at xs.entry.now in
         let d = at d.entry.now in
         let pair : ℕ → ℕ → PairIn Float = λ i j. pair_of (pair_at sheets.now i j) in
         sums_answer result ≡ disp_row floats (calls floats port) n xs d pair (fluid_in w) (bar_in bar) (pair_of p) i (sums_in s) }
 {
-    let TermsAnswer::At(t) = saftvrmie_dispersion::pair_terms(w, bar, p, d[i]) else {
-        return SumsAnswer::Outside;
-    };
+    let t = saftvrmie_dispersion::pair_terms(w, bar, p, d[i])?;
     let next = saftvrmie_dispersion::add_pure(xs[i], t, s);
     pair_row(n, sheets, xs, d, w, bar, i, next)
 }
@@ -304,17 +288,14 @@ fn chain_row(
     of: Link,
     i: usize,
     s: Sums,
-) -> SumsAnswer
+) -> Result<Sums, Refusal>
     requires { (n ≤ side) × (i < n) × (length d.now ≡ n) }
     ensures { let xs = at xs.entry.now in
         let d = at d.entry.now in
         let pair : ℕ → ℕ → PairIn Float = λ i j. pair_of (pair_at sheets.now i j) in
         sums_answer result ≡ chain_row floats (calls floats port) n xs d pair (fluid_in w) (bar_in bar) (fluid_dual_in v) (k_in k) (pair_of p) (link_in of) i (sums_in s) }
 {
-    let SumsAnswer::At(t) = saftvrmie_dispersion::chain_pure(v, bar, k, p, d[i], of, xs[i], s)
-    else {
-        return SumsAnswer::Outside;
-    };
+    let t = saftvrmie_dispersion::chain_pure(v, bar, k, p, d[i], of, xs[i], s)?;
     pair_row(n, sheets, xs, d, w, bar, i, t)
 }
 
@@ -329,7 +310,7 @@ fn disp_rows(
     d: &[f64],
     w: Fluid,
     bar: Bar,
-) -> SumsAnswer
+) -> Result<Sums, Refusal>
     requires { (n ≤ side) × (length d.now ≡ n) }
     ensures { let xs = at xs.entry.now in
         let d = at d.entry.now in
@@ -345,12 +326,9 @@ fn disp_rows(
     };
     for i in 0usize..n {
         let p = pure_at(sigma, epsilon_k, lr, la, sheets, i);
-        let SumsAnswer::At(next) = disp_row(n, sheets, xs, d, w, bar, p, i, s) else {
-            return SumsAnswer::Outside;
-        };
-        s = next;
+        s = disp_row(n, sheets, xs, d, w, bar, p, i, s)?;
     }
-    SumsAnswer::At(s)
+    Ok(s)
 }
 
 fn chain_rows(
@@ -369,7 +347,7 @@ fn chain_rows(
     v: FluidDual,
     k: KValues,
     t_inv: f64,
-) -> SumsAnswer
+) -> Result<Sums, Refusal>
     requires { (n ≤ side) × (length x.now ≡ n) × (length d.now ≡ n) }
     ensures { let xs = at xs.entry.now in
         let d = at d.entry.now in
@@ -391,12 +369,9 @@ fn chain_rows(
             fraction: x[i],
             t_inv,
         };
-        let SumsAnswer::At(next) = chain_row(n, sheets, xs, d, w, bar, v, k, p, of, i, s) else {
-            return SumsAnswer::Outside;
-        };
-        s = next;
+        s = chain_row(n, sheets, xs, d, w, bar, v, k, p, of, i, s)?;
     }
-    SumsAnswer::At(s)
+    Ok(s)
 }
 
 // ---- the energies
@@ -413,7 +388,7 @@ fn helmholtz_energy_density_disp(
     x: &[f64],
     rho: &[f64],
     d: &[f64],
-) -> FloatAnswer
+) -> Result<f64, Refusal>
     requires { (n ≤ side) × (length x.now ≡ n) × (length rho.now ≡ n) × (length d.now ≡ n) }
     ensures { let set : SaftVRMiePars =
         record { count = n; m = m.now; sigma = sigma.now; epsilon_k = epsilon_k.now; lr = lr.now; la = la.now; sheets = sheets.now } in
@@ -422,17 +397,13 @@ fn helmholtz_energy_density_disp(
     let mean = weighted(n, x, m);
     let xs = xs_of(n, x, m, mean);
     let q = properties_of(n, m, sheets, &xs, rho, d);
-    if !saftvrmie_dispersion::k_inside(q.zeta_x) {
-        return FloatAnswer::Outside;
-    }
+    saftvrmie_dispersion::k_inside(q.zeta_x)?;
     let k_hs = saftvrmie_dispersion::k_hs(q.zeta_x);
     let w = saftvrmie_dispersion::fluid_of(q.segment_density, q.zeta_x, k_hs);
     let bar = saftvrmie_dispersion::bar_of(q.zeta_x_bar);
-    let SumsAnswer::At(a) = disp_rows(n, sigma, epsilon_k, lr, la, sheets, &xs, d, w, bar) else {
-        return FloatAnswer::Outside;
-    };
+    let a = disp_rows(n, sigma, epsilon_k, lr, la, sheets, &xs, d, w, bar)?;
     let orders = saftvrmie_dispersion::orders_sum(a, 1.0 / temperature);
-    FloatAnswer::Value(total(n, rho) * mean * orders)
+    Ok(total(n, rho) * mean * orders)
 }
 
 fn helmholtz_energy_density_disp_chain(
@@ -447,7 +418,7 @@ fn helmholtz_energy_density_disp_chain(
     x: &[f64],
     rho: &[f64],
     d: &[f64],
-) -> FloatAnswer
+) -> Result<f64, Refusal>
     requires { (n ≤ side) × (length x.now ≡ n) × (length rho.now ≡ n) × (length d.now ≡ n) }
     ensures { let set : SaftVRMiePars =
         record { count = n; m = m.now; sigma = sigma.now; epsilon_k = epsilon_k.now; lr = lr.now; la = la.now; sheets = sheets.now } in
@@ -456,20 +427,16 @@ fn helmholtz_energy_density_disp_chain(
     let mean = weighted(n, x, m);
     let xs = xs_of(n, x, m, mean);
     let q = properties_of(n, m, sheets, &xs, rho, d);
-    let KAnswer::At(k) = saftvrmie_dispersion::k_values(q.zeta_x) else {
-        return FloatAnswer::Outside;
-    };
+    let k = saftvrmie_dispersion::k_values(q.zeta_x)?;
     let v = saftvrmie_dispersion::fluid_dual(q.zeta_x, q.segment_density);
     let w = saftvrmie_dispersion::fluid_of(q.segment_density, q.zeta_x, v.k_hs.re);
     let bar = saftvrmie_dispersion::bar_of(q.zeta_x_bar);
     let t_inv = 1.0 / temperature;
-    let SumsAnswer::At(a) = chain_rows(
+    let a = chain_rows(
         n, m, sigma, epsilon_k, lr, la, sheets, x, &xs, d, w, bar, v, k, t_inv,
-    ) else {
-        return FloatAnswer::Outside;
-    };
+    )?;
     let orders = saftvrmie_dispersion::orders_sum(a, t_inv);
-    FloatAnswer::Value(total(n, rho) * (mean * orders + a.a_chain))
+    Ok(total(n, rho) * (mean * orders + a.a_chain))
 }
 
 // ---- the operation
@@ -493,7 +460,7 @@ fn work(
     rho: &[f64],
     d: &[f64],
     chain: bool,
-) -> FloatAnswer
+) -> Result<f64, Refusal>
     requires { (n ≤ side) × (length x.now ≡ n) × (length rho.now ≡ n) × (length d.now ≡ n) }
     ensures { let set : SaftVRMiePars =
         record { count = n; m = m.now; sigma = sigma.now; epsilon_k = epsilon_k.now; lr = lr.now; la = la.now; sheets = sheets.now } in
@@ -543,18 +510,18 @@ pub fn dispersion_of(
     densities: &[f64],
     diameters: &[f64],
     chain: bool,
-) -> EnergyAnswer
+) -> Result<f64, Refusal>
     ensures { let set : SaftVRMiePars =
         record { count = n; m = m.now; sigma = sigma.now; epsilon_k = epsilon_k.now; lr = lr.now; la = la.now; sheets = sheets.now } in
-        energy_answer result ≡ energy set temperature fractions.now densities.now diameters.now chain }
+        answer result ≡ energy set temperature fractions.now densities.now diameters.now chain }
 {
     if !right_lists(n, fractions.len(), densities.len(), diameters.len()) {
-        return EnergyAnswer::Refused(1);
+        return Err(Refusal::Length);
     }
     if !limits::state_within(n, temperature, fractions, densities) {
-        return EnergyAnswer::Refused(2);
+        return Err(Refusal::Limit);
     }
-    let FloatAnswer::Value(v) = work(
+    let v = work(
         n,
         m,
         sigma,
@@ -567,13 +534,11 @@ pub fn dispersion_of(
         densities,
         diameters,
         chain,
-    ) else {
-        return EnergyAnswer::Refused(6);
-    };
+    )?;
     if !number::is_finite(v) {
-        return EnergyAnswer::Refused(7);
+        return Err(Refusal::NotFinite);
     }
-    EnergyAnswer::Value(v)
+    Ok(v)
 }
 
 // The Helmholtz energy density of dispersion, with or without chain, from a list of diameters. 1, 2, 6, 7.
@@ -584,8 +549,8 @@ pub fn dispersion(
     densities: &[f64],
     diameters: &[f64],
     chain: bool,
-) -> EnergyAnswer
-    ensures { energy_answer result ≡ energy set temperature fractions.now densities.now diameters.now chain }
+) -> Result<f64, Refusal>
+    ensures { answer result ≡ energy set temperature fractions.now densities.now diameters.now chain }
 {
     let m = set.m;
     let sigma = set.sigma;

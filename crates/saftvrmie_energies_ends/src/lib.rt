@@ -6,7 +6,7 @@ ghost use Rattle.number.specs.Arith.{decimal};
 ghost use Rattle.number.specs.Functions.{calls};
 ghost use Rattle.sizes.specs.Sizes.{side};
 ghost use Rattle.elementary.specs.Port.{port};
-ghost use Rattle.enclosure.specs.Answer.{answer, ends};
+ghost use Rattle.number.specs.Answer.{answer};
 ghost use Rattle.enclosure.specs.Enclosure.{enclosures, div_e, after_e, point};
 ghost use Rattle.enclosure.specs.declared.Enclosure.{Enclosure};
 ghost use Rattle.saftvrmie_parameters.specs.declared.SaftVRMiePars.{SaftVRMiePars};
@@ -22,13 +22,12 @@ ghost use Rattle.saftvrmie_properties_ends.specs.Points.{points, pairs};
 ghost use Rattle.saftvrmie_chain_ends.specs.Duals.{fluid_dual_in, link_in};
 ghost use Rattle.saftvrmie_energies_ends.specs.Operation.{dispersion_ends};
 
-use enclosure::{Enclosure, EnclosureAnswer, EndsAnswer};
+use enclosure::{Enclosure, Ends};
+use number::Refusal;
 use saftvrmie_chain_ends::{FluidDuals, LinkEnclosures};
-use saftvrmie_dispersion_ends::{
-    BarEnclosures, FluidEnclosures, SumsEnclosures, SumsEnclosuresAnswer, TermsEnclosuresAnswer,
-};
+use saftvrmie_dispersion_ends::{BarEnclosures, FluidEnclosures, SumsEnclosures};
 use saftvrmie_parameters::{PairParameters, SaftVRMiePars};
-use saftvrmie_properties_ends::{KEnclosures, PropertiesEnclosuresAnswer};
+use saftvrmie_properties_ends::KEnclosures;
 use sizes::{SHEETS, SIDE};
 
 // ---- the sums
@@ -42,7 +41,7 @@ fn pair_turn(
     i: usize,
     j: usize,
     s: SumsEnclosures,
-) -> SumsEnclosuresAnswer
+) -> Result<SumsEnclosures, Refusal>
     requires { (i < side) × (j < side) × (i < length d.now) × (j < length d.now) }
     ensures { let xs = nth enclosures xs in
         let d = points d.entry.now in
@@ -51,12 +50,10 @@ fn pair_turn(
 {
     let p = saftvrmie_energies::pair_at(sheets, i, j);
     let e = saftvrmie_properties_ends::d_ij(d, i, j);
-    let TermsEnclosuresAnswer::At(t) = saftvrmie_dispersion_ends::pair_terms(w, bar, p, e) else {
-        return SumsEnclosuresAnswer::Outside;
-    };
+    let t = saftvrmie_dispersion_ends::pair_terms(w, bar, p, e)?;
     let xi = saftvrmie_properties_ends::at_component(xs, i);
     let xj = saftvrmie_properties_ends::at_component(xs, j);
-    SumsEnclosuresAnswer::At(saftvrmie_dispersion_ends::add_pair(xi, xj, t, s))
+    Ok(saftvrmie_dispersion_ends::add_pair(xi, xj, t, s))
 }
 
 // The pairs (i, j) with j > i.
@@ -69,7 +66,7 @@ fn pair_row(
     bar: BarEnclosures,
     i: usize,
     start: SumsEnclosures,
-) -> SumsEnclosuresAnswer
+) -> Result<SumsEnclosures, Refusal>
     requires { (n ≤ side) × (i < n) × (length d.now ≡ n) }
     ensures { let xs = nth enclosures xs in
         let d = points d.entry.now in
@@ -78,13 +75,9 @@ fn pair_row(
 {
     let mut s = start;
     for k in 0usize..n - (i + 1) {
-        let SumsEnclosuresAnswer::At(next) = pair_turn(sheets, xs, d, w, bar, i, i + 1 + k, s)
-        else {
-            return SumsEnclosuresAnswer::Outside;
-        };
-        s = next;
+        s = pair_turn(sheets, xs, d, w, bar, i, i + 1 + k, s)?;
     }
-    SumsEnclosuresAnswer::At(s)
+    Ok(s)
 }
 
 // Component i without chain, then its pairs.
@@ -98,17 +91,15 @@ fn disp_row(
     p: PairParameters,
     i: usize,
     s: SumsEnclosures,
-) -> SumsEnclosuresAnswer
+) -> Result<SumsEnclosures, Refusal>
     requires { (n ≤ side) × (i < n) × (length d.now ≡ n) }
     ensures { let xs = nth enclosures xs in
         let d = points d.entry.now in
         let pair = pairs sheets.now in
         sums_answer result ≡ disp_row enclosures (calls enclosures port) n xs d pair (fluid_in w) (bar_in bar) (pair_in point p) i (sums_in s) }
 {
-    let e = enclosure::point(d[i]);
-    let TermsEnclosuresAnswer::At(t) = saftvrmie_dispersion_ends::pair_terms(w, bar, p, e) else {
-        return SumsEnclosuresAnswer::Outside;
-    };
+    let e = Enclosure::point(d[i]);
+    let t = saftvrmie_dispersion_ends::pair_terms(w, bar, p, e)?;
     let xi = saftvrmie_properties_ends::at_component(xs, i);
     let next = saftvrmie_dispersion_ends::add_pure(xi, t, s);
     pair_row(n, sheets, xs, d, w, bar, i, next)
@@ -128,19 +119,16 @@ fn chain_row(
     of: LinkEnclosures,
     i: usize,
     s: SumsEnclosures,
-) -> SumsEnclosuresAnswer
+) -> Result<SumsEnclosures, Refusal>
     requires { (n ≤ side) × (i < n) × (length d.now ≡ n) }
     ensures { let xs = nth enclosures xs in
         let d = points d.entry.now in
         let pair = pairs sheets.now in
         sums_answer result ≡ chain_row enclosures (calls enclosures port) n xs d pair (fluid_in w) (bar_in bar) (fluid_dual_in v) (k_in k) (pair_in point p) (link_in of) i (sums_in s) }
 {
-    let e = enclosure::point(d[i]);
+    let e = Enclosure::point(d[i]);
     let xi = saftvrmie_properties_ends::at_component(xs, i);
-    let SumsEnclosuresAnswer::At(t) = saftvrmie_chain_ends::chain_pure(v, bar, k, p, e, of, xi, s)
-    else {
-        return SumsEnclosuresAnswer::Outside;
-    };
+    let t = saftvrmie_chain_ends::chain_pure(v, bar, k, p, e, of, xi, s)?;
     pair_row(n, sheets, xs, d, w, bar, i, t)
 }
 
@@ -155,7 +143,7 @@ fn disp_rows(
     d: &[f64],
     w: FluidEnclosures,
     bar: BarEnclosures,
-) -> SumsEnclosuresAnswer
+) -> Result<SumsEnclosures, Refusal>
     requires { (n ≤ side) × (length d.now ≡ n) }
     ensures { let xs = nth enclosures xs in
         let d = points d.entry.now in
@@ -163,7 +151,7 @@ fn disp_rows(
         let pure : ℕ → PairIn Enclosure = λ i. pair_in point (pure_at sigma.now epsilon_k.now lr.now la.now sheets.now i) in
         sums_answer result ≡ disp_rows enclosures (calls enclosures port) n xs d pair (fluid_in w) (bar_in bar) pure }
 {
-    let zero = enclosure::point(0.0);
+    let zero = Enclosure::point(0.0);
     let mut s = SumsEnclosures {
         a1: zero,
         a2: zero,
@@ -172,12 +160,9 @@ fn disp_rows(
     };
     for i in 0usize..n {
         let p = saftvrmie_energies::pure_at(sigma, epsilon_k, lr, la, sheets, i);
-        let SumsEnclosuresAnswer::At(next) = disp_row(n, sheets, xs, d, w, bar, p, i, s) else {
-            return SumsEnclosuresAnswer::Outside;
-        };
-        s = next;
+        s = disp_row(n, sheets, xs, d, w, bar, p, i, s)?;
     }
-    SumsEnclosuresAnswer::At(s)
+    Ok(s)
 }
 
 // What the chain reads of component i.
@@ -185,8 +170,8 @@ fn link_at(m: &[f64; SIDE], x: &[f64], t_inv: Enclosure, i: usize) -> LinkEnclos
     requires { (i < side) × (i < length x.now) }
     ensures { link_in result ≡ record { m = points m.entry.now i; fraction = points x.now i; t_inv = t_inv } }
 {
-    let a = enclosure::point(m[i]);
-    let b = enclosure::point(x[i]);
+    let a = Enclosure::point(m[i]);
+    let b = Enclosure::point(x[i]);
     LinkEnclosures {
         m: a,
         fraction: b,
@@ -210,7 +195,7 @@ fn chain_rows(
     v: FluidDuals,
     k: KEnclosures,
     t_inv: Enclosure,
-) -> SumsEnclosuresAnswer
+) -> Result<SumsEnclosures, Refusal>
     requires { (n ≤ side) × (length x.now ≡ n) × (length d.now ≡ n) }
     ensures { let xs = nth enclosures xs in
         let d = points d.entry.now in
@@ -219,7 +204,7 @@ fn chain_rows(
         let link : ℕ → LinkIn Enclosure = λ i. record { m = points m.entry.now i; fraction = points x.now i; t_inv = t_inv } in
         sums_answer result ≡ chain_rows enclosures (calls enclosures port) n xs d pair (fluid_in w) (bar_in bar) pure (fluid_dual_in v) (k_in k) link }
 {
-    let zero = enclosure::point(0.0);
+    let zero = Enclosure::point(0.0);
     let mut s = SumsEnclosures {
         a1: zero,
         a2: zero,
@@ -229,13 +214,9 @@ fn chain_rows(
     for i in 0usize..n {
         let p = saftvrmie_energies::pure_at(sigma, epsilon_k, lr, la, sheets, i);
         let of = link_at(m, x, t_inv, i);
-        let SumsEnclosuresAnswer::At(next) = chain_row(n, sheets, xs, d, w, bar, v, k, p, of, i, s)
-        else {
-            return SumsEnclosuresAnswer::Outside;
-        };
-        s = next;
+        s = chain_row(n, sheets, xs, d, w, bar, v, k, p, of, i, s)?;
     }
-    SumsEnclosuresAnswer::At(s)
+    Ok(s)
 }
 
 // ---- the energies
@@ -244,16 +225,16 @@ fn chain_rows(
 fn inverse(temperature: f64) -> Enclosure
     ensures { result ≡ div_e (point (decimal false 1 0)) (point temperature) }
 {
-    let one = enclosure::point(1.0);
-    enclosure::div(one, enclosure::point(temperature))
+    let one = Enclosure::point(1.0);
+    one / Enclosure::point(temperature)
 }
 
 // x, where k0 to k3 were worked on the way: `Properties::new` works them, dispersion alone does not use them.
 fn after_ks(k: KEnclosures, x: Enclosure) -> Enclosure
     ensures { result ≡ after_e k.k0 (after_e k.k1 (after_e k.k2 (after_e k.k3 x))) }
 {
-    let a = enclosure::after(k.k2, enclosure::after(k.k3, x));
-    enclosure::after(k.k0, enclosure::after(k.k1, a))
+    let a = x.after(k.k3).after(k.k2);
+    a.after(k.k1).after(k.k0)
 }
 
 fn helmholtz_energy_density_disp(
@@ -268,7 +249,7 @@ fn helmholtz_energy_density_disp(
     x: &[f64],
     rho: &[f64],
     d: &[f64],
-) -> EnclosureAnswer
+) -> Result<Enclosure, Refusal>
     requires { (n ≤ side) × (length x.now ≡ n) × (length rho.now ≡ n) × (length d.now ≡ n) }
     ensures { let set : SaftVRMiePars =
         record { count = n; m = m.now; sigma = sigma.now; epsilon_k = epsilon_k.now; lr = lr.now; la = la.now; sheets = sheets.now } in
@@ -276,22 +257,15 @@ fn helmholtz_energy_density_disp(
 {
     let mean = saftvrmie_properties_ends::weighted(n, x, m);
     let xs = saftvrmie_properties_ends::xs_of(n, x, m, mean);
-    let PropertiesEnclosuresAnswer::At(q) = saftvrmie_properties_ends::properties_of(
-        n, m, sheets, xs, rho, d,
-    ) else {
-        return EnclosureAnswer::Outside;
-    };
+    let q = saftvrmie_properties_ends::properties_of(n, m, sheets, xs, rho, d)?;
     let k_hs = saftvrmie_dispersion_ends::k_hs(q.zeta_x);
     let w = saftvrmie_dispersion_ends::fluid_of(q.segment_density, q.zeta_x, k_hs);
     let bar = saftvrmie_dispersion_ends::bar_of(q.zeta_x_bar);
-    let SumsEnclosuresAnswer::At(a) = disp_rows(n, sigma, epsilon_k, lr, la, sheets, xs, d, w, bar)
-    else {
-        return EnclosureAnswer::Outside;
-    };
+    let a = disp_rows(n, sigma, epsilon_k, lr, la, sheets, xs, d, w, bar)?;
     let orders = saftvrmie_dispersion_ends::orders_sum(a, inverse(temperature));
     let all = saftvrmie_properties_ends::total(n, rho);
-    let v = enclosure::mul(enclosure::mul(all, mean), orders);
-    EnclosureAnswer::Value(after_ks(q.k, v))
+    let v = all * mean * orders;
+    Ok(after_ks(q.k, v))
 }
 
 fn helmholtz_energy_density_disp_chain(
@@ -306,7 +280,7 @@ fn helmholtz_energy_density_disp_chain(
     x: &[f64],
     rho: &[f64],
     d: &[f64],
-) -> EnclosureAnswer
+) -> Result<Enclosure, Refusal>
     requires { (n ≤ side) × (length x.now ≡ n) × (length rho.now ≡ n) × (length d.now ≡ n) }
     ensures { let set : SaftVRMiePars =
         record { count = n; m = m.now; sigma = sigma.now; epsilon_k = epsilon_k.now; lr = lr.now; la = la.now; sheets = sheets.now } in
@@ -314,24 +288,18 @@ fn helmholtz_energy_density_disp_chain(
 {
     let mean = saftvrmie_properties_ends::weighted(n, x, m);
     let xs = saftvrmie_properties_ends::xs_of(n, x, m, mean);
-    let PropertiesEnclosuresAnswer::At(q) = saftvrmie_properties_ends::properties_of(
-        n, m, sheets, xs, rho, d,
-    ) else {
-        return EnclosureAnswer::Outside;
-    };
+    let q = saftvrmie_properties_ends::properties_of(n, m, sheets, xs, rho, d)?;
     let v = saftvrmie_chain_ends::fluid_dual(q.zeta_x, q.segment_density);
     let w = saftvrmie_dispersion_ends::fluid_of(q.segment_density, q.zeta_x, v.k_hs.re);
     let bar = saftvrmie_dispersion_ends::bar_of(q.zeta_x_bar);
     let t_inv = inverse(temperature);
-    let SumsEnclosuresAnswer::At(a) = chain_rows(
+    let a = chain_rows(
         n, m, sigma, epsilon_k, lr, la, sheets, x, xs, d, w, bar, v, q.k, t_inv,
-    ) else {
-        return EnclosureAnswer::Outside;
-    };
+    )?;
     let orders = saftvrmie_dispersion_ends::orders_sum(a, t_inv);
     let all = saftvrmie_properties_ends::total(n, rho);
-    let e = enclosure::add(enclosure::mul(mean, orders), a.a_chain);
-    EnclosureAnswer::Value(enclosure::mul(all, e))
+    let e = mean * orders + a.a_chain;
+    Ok(all * e)
 }
 
 // ---- the operation
@@ -343,7 +311,7 @@ fn work(
     rho: &[f64],
     d: &[f64],
     chain: bool,
-) -> EnclosureAnswer
+) -> Result<Enclosure, Refusal>
     requires { (set.count ≤ side) × (length x.now ≡ set.count) × (length rho.now ≡ set.count) × (length d.now ≡ set.count) }
     ensures { answer result ≡ energy_run enclosures (calls enclosures port) set temperature x.now rho.now d.now chain }
 {
@@ -392,15 +360,15 @@ pub fn dispersion_ends(
     densities: &[f64],
     diameters: &[f64],
     chain: bool,
-) -> EndsAnswer
-    ensures { ends result ≡ dispersion_ends port set temperature fractions.now densities.now diameters.now chain }
+) -> Result<Ends, Refusal>
+    ensures { answer result ≡ dispersion_ends port set temperature fractions.now densities.now diameters.now chain }
 {
     let n = set.count;
     if !saftvrmie_energies::right_lists(n, fractions.len(), densities.len(), diameters.len()) {
-        return EndsAnswer::Refused(1);
+        return Err(Refusal::Length);
     }
     if !limits::state_within(n, temperature, fractions, densities) {
-        return EndsAnswer::Refused(2);
+        return Err(Refusal::Limit);
     }
     let a = work(set, temperature, fractions, densities, diameters, chain);
     enclosure::ends_of(a)

@@ -1,5 +1,7 @@
 -- Laws over plain values, cited at the returns. Assumes nothing.
 use Prim.Native.Nat.{ℕ, ◌*◌, ◌≤◌}
+use Rattle.std.specs.Prelude.{Err, Ok, Result}
+use Rattle.number.specs.declared.refusal.Refusal.{Refusal}
 use mathlib.Core.Path.{◌≡◌}
 use mathlib.Core.Bool.{Bool, true, false, ◌&&◌}
 use lib.Dec.{eqb}
@@ -7,6 +9,7 @@ use lib.ListN.{length}
 use lib.Ieee.{Float}
 use mathlib.Core.List.{List}
 use borrow.Author.Tests.{eqb-true}
+use Rattle.number.specs.Answer.{answer, code}
 use Rattle.number.specs.Ans.{Ans, held, refused, ◌>>=◌, demand}
 use Rattle.number.specs.Arith.{floats}
 use Rattle.number.specs.Lists.{at}
@@ -14,25 +17,20 @@ use Rattle.sizes.specs.Sizes.{side, cell}
 use Rattle.number.proofs.Walk.{via}
 use Rattle.limits.specs.declared.Component.{Component}
 use Rattle.limits.specs.Limits.{square, count_within}
-use Rattle.saftvrmie_parameters.specs.declared.SaftVRMiePars.{SaftVRMiePars}
-use Rattle.saftvrmie_parameters.specs.declared.ParameterSet.{ParameterSet}
 use Rattle.saftvrmie_parameters.specs.declared.PairParameters.{PairParameters}
-use Rattle.saftvrmie_parameters.specs.declared.PairAnswer.{PairAnswer}
-use Rattle.saftvrmie_parameters.specs.declared.PairAnswer.TheVariants.{At, Outside}
-use Rattle.mie_parameters.specs.declared.ParameterAnswer.TheVariants.{Held}
 use Rattle.mie_parameters.specs.Places.{in_places}
 use Rattle.mie_parameters.proofs.Laws.{and_left, and_right, count_low, count_high}
-use Rattle.saftvrmie_parameters.specs.Parameters.{Lists, pair_answer, pair_parameters, store_pair, sheets_turn, sheets_of, right_lengths, within_limits, component_of, saft_vr_mie_pars, given}
+use Rattle.saftvrmie_parameters.specs.Parameters.{Lists, pair_parameters, store_pair, sheets_turn, sheets_of, right_lengths, within_limits, component_of, saft_vr_mie_pars}
 
 -- a turn of the sheets, over plain values
-module _ (n : ℕ) (c : ℕ → Component) (k l : ℕ → ℕ → Float) (i j : ℕ) (x : List Float) (a b : Component) (r : PairAnswer) where
-  pub pair_held : (y : List Float) (p : PairParameters) → a ≡ c i → b ≡ c j → pair_answer r ≡ pair_parameters a b (k i j) (l i j) → r ≡ At p → y ≡ store_pair x (cell i j) p → sheets_turn n c k l i j x ≡ held y
+module _ (n : ℕ) (c : ℕ → Component) (k l : ℕ → ℕ → Float) (i j : ℕ) (x : List Float) (a b : Component) (r : Result PairParameters Refusal) where
+  pub pair_held : (y : List Float) (p : PairParameters) → a ≡ c i → b ≡ c j → answer r ≡ pair_parameters a b (k i j) (l i j) → r ≡ Ok p → y ≡ store_pair x (cell i j) p → sheets_turn n c k l i j x ≡ held y
   unfolding sheets_turn ◌>>=◌
-  pair_held y p d e q h g = rw (← d, ← e, via pair_answer q h, g)
+  pair_held y p d e q h g = rw (← d, ← e, via answer q h, g)
 
-  pub pair_outside : a ≡ c i → b ≡ c j → pair_answer r ≡ pair_parameters a b (k i j) (l i j) → r ≡ Outside → sheets_turn n c k l i j x ≡ refused 6
+  pub pair_outside : (m : Refusal) → a ≡ c i → b ≡ c j → answer r ≡ pair_parameters a b (k i j) (l i j) → r ≡ Err m → sheets_turn n c k l i j x ≡ refused (code m)
   unfolding sheets_turn ◌>>=◌
-  pair_outside d e q h = rw (← d, ← e, via pair_answer q h)
+  pair_outside m d e q h = rw (← d, ← e, via answer q h)
 
 -- what right lengths say
 pub record Right (l : Lists) : Type 0 where
@@ -83,10 +81,6 @@ lengths l p7 =
       gamma_ij = eqb-true (length l.gamma_ij) (n * n) (and_right c6 e7 p7);
     }
 
--- a refusal given by its number
-pub give : (q : Ans SaftVRMiePars) (r : ParameterSet) (m k : ℕ) → r ≡ given (refused m) → m ≡ k → q ≡ refused k → r ≡ given q
-give q r m k p d e = rw (e, ← d) p
-
 -- the operation, test by test
 abbrev pub Within : Lists → Bool
 Within l = within_limits l.count (component_of l) (at l.m) (square l.count l.k_ij) (square l.count l.gamma_ij)
@@ -109,6 +103,6 @@ module _ (l : Lists) where
 
   pub holds : (x m s e r a : List Float) → right_lengths l ≡ true → Within l ≡ true → sheets_in l ≡ held x
       → m ≡ in_places floats l.count (at l.m) → s ≡ in_places floats l.count (at l.sigma) → e ≡ in_places floats l.count (at l.epsilon_k) → r ≡ in_places floats l.count (at l.lr) → a ≡ in_places floats l.count (at l.la)
-      → record { answer = Held; set = record { count = l.count; m = m; sigma = s; epsilon_k = e; lr = r; la = a; sheets = x } } ≡ given (saft_vr_mie_pars l)
-  unfolding saft_vr_mie_pars demand ◌>>=◌ given
+      → held (record { count = l.count; m = m; sigma = s; epsilon_k = e; lr = r; la = a; sheets = x }) ≡ saft_vr_mie_pars l
+  unfolding saft_vr_mie_pars demand ◌>>=◌
   holds x m s e r a p q t u v w y z = rw (p, q, t, u, v, w, y, z)

@@ -11,13 +11,9 @@ use Rattle.mie_parameters.specs.Combine.{epsilon_k_ij, lambda_ij, c_ij}
 use Rattle.limits.specs.declared.Component.{Component}
 use Rattle.limits.specs.Limits.{square, components, count_within, components_within, segments_within, pairs_within}
 use Rattle.saftvrmie_parameters.specs.Combine.{sigma_ij, alpha_ij, lr_ij}
-use Rattle.mie_parameters.specs.declared.ParameterAnswer.TheVariants.{Held, Refused}
 use Rattle.mie_parameters.specs.Places.{in_places}
 use Rattle.saftvrmie_parameters.specs.declared.PairParameters.{PairParameters}
-use Rattle.saftvrmie_parameters.specs.declared.PairAnswer.{PairAnswer}
-use Rattle.saftvrmie_parameters.specs.declared.PairAnswer.TheVariants.{At, Outside}
 use Rattle.saftvrmie_parameters.specs.declared.SaftVRMiePars.{SaftVRMiePars}
-use Rattle.saftvrmie_parameters.specs.declared.ParameterSet.{ParameterSet}
 
 -- the lists that a caller hands
 pub record Lists : Type 0 where
@@ -29,12 +25,6 @@ pub record Lists : Type 0 where
   pub la : List Float
   pub k_ij : List Float
   pub gamma_ij : List Float
-
--- ---- document 01's number or values of each case of the answers
-
-abbrev pub pair_answer : PairAnswer → Ans PairParameters
-pair_answer (At p) = held p
-pair_answer Outside = refused 6
 
 -- ---- 1 and 2
 
@@ -114,7 +104,6 @@ saft_vr_mie_pars l =
       sheets = s;
     })
 
--- a component list of a refused set
 abbrev pub zero_list : List Float
 zero_list = replicate side zero64
 
@@ -122,7 +111,7 @@ zero_list = replicate side zero64
 abbrev pub empty_set : SaftVRMiePars
 empty_set = record { count = 0; m = zero_list; sigma = zero_list; epsilon_k = zero_list; lr = zero_list; la = zero_list; sheets = replicate (6 * sheet) zero64 }
 
--- held or a number, with the set beside it
-unfoldable pub given : Ans SaftVRMiePars → ParameterSet
-given (held s) = record { answer = Held; set = s }
-given (refused n) = record { answer = Refused n; set = empty_set }
+-- the set beside an answer
+abbrev pub set_of : Ans SaftVRMiePars → SaftVRMiePars
+set_of (held s) = s
+set_of (refused n) = empty_set

@@ -1,8 +1,7 @@
 // SAFT-VR Mie parameters (saftvrmie/parameters.rs): from component lists to the set of pair values.
 #![tactic(auto)]
 
-ghost use Rattle.std.specs.Prelude.{◌≡◌, ◌*◌, ◌<◌, ◌≤◌, length};
-ghost use Rattle.number.specs.Ans.{refused};
+ghost use Rattle.std.specs.Prelude.{Err, ◌≡◌, ◌*◌, ◌<◌, ◌≤◌, length};
 ghost use Rattle.number.specs.Answer.{answer};
 ghost use Rattle.number.specs.Functions.{calls};
 ghost use Rattle.elementary.specs.Port.{port};
@@ -12,12 +11,11 @@ ghost use Rattle.sizes.specs.Sizes.{side, sheet};
 ghost use Rattle.number.specs.Walk.{walk};
 ghost use Rattle.limits.specs.Limits.{square, components};
 ghost use Rattle.saftvrmie_parameters.specs.Combine.{sigma_ij, alpha_ij, lr_ij};
-ghost use Rattle.saftvrmie_parameters.specs.Parameters.{Lists, pair_answer, right_lengths, within_limits, pair_parameters, store_pair, sheets_row, saft_vr_mie_pars, given};
+ghost use Rattle.saftvrmie_parameters.specs.Parameters.{empty_set, set_of, Lists, right_lengths, within_limits, pair_parameters, store_pair, sheets_row, saft_vr_mie_pars};
 ghost use Rattle.mie_parameters.specs.Answer.{outcome};
 
 use limits::Component;
-use mie_parameters::ParameterAnswer;
-use number::FloatAnswer;
+use number::Refusal;
 use sizes::mie_set::{ALPHA_IJ, C_IJ, EPSILON_K_IJ, LA_IJ, LR_IJ};
 use sizes::{SHEETS, SIDE};
 
@@ -32,9 +30,10 @@ pub struct SaftVRMiePars {
     pub sheets: [f64; SHEETS],
 }
 
+// Whether a set is held, or the refusal; beside a refusal the empty set.
 #[derive(Clone, Copy)]
 pub struct ParameterSet {
-    pub answer: ParameterAnswer,
+    pub answer: Result<(), Refusal>,
     pub set: SaftVRMiePars,
 }
 
@@ -48,30 +47,28 @@ pub struct PairParameters {
     pub alpha: f64,
 }
 
-#[derive(Clone, Copy)]
-pub enum PairAnswer {
-    At(PairParameters),
-    Outside,
-}
-
 // The set beside a refusal: count 0, all +0.
-pub fn refused_with(number: u8) -> ParameterSet
-    ensures { result ≡ given (refused number) }
+fn empty_set() -> SaftVRMiePars
+    ensures { result ≡ empty_set }
 {
     let blank = [0.0; SIDE];
-    let sheets = [0.0; SHEETS];
-    let set = SaftVRMiePars {
+    SaftVRMiePars {
         count: 0,
         m: blank,
         sigma: blank,
         epsilon_k: blank,
         lr: blank,
         la: blank,
-        sheets,
-    };
+        sheets: [0.0; SHEETS],
+    }
+}
+
+pub fn refused_with(refusal: Refusal) -> ParameterSet
+    ensures { (result.answer ≡ Err refusal) × (result.set ≡ empty_set) }
+{
     ParameterSet {
-        answer: ParameterAnswer::Refused(number),
-        set,
+        answer: Err(refusal),
+        set: empty_set(),
     }
 }
 
@@ -87,40 +84,35 @@ fn alpha_ij(c: f64, lr: f64, la: f64) -> f64
     c * (1.0 / (la - 3.0) - 1.0 / (lr - 3.0))
 }
 
-fn lr_ij(li: f64, lj: f64, gamma: f64) -> FloatAnswer
+fn lr_ij(li: f64, lj: f64, gamma: f64) -> Result<f64, Refusal>
     ensures { answer result ≡ lr_ij floats (calls floats port) li lj gamma }
 {
-    let FloatAnswer::Value(r) = elementary::sqrt((li - 3.0) * (lj - 3.0)) else {
-        return FloatAnswer::Outside;
-    };
-    FloatAnswer::Value((1.0 - gamma) * r + 3.0)
+    let r = elementary::sqrt((li - 3.0) * (lj - 3.0))?;
+    Ok((1.0 - gamma) * r + 3.0)
 }
 
-fn pair_parameters(a: Component, b: Component, k: f64, gamma: f64) -> PairAnswer
-    ensures { pair_answer result ≡ pair_parameters a b k gamma }
+fn pair_parameters(
+    a: Component,
+    b: Component,
+    k: f64,
+    gamma: f64,
+) -> Result<PairParameters, Refusal>
+    ensures { answer result ≡ pair_parameters a b k gamma }
 {
     let sigma = sigma_ij(a.sigma, b.sigma);
-    let FloatAnswer::Value(epsilon_k) = mie_parameters::epsilon_k_ij(
+    let epsilon_k = mie_parameters::epsilon_k_ij(
         a.sigma,
         b.sigma,
         a.epsilon_k,
         b.epsilon_k,
         sigma,
         k,
-    ) else {
-        return PairAnswer::Outside;
-    };
-    let FloatAnswer::Value(lr) = lr_ij(a.lr, b.lr, gamma) else {
-        return PairAnswer::Outside;
-    };
-    let FloatAnswer::Value(la) = mie_parameters::lambda_ij(a.la, b.la) else {
-        return PairAnswer::Outside;
-    };
-    let FloatAnswer::Value(c) = mie_parameters::c_ij(lr, la) else {
-        return PairAnswer::Outside;
-    };
+    )?;
+    let lr = lr_ij(a.lr, b.lr, gamma)?;
+    let la = mie_parameters::lambda_ij(a.la, b.la)?;
+    let c = mie_parameters::c_ij(lr, la)?;
     let alpha = alpha_ij(c, lr, la);
-    PairAnswer::At(PairParameters {
+    Ok(PairParameters {
         sigma,
         epsilon_k,
         lr,
@@ -153,7 +145,7 @@ fn sheets_row(
     gamma_ij: &[f64],
     i: usize,
     s: &mut [f64; SHEETS],
-) -> ParameterAnswer
+) -> Result<(), Refusal>
     requires { (n ≤ side) × (i < n)
         × (length sigma.now ≡ n) × (length epsilon_k.now ≡ n) × (length lr.now ≡ n) × (length la.now ≡ n)
         × (length k_ij.now ≡ n * n) × (length gamma_ij.now ≡ n * n) }
@@ -165,12 +157,10 @@ fn sheets_row(
     let a = limits::component_at(sigma, epsilon_k, lr, la, i);
     for j in 0usize..n {
         let b = limits::component_at(sigma, epsilon_k, lr, la, j);
-        let PairAnswer::At(p) = pair_parameters(a, b, k_ij[n * i + j], gamma_ij[n * i + j]) else {
-            return ParameterAnswer::Refused(6);
-        };
+        let p = pair_parameters(a, b, k_ij[n * i + j], gamma_ij[n * i + j])?;
         store_pair(s, SIDE * i + j, p);
     }
-    ParameterAnswer::Held
+    Ok(())
 }
 
 fn fill_sheets(
@@ -182,7 +172,7 @@ fn fill_sheets(
     k_ij: &[f64],
     gamma_ij: &[f64],
     s: &mut [f64; SHEETS],
-) -> ParameterAnswer
+) -> Result<(), Refusal>
     requires { (n ≤ side)
         × (length sigma.now ≡ n) × (length epsilon_k.now ≡ n) × (length lr.now ≡ n) × (length la.now ≡ n)
         × (length k_ij.now ≡ n * n) × (length gamma_ij.now ≡ n * n) }
@@ -192,12 +182,9 @@ fn fill_sheets(
         outcome result s.new ≡ walk n (sheets_row n c k gamma) s.old }
 {
     for i in 0usize..n {
-        let answer = sheets_row(n, sigma, epsilon_k, lr, la, k_ij, gamma_ij, i, s);
-        let ParameterAnswer::Held = answer else {
-            return answer;
-        };
+        sheets_row(n, sigma, epsilon_k, lr, la, k_ij, gamma_ij, i, s)?;
     }
-    ParameterAnswer::Held
+    Ok(())
 }
 
 fn right_lengths(
@@ -262,7 +249,7 @@ fn within_limits(
 }
 
 // `SaftVRMiePars::new`: the set, or the first refusal that applies.
-pub fn parameters(
+pub fn saft_vr_mie_pars(
     count: usize,
     m: &[f64],
     sigma: &[f64],
@@ -271,7 +258,7 @@ pub fn parameters(
     la: &[f64],
     k_ij: &[f64],
     gamma_ij: &[f64],
-) -> ParameterSet
+) -> Result<SaftVRMiePars, Refusal>
     ensures { let l : Lists = record {
       count = count;
       m = m.now;
@@ -282,25 +269,22 @@ pub fn parameters(
       k_ij = k_ij.now;
       gamma_ij = gamma_ij.now;
     } in
-        result ≡ given (saft_vr_mie_pars l) }
+        answer result ≡ saft_vr_mie_pars l }
 {
     if !right_lengths(count, m, sigma, epsilon_k, lr, la, k_ij, gamma_ij) {
-        return refused_with(1);
+        return Err(Refusal::Length);
     }
     if !within_limits(count, m, sigma, epsilon_k, lr, la, k_ij, gamma_ij) {
-        return refused_with(2);
+        return Err(Refusal::Limit);
     }
     let mut sheets = [0.0; SHEETS];
-    let filled = fill_sheets(count, sigma, epsilon_k, lr, la, k_ij, gamma_ij, &mut sheets);
-    let ParameterAnswer::Held = filled else {
-        return refused_with(mie_parameters::number(filled));
-    };
+    fill_sheets(count, sigma, epsilon_k, lr, la, k_ij, gamma_ij, &mut sheets)?;
     let m_list = mie_parameters::in_places(count, m);
     let sigma_list = mie_parameters::in_places(count, sigma);
     let epsilon_k_list = mie_parameters::in_places(count, epsilon_k);
     let lr_list = mie_parameters::in_places(count, lr);
     let la_list = mie_parameters::in_places(count, la);
-    let set = SaftVRMiePars {
+    Ok(SaftVRMiePars {
         count,
         m: m_list,
         sigma: sigma_list,
@@ -308,9 +292,48 @@ pub fn parameters(
         lr: lr_list,
         la: la_list,
         sheets,
-    };
-    ParameterSet {
-        answer: ParameterAnswer::Held,
-        set,
+    })
+}
+
+// The same with the set beside the answer, as document 01 has it: of a refused call the empty set.
+pub fn parameters(
+    count: usize,
+    m: &[f64],
+    sigma: &[f64],
+    epsilon_k: &[f64],
+    lr: &[f64],
+    la: &[f64],
+    k_ij: &[f64],
+    gamma_ij: &[f64],
+) -> ParameterSet
+    ensures answer { let l : Lists = record {
+      count = count;
+      m = m.now;
+      sigma = sigma.now;
+      epsilon_k = epsilon_k.now;
+      lr = lr.now;
+      la = la.now;
+      k_ij = k_ij.now;
+      gamma_ij = gamma_ij.now;
+    } in
+        outcome result.answer result.set ≡ saft_vr_mie_pars l }
+    ensures set { let l : Lists = record {
+      count = count;
+      m = m.now;
+      sigma = sigma.now;
+      epsilon_k = epsilon_k.now;
+      lr = lr.now;
+      la = la.now;
+      k_ij = k_ij.now;
+      gamma_ij = gamma_ij.now;
+    } in
+        result.set ≡ set_of (saft_vr_mie_pars l) }
+{
+    match saft_vr_mie_pars(count, m, sigma, epsilon_k, lr, la, k_ij, gamma_ij) {
+        Ok(set) => ParameterSet {
+            answer: Ok(()),
+            set,
+        },
+        Err(refusal) => refused_with(refusal),
     }
 }

@@ -15,7 +15,8 @@ ghost use Rattle.saftvrmie_energies.specs.Properties.{total, xs_of, d_ij, d3_ij,
 ghost use Rattle.saftvrmie_properties_ends.specs.Answer.{k_answer, properties_answer};
 ghost use Rattle.saftvrmie_properties_ends.specs.Points.{points, pairs};
 
-use enclosure::{Enclosure, EnclosureAnswer};
+use enclosure::Enclosure;
+use number::Refusal;
 use sizes::{SHEETS, SIDE};
 
 // k0 to k3 of the hard spheres' pair correlation function.
@@ -28,23 +29,11 @@ pub struct KEnclosures {
 }
 
 #[derive(Clone, Copy)]
-pub enum KEnclosuresAnswer {
-    At(KEnclosures),
-    Outside,
-}
-
-#[derive(Clone, Copy)]
 pub struct PropertiesEnclosures {
     pub segment_density: Enclosure,
     pub zeta_x: Enclosure,
     pub zeta_x_bar: Enclosure,
     pub k: KEnclosures,
-}
-
-#[derive(Clone, Copy)]
-pub enum PropertiesEnclosuresAnswer {
-    At(PropertiesEnclosures),
-    Outside,
 }
 
 // ---- k0 to k3
@@ -53,16 +42,16 @@ pub enum PropertiesEnclosuresAnswer {
 fn one_less(x: Enclosure) -> Enclosure
     ensures { result ≡ add_e (neg_e x) (point (decimal false 1 0)) }
 {
-    let one = enclosure::point(1.0);
-    enclosure::add(enclosure::neg(x), one)
+    let one = Enclosure::point(1.0);
+    -x + one
 }
 
 // 1.0 / x³
 fn inverse_cube(x: Enclosure) -> Enclosure
     ensures { result ≡ div_e (point (decimal false 1 0)) (pow_e x 3) }
 {
-    let one = enclosure::point(1.0);
-    enclosure::div(one, enclosure::pow_up(x, 3))
+    let one = Enclosure::point(1.0);
+    one / x.pow_up(3)
 }
 
 // k0's polynomial: -z * 39.0 + z2 * 9.0 - z3 * 2.0 + 42.0
@@ -72,73 +61,71 @@ fn k0_sum(z: Enclosure, z2: Enclosure, z3: Enclosure) -> Enclosure
         let c = mul_e z3 (point (decimal false 2 0)) in
         result ≡ add_e (sub_e (add_e a b) c) (point (decimal false 42 0)) }
 {
-    let c1 = enclosure::point(39.0);
-    let c2 = enclosure::point(9.0);
-    let c3 = enclosure::point(2.0);
-    let c0 = enclosure::point(42.0);
-    let a = enclosure::mul(enclosure::neg(z), c1);
-    let b = enclosure::add(a, enclosure::mul(z2, c2));
-    enclosure::add(enclosure::sub(b, enclosure::mul(z3, c3)), c0)
+    let c1 = Enclosure::point(39.0);
+    let c2 = Enclosure::point(9.0);
+    let c3 = Enclosure::point(2.0);
+    let c0 = Enclosure::point(42.0);
+    let a = -z * c1;
+    let b = a + z2 * c2;
+    b - z3 * c3 + c0
 }
 
 // -l + z * sum * frac / 6.0
 fn k0(l: Enclosure, z: Enclosure, sum: Enclosure, frac: Enclosure) -> Enclosure
     ensures { result ≡ add_e (neg_e l) (div_e (mul_e (mul_e z sum) frac) (point (decimal false 6 0))) }
 {
-    let six = enclosure::point(6.0);
-    let a = enclosure::mul(enclosure::mul(z, sum), frac);
-    enclosure::add(enclosure::neg(l), enclosure::div(a, six))
+    let six = Enclosure::point(6.0);
+    let a = z * sum * frac;
+    -l + a / six
 }
 
 fn k1(z: Enclosure, z3: Enclosure, frac: Enclosure) -> Enclosure
     ensures { result ≡ mul_e (mul_e (mul_e z frac) (point (decimal false 5 1))) (sub_e (add_e z3 (mul_e z (point (decimal false 6 0)))) (point (decimal false 12 0))) }
 {
-    let half = enclosure::point(0.5);
-    let six = enclosure::point(6.0);
-    let twelve = enclosure::point(12.0);
-    let a = enclosure::mul(enclosure::mul(z, frac), half);
-    let b = enclosure::add(z3, enclosure::mul(z, six));
-    enclosure::mul(a, enclosure::sub(b, twelve))
+    let half = Enclosure::point(0.5);
+    let six = Enclosure::point(6.0);
+    let twelve = Enclosure::point(12.0);
+    let a = z * frac * half;
+    let b = z3 + z * six;
+    a * (b - twelve)
 }
 
 // The last factor is -z + 1.0.
 fn k2(z2: Enclosure, frac: Enclosure, factor: Enclosure) -> Enclosure
     ensures { result ≡ mul_e (mul_e (div_e (mul_e (neg_e z2) (point (decimal false 3 0))) (point (decimal false 8 0))) frac) factor }
 {
-    let three = enclosure::point(3.0);
-    let eight = enclosure::point(8.0);
-    let a = enclosure::mul(enclosure::neg(z2), three);
-    enclosure::mul(enclosure::mul(enclosure::div(a, eight), frac), factor)
+    let three = Enclosure::point(3.0);
+    let eight = Enclosure::point(8.0);
+    let a = -z2 * three;
+    a / eight * frac * factor
 }
 
 fn k3(z: Enclosure, z3: Enclosure, frac: Enclosure) -> Enclosure
     ensures { result ≡ mul_e (div_e (mul_e z frac) (point (decimal false 6 0))) (add_e (add_e (neg_e z3) (mul_e z (point (decimal false 3 0)))) (point (decimal false 3 0))) }
 {
-    let six = enclosure::point(6.0);
-    let three = enclosure::point(3.0);
-    let a = enclosure::div(enclosure::mul(z, frac), six);
-    let b = enclosure::add(enclosure::neg(z3), enclosure::mul(z, three));
-    enclosure::mul(a, enclosure::add(b, three))
+    let six = Enclosure::point(6.0);
+    let three = Enclosure::point(3.0);
+    let a = z * frac / six;
+    let b = -z3 + z * three;
+    a * (b + three)
 }
 
 // k0 to k3 of `Properties::new`.
-fn k_values(zeta_x: Enclosure) -> KEnclosuresAnswer
+fn k_values(zeta_x: Enclosure) -> Result<KEnclosures, Refusal>
     ensures { k_answer result ≡ k_of enclosures (calls enclosures port) zeta_x }
 {
     let z = zeta_x;
     let factor = one_less(z);
     let frac = inverse_cube(factor);
-    let z2 = enclosure::mul(z, z);
-    let z3 = enclosure::mul(z2, z);
-    let EnclosureAnswer::Value(l) = elementary_ends::ln(factor) else {
-        return KEnclosuresAnswer::Outside;
-    };
+    let z2 = z * z;
+    let z3 = z2 * z;
+    let l = elementary_ends::ln(factor)?;
     let sum = k0_sum(z, z2, z3);
     let a0 = k0(l, z, sum, frac);
     let a1 = k1(z, z3, frac);
     let a2 = k2(z2, frac, factor);
     let a3 = k3(z, z3, frac);
-    KEnclosuresAnswer::At(KEnclosures {
+    Ok(KEnclosures {
         k0: a0,
         k1: a1,
         k2: a2,
@@ -152,7 +139,7 @@ fn k_values(zeta_x: Enclosure) -> KEnclosuresAnswer
 fn plus_product(sum: Enclosure, x: Enclosure, y: Enclosure) -> Enclosure
     ensures { result ≡ add_e sum (mul_e x y) }
 {
-    enclosure::add(sum, enclosure::mul(x, y))
+    sum + x * y
 }
 
 // Entry i of an array; i is a turn of a loop over the count, beyond it is not read.
@@ -168,10 +155,10 @@ pub fn total(n: usize, v: &[f64]) -> Enclosure
     requires { length v.now ≡ n }
     ensures { result ≡ total enclosures n (points v.now) }
 {
-    let mut s = enclosure::point(0.0);
+    let mut s = Enclosure::point(0.0);
     for i in 0usize..n {
-        let a = enclosure::point(v[i]);
-        s = enclosure::add(s, a);
+        let a = Enclosure::point(v[i]);
+        s = s + a;
     }
     s
 }
@@ -180,10 +167,10 @@ pub fn weighted(n: usize, v: &[f64], m: &[f64; SIDE]) -> Enclosure
     requires { (n ≤ side) × (length v.now ≡ n) }
     ensures { result ≡ weighted enclosures n (points v.now) (points m.now) }
 {
-    let mut s = enclosure::point(0.0);
+    let mut s = Enclosure::point(0.0);
     for i in 0usize..n {
-        let a = enclosure::point(v[i]);
-        let b = enclosure::point(m[i]);
+        let a = Enclosure::point(v[i]);
+        let b = Enclosure::point(m[i]);
         s = plus_product(s, a, b);
     }
     s
@@ -193,12 +180,12 @@ pub fn xs_of(n: usize, x: &[f64], m: &[f64; SIDE], mean: Enclosure) -> [Enclosur
     requires { (n ≤ side) × (length x.now ≡ n) }
     ensures { result ≡ xs_of enclosures n (points x.now) (points m.now) mean }
 {
-    let zero = enclosure::point(0.0);
+    let zero = Enclosure::point(0.0);
     let mut xs = [zero; SIDE];
     for i in 0usize..n {
-        let a = enclosure::point(x[i]);
-        let b = enclosure::point(m[i]);
-        let p = enclosure::div(enclosure::mul(a, b), mean);
+        let a = Enclosure::point(x[i]);
+        let b = Enclosure::point(m[i]);
+        let p = a * b / mean;
         xs[i] = p;
     }
     xs
@@ -211,40 +198,40 @@ pub fn d_ij(d: &[f64], i: usize, j: usize) -> Enclosure
     requires { (i < length d.now) × (j < length d.now) }
     ensures { result ≡ d_ij enclosures (points d.now) i j }
 {
-    let a = enclosure::point(d[i]);
-    let b = enclosure::point(d[j]);
-    let half = enclosure::point(0.5);
-    enclosure::mul(enclosure::add(a, b), half)
+    let a = Enclosure::point(d[i]);
+    let b = Enclosure::point(d[j]);
+    let half = Enclosure::point(0.5);
+    (a + b) * half
 }
 
 fn d3_ij(d: &[f64], i: usize, j: usize) -> Enclosure
     requires { (i < length d.now) × (j < length d.now) }
     ensures { result ≡ d3_ij enclosures (points d.now) i j }
 {
-    enclosure::pow_up(d_ij(d, i, j), 3)
+    d_ij(d, i, j).pow_up(3)
 }
 
 fn s3_ij(sheets: &[f64; SHEETS], i: usize, j: usize) -> Enclosure
     requires { (i < side) × (j < side) }
     ensures { result ≡ s3_ij enclosures (pairs sheets.now) i j }
 {
-    let sigma = enclosure::point(sheets[SIDE * i + j]);
-    enclosure::pow_up(sigma, 3)
+    let sigma = Enclosure::point(sheets[SIDE * i + j]);
+    sigma.pow_up(3)
 }
 
 // The pair (i, i): sum + x_i² * cube
 fn zeta_pure(sum: Enclosure, xi: Enclosure, cube: Enclosure) -> Enclosure
     ensures { result ≡ add_e sum (mul_e (pow_e xi 2) cube) }
 {
-    plus_product(sum, enclosure::pow_up(xi, 2), cube)
+    plus_product(sum, xi.pow_up(2), cube)
 }
 
 // The pair (i, j): sum + x_i * x_j * cube * 2.0
 fn zeta_pair(sum: Enclosure, xi: Enclosure, xj: Enclosure, cube: Enclosure) -> Enclosure
     ensures { result ≡ add_e sum (mul_e (mul_e (mul_e xi xj) cube) (point (decimal false 2 0))) }
 {
-    let two = enclosure::point(2.0);
-    plus_product(sum, enclosure::mul(enclosure::mul(xi, xj), cube), two)
+    let two = Enclosure::point(2.0);
+    plus_product(sum, xi * xj * cube, two)
 }
 
 // Row i of zeta_x's sum: d³ of the pairs.
@@ -268,7 +255,7 @@ fn zeta_sum(n: usize, xs: [Enclosure; SIDE], d: &[f64]) -> Enclosure
     requires { (n ≤ side) × (length d.now ≡ n) }
     ensures { result ≡ zeta_sum enclosures n (nth enclosures xs) (d3_ij enclosures (points d.now)) }
 {
-    let mut s = enclosure::point(0.0);
+    let mut s = Enclosure::point(0.0);
     for i in 0usize..n {
         s = zeta_row(n, xs, d, i, s);
     }
@@ -302,7 +289,7 @@ fn zeta_bar_sum(n: usize, xs: [Enclosure; SIDE], sheets: &[f64; SHEETS]) -> Encl
     requires { n ≤ side }
     ensures { result ≡ zeta_sum enclosures n (nth enclosures xs) (s3_ij enclosures (pairs sheets.now)) }
 {
-    let mut s = enclosure::point(0.0);
+    let mut s = Enclosure::point(0.0);
     for i in 0usize..n {
         s = zeta_bar_row(n, xs, sheets, i, s);
     }
@@ -317,7 +304,7 @@ fn after_row(d: &[f64], i: usize, start: Enclosure) -> Enclosure
     let mut s = start;
     for j in 0usize..i {
         let c = d3_ij(d, i, j);
-        s = enclosure::after(c, s);
+        s = s.after(c);
     }
     s
 }
@@ -339,8 +326,8 @@ fn after_lower(n: usize, d: &[f64], x: Enclosure) -> Enclosure
 fn volume(rho: Enclosure) -> Enclosure
     ensures { result ≡ mul_e rho (calls enclosures port).frac_pi_6 }
 {
-    let c = enclosure::frac_pi_6();
-    enclosure::mul(rho, c)
+    let c = Enclosure::frac_pi_6();
+    rho * c
 }
 
 // Of lists as long as the count, as above.
@@ -351,7 +338,7 @@ pub fn properties_of(
     xs: [Enclosure; SIDE],
     rho: &[f64],
     d: &[f64],
-) -> PropertiesEnclosuresAnswer
+) -> Result<PropertiesEnclosures, Refusal>
     requires { (n ≤ side) × (length rho.now ≡ n) × (length d.now ≡ n) }
     ensures { let xs = nth enclosures xs in
         let rho = points rho.entry.now in
@@ -364,13 +351,11 @@ pub fn properties_of(
     let a = zeta_sum(n, xs, d);
     let b = zeta_bar_sum(n, xs, sheets);
     let v = volume(segment_density);
-    let zeta = enclosure::mul(a, v);
+    let zeta = a * v;
     let zeta_x = after_lower(n, d, zeta);
-    let zeta_x_bar = enclosure::mul(b, v);
-    let KEnclosuresAnswer::At(k) = k_values(zeta_x) else {
-        return PropertiesEnclosuresAnswer::Outside;
-    };
-    PropertiesEnclosuresAnswer::At(PropertiesEnclosures {
+    let zeta_x_bar = b * v;
+    let k = k_values(zeta_x)?;
+    Ok(PropertiesEnclosures {
         segment_density,
         zeta_x,
         zeta_x_bar,

@@ -1,5 +1,7 @@
 -- The table, test by test; copies into parts of a list. Assumes nothing.
 use Prim.Native.Nat.{ℕ, suc, ◌+◌, ◌*◌, ◌≤◌, ◌<◌}
+use Rattle.std.specs.Prelude.{Err, Ok, Result}
+use Rattle.number.specs.declared.refusal.Refusal.{Refusal}
 use native.Mathlib.Omega.{arith}
 use native.Mathlib.Numerals.{add-one}
 use mathlib.Core.Path.{◌≡◌, refl, sym, ap, ◌∙◌, subst}
@@ -11,6 +13,7 @@ use borrow.Author.Tests.{eqb-true}
 use lib.ListN.{length, get_or, set, take, drop, length-drop, length-set, drop_of_length-le}
 use lib.Seq.{paste-suc, get_or-drop, take_at, drop_at, take-add, drop-drop, length-take-le, take_all}
 use Rattle.mie_parameters.specs.Answer.{verdict, stored}
+use Rattle.number.specs.Answer.{code}
 use Rattle.number.specs.Ans.{Ans, held, refused, ◌>>=◌, demand}
 use Rattle.number.specs.Arith.{floats}
 use Rattle.number.specs.Functions.{calls}
@@ -18,8 +21,6 @@ use Rattle.sizes.specs.Sizes.{side, sheet, cell}
 use Rattle.number.proofs.Walk.{via, walk_keeps, then_held, held_inj}
 use Rattle.elementary.specs.Port.{port}
 use Rattle.limits.specs.Limits.{count_within, temperature_within}
-use Rattle.mie_parameters.specs.declared.ParameterAnswer.{ParameterAnswer}
-use Rattle.mie_parameters.specs.declared.ParameterAnswer.TheVariants.{Held, Refused}
 use Rattle.mie_parameters.proofs.Laws.{and_left, and_right, count_high}
 use Rattle.saftvrqmie_parameters.specs.declared.OrderRecord.{OrderRecord}
 use Rattle.saftvrqmie_parameters.specs.declared.SaftVRQMiePars.{SaftVRQMiePars}
@@ -27,8 +28,6 @@ use Rattle.saftvrqmie_potential.specs.Potential.{pair_in, pair_at_entry}
 use Rattle.saftvrqmie_potential.specs.declared.Pair.{Pair}
 use Rattle.saftvrqmie_properties.specs.Properties.{PairPropertiesIn, pair_properties_in, pair_properties_answer, pair_properties}
 use Rattle.saftvrqmie_properties.specs.declared.PairProperties.{PairProperties}
-use Rattle.saftvrqmie_properties.specs.declared.PropertiesAnswer.{PropertiesAnswer}
-use Rattle.saftvrqmie_properties.specs.declared.PropertiesAnswer.TheVariants.{At, Outside}
 use Rattle.saftvrqmie.specs.Table.{Lent, store, work_turn, work_row, work_pairs, blank, table_finite, right_lists, temperature_table}
 
 -- a loop that copies v from `from` on over d
@@ -59,17 +58,17 @@ part_next v d l a k p q h =
     (sym (append_assoc (take a v) (take k (drop a v)) (drop (a + k) d)))
 
 -- a turn of the work, over plain values
-module _ (s : List Float) (o : List OrderRecord) (t : Float) (i j : ℕ) (x : Lent) (p : Pair) (r : PropertiesAnswer) (d : p ≡ pair_at_entry s o t (cell i j)) (q : pair_properties_answer r ≡ pair_properties floats (calls floats port) (pair_in p)) where
+module _ (s : List Float) (o : List OrderRecord) (t : Float) (i j : ℕ) (x : Lent) (p : Pair) (r : Result PairProperties Refusal) (d : p ≡ pair_at_entry s o t (cell i j)) (q : pair_properties_answer r ≡ pair_properties floats (calls floats port) (pair_in p)) where
   told_here : pair_properties_answer r ≡ pair_properties floats (calls floats port) (pair_in (pair_at_entry s o t (cell i j)))
   told_here = q ∙ ap (λ (p : Pair). pair_properties floats (calls floats port) (pair_in p)) d
 
-  pub work_held : (y : Lent) (w : PairProperties) → r ≡ At w → y ≡ store x (cell i j) (pair_properties_in w) → work_turn s o t i j x ≡ held y
+  pub work_held : (y : Lent) (w : PairProperties) → r ≡ Ok w → y ≡ store x (cell i j) (pair_properties_in w) → work_turn s o t i j x ≡ held y
   unfolding work_turn ◌>>=◌
   work_held y w h g = rw (via pair_properties_answer told_here h, g)
 
-  pub work_outside : r ≡ Outside → work_turn s o t i j x ≡ refused 6
+  pub work_outside : (e : Refusal) → r ≡ Err e → work_turn s o t i j x ≡ refused (code e)
   unfolding work_turn ◌>>=◌
-  work_outside h = rw (via pair_properties_answer told_here h)
+  work_outside e h = rw (via pair_properties_answer told_here h)
 
 -- both lists keep their lengths on the way
 abbrev pub Whole : Lent → Type 0
@@ -117,13 +116,13 @@ module _ (s : SaftVRQMiePars) (t : Float) (l : Lent) where
       unfolding temperature_table demand ◌>>=◌
       holds w p q = rw (right, h, p, q)
 
-pub refused_done : (q : Ans Lent) (l : Lent) (r : ParameterAnswer) (m : ℕ) → q ≡ refused m → r ≡ Refused m
-    → (r ≡ verdict q) × (l.values ≡ (stored l q).values) × (l.numbers ≡ (stored l q).numbers)
+pub refused_done : (q : Ans Lent) (l : Lent) (m : ℕ) → q ≡ refused m
+    → (refused m ≡ verdict q) × (l.values ≡ (stored l q).values) × (l.numbers ≡ (stored l q).numbers)
 unfolding verdict stored
-refused_done q l r m p e = rw p (e, refl, refl)
+refused_done q l m p = rw p (refl, refl, refl)
 
 pub held_done : (q : Ans Lent) (l w : Lent) (x : List Float) (y : List ℕ) → q ≡ held w → x ≡ w.values → y ≡ w.numbers
-    → (Held ≡ verdict q) × (x ≡ (stored l q).values) × (y ≡ (stored l q).numbers)
+    → (held true ≡ verdict q) × (x ≡ (stored l q).values) × (y ≡ (stored l q).numbers)
 unfolding verdict stored
 held_done q l w x y p d e = rw p (refl, d, e)
 

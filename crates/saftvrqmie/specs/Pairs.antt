@@ -1,7 +1,9 @@
 -- Operations on one pair of a quantum set: its three searches, and its diameter from searched radii.
-use Rattle.std.specs.Prelude.{ℕ, Float}
+use Rattle.std.specs.Prelude.{ℕ, Float, Result}
+use Rattle.number.specs.declared.refusal.Refusal.{Refusal}
+use Rattle.number.specs.Answer.{answer_by}
 use Rattle.std.specs.Float.Ieee.Scale.{finite}
-use Rattle.number.specs.Ans.{Ans, held, refused, ◌>>=◌, demand}
+use Rattle.number.specs.Ans.{Ans, held, ◌>>=◌, demand}
 use Rattle.number.specs.Arith.{Arith, floats}
 use Rattle.number.specs.Functions.{Functions, Answers, calls}
 use Rattle.sizes.specs.Sizes.{cell}
@@ -13,8 +15,6 @@ use Rattle.saftvrqmie_searches.specs.Searches.{Counted, search_in, sigma_eff, ze
 use Rattle.saftvrqmie_searches.specs.Diameter.{diameter}
 use Rattle.saftvrqmie_properties.specs.Properties.{radius_of}
 use Rattle.saftvrqmie.specs.declared.PairSearches.{PairSearches}
-use Rattle.saftvrqmie.specs.declared.SearchesAnswer.{SearchesAnswer}
-use Rattle.saftvrqmie.specs.declared.SearchesAnswer.TheVariants.{Searched, Refused}
 
 -- found or spent, each with its radius and last potential, and its count
 pub record SearchesIn (N : Type 0) : Type 0 where
@@ -30,10 +30,8 @@ searches_in p =
       depth = record { search = search_in p.depth; count = p.depth_count };
     }
 
--- document 01's number or values of each case of `SearchesAnswer`
-abbrev pub searches_answer : SearchesAnswer → Ans (SearchesIn Float)
-searches_answer (Searched p) = held (searches_in p)
-searches_answer (Refused n) = refused n
+abbrev pub searches_answer : Result PairSearches Refusal → Ans (SearchesIn Float)
+searches_answer = answer_by searches_in
 
 -- the zero search starts from the radius of the sigma search
 unfoldable pub pair_searches : (A : Arith) → Functions A.Num → PairIn A.Num → Ans (SearchesIn A.Num)

@@ -1,23 +1,23 @@
 // Operations of SAFT-VRQ Mie on a set: the temperature table (saftvrqmie/eos/mod.rs), and a pair's searches and diameter.
 #![tactic(auto)]
 
-ghost use Rattle.std.specs.Prelude.{◌≡◌, ◌+◌, ◌*◌, ◌<◌, ◌≤◌, length, take, drop};
+ghost use Rattle.std.specs.Prelude.{true, ◌≡◌, ◌+◌, ◌*◌, ◌<◌, ◌≤◌, length, take, drop};
+ghost use Rattle.number.specs.Answer.{answer};
 ghost use Rattle.number.specs.Arith.{floats};
 ghost use Rattle.number.specs.Functions.{calls};
 ghost use Rattle.sizes.specs.Sizes.{side, sheet};
 ghost use Rattle.elementary.specs.Port.{port};
-ghost use Rattle.mie_parameters.specs.Answer.{outcome, verdict, number_answer, stored};
+ghost use Rattle.mie_parameters.specs.Answer.{outcome, verdict, stored};
 ghost use Rattle.saftvrqmie_potential.specs.Potential.{pair_in};
 ghost use Rattle.saftvrqmie_properties.specs.Properties.{pair_properties_in};
 ghost use Rattle.saftvrqmie.specs.Table.{Lent, store, work_row, work_pairs, table_finite, right_lists, temperature_table, pairs_of};
 ghost use Rattle.saftvrqmie.specs.Pairs.{searches_answer, pair_searches, radii_ij, diameter_ij};
 
-use mie_parameters::{NumberAnswer, ParameterAnswer};
-use number::FloatAnswer;
+use number::Refusal;
 use saftvrqmie_parameters::{OrderRecord, SaftVRQMiePars};
 use saftvrqmie_potential::Pair;
-use saftvrqmie_properties::{PairProperties, PropertiesAnswer};
-use saftvrqmie_searches::{Search, SearchAnswer};
+use saftvrqmie_properties::PairProperties;
+use saftvrqmie_searches::Search;
 use sizes::counts::{DEPTH, SIGMA, ZERO};
 use sizes::table::{EPSILON_K_EFF, HS_DIAMETER, QUANTUM_D, SIGMA_EFF};
 use sizes::{COUNTS, SHEET, SHEETS, SIDE, TABLE};
@@ -31,12 +31,6 @@ pub struct PairSearches {
     pub sigma_count: u8,
     pub zero_count: u8,
     pub depth_count: u8,
-}
-
-#[derive(Clone, Copy)]
-pub enum SearchesAnswer {
-    Searched(PairSearches),
-    Refused(u8),
 }
 
 fn store(values: &mut [f64; TABLE], numbers: &mut [u8; COUNTS], e: usize, p: PairProperties)
@@ -62,7 +56,7 @@ fn work_row(
     i: usize,
     values: &mut [f64; TABLE],
     numbers: &mut [u8; COUNTS],
-) -> ParameterAnswer
+) -> Result<(), Refusal>
     requires { (n ≤ side) × (i < n) }
     ensures { let old : Lent = record { values = values.entry.now; numbers = numbers.old } in
         let new : Lent = record { values = values.exit.now; numbers = numbers.new } in
@@ -70,12 +64,10 @@ fn work_row(
 {
     for j in 0usize..n {
         let pair = saftvrqmie_potential::pair_at(s, orders, t, SIDE * i + j);
-        let PropertiesAnswer::At(p) = saftvrqmie_properties::pair_properties(pair) else {
-            return ParameterAnswer::Refused(6);
-        };
+        let p = saftvrqmie_properties::pair_properties(pair)?;
         store(values, numbers, SIDE * i + j, p);
     }
-    ParameterAnswer::Held
+    Ok(())
 }
 
 fn work_pairs(
@@ -85,19 +77,16 @@ fn work_pairs(
     t: f64,
     values: &mut [f64; TABLE],
     numbers: &mut [u8; COUNTS],
-) -> ParameterAnswer
+) -> Result<(), Refusal>
     requires { n ≤ side }
     ensures { let old : Lent = record { values = values.entry.now; numbers = numbers.old } in
         let new : Lent = record { values = values.exit.now; numbers = numbers.new } in
         outcome result new ≡ work_pairs n s.now orders t old }
 {
     for i in 0usize..n {
-        let answer = work_row(n, s, orders, t, i, values, numbers);
-        let ParameterAnswer::Held = answer else {
-            return answer;
-        };
+        work_row(n, s, orders, t, i, values, numbers)?;
     }
-    ParameterAnswer::Held
+    Ok(())
 }
 
 fn all_finite(values: &[f64; TABLE]) -> bool
@@ -164,30 +153,27 @@ pub fn table_of(
     temperature: f64,
     table: &mut [f64],
     counts: &mut [u8],
-) -> ParameterAnswer
+) -> Result<(), Refusal>
     ensures { let set = pairs_of n sheets.now orders in
         let l : Lent = record { values = table.old; numbers = counts.old } in
         let q = temperature_table set temperature l in
-        (result ≡ verdict q) × (table.new ≡ (stored l q).values) × (counts.new ≡ (stored l q).numbers) }
+        (outcome result true ≡ verdict q) × (table.new ≡ (stored l q).values) × (counts.new ≡ (stored l q).numbers) }
 {
     if !right_lists(n, table.len(), counts.len()) {
-        return ParameterAnswer::Refused(1);
+        return Err(Refusal::Length);
     }
     if !limits::temperature_within(temperature) {
-        return ParameterAnswer::Refused(2);
+        return Err(Refusal::Limit);
     }
     let mut values = [0.0; TABLE];
     let mut numbers = [0u8; COUNTS];
-    let worked = work_pairs(n, sheets, orders, temperature, &mut values, &mut numbers);
-    let ParameterAnswer::Held = worked else {
-        return worked;
-    };
+    work_pairs(n, sheets, orders, temperature, &mut values, &mut numbers)?;
     if !all_finite(&values) {
-        return ParameterAnswer::Refused(7);
+        return Err(Refusal::NotFinite);
     }
     write_table(table, &values);
     write_numbers(counts, &numbers);
-    ParameterAnswer::Held
+    Ok(())
 }
 
 // The temperature table of a set and the counts of its searches. 1, 2, 6, 7.
@@ -196,32 +182,24 @@ pub fn temperature_dependent_properties(
     temperature: f64,
     table: &mut [f64],
     counts: &mut [u8],
-) -> ParameterAnswer
+) -> Result<(), Refusal>
     ensures { let l : Lent = record { values = table.old; numbers = counts.old } in
         let q = temperature_table set temperature l in
-        (result ≡ verdict q) × (table.new ≡ (stored l q).values) × (counts.new ≡ (stored l q).numbers) }
+        (outcome result true ≡ verdict q) × (table.new ≡ (stored l q).values) × (counts.new ≡ (stored l q).numbers) }
 {
     let sheets = set.sheets;
     let orders = set.orders;
     table_of(set.count, &sheets, orders, temperature, table, counts)
 }
 
-fn pair_searches(pair: Pair) -> SearchesAnswer
+fn pair_searches(pair: Pair) -> Result<PairSearches, Refusal>
     ensures { searches_answer result ≡ pair_searches floats (calls floats port) (pair_in pair) }
 {
-    let SearchAnswer::Ended(sigma, sigma_count) = saftvrqmie_searches::calc_sigma_eff(pair) else {
-        return SearchesAnswer::Refused(6);
-    };
+    let (sigma, sigma_count) = saftvrqmie_searches::calc_sigma_eff(pair)?;
     let sigma_eff = saftvrqmie_properties::radius(sigma);
-    let SearchAnswer::Ended(zero, zero_count) = saftvrqmie_searches::zero_integrand(pair, sigma_eff)
-    else {
-        return SearchesAnswer::Refused(6);
-    };
-    let SearchAnswer::Ended(depth, depth_count) = saftvrqmie_searches::calc_epsilon_k_eff(pair)
-    else {
-        return SearchesAnswer::Refused(6);
-    };
-    SearchesAnswer::Searched(PairSearches {
+    let (zero, zero_count) = saftvrqmie_searches::zero_integrand(pair, sigma_eff)?;
+    let (depth, depth_count) = saftvrqmie_searches::calc_epsilon_k_eff(pair)?;
+    Ok(PairSearches {
         sigma,
         zero,
         depth,
@@ -232,14 +210,19 @@ fn pair_searches(pair: Pair) -> SearchesAnswer
 }
 
 // The three radius searches of the pair (i, j). 1, 2, 6.
-pub fn radii_ij(set: SaftVRQMiePars, i: usize, j: usize, temperature: f64) -> SearchesAnswer
+pub fn radii_ij(
+    set: SaftVRQMiePars,
+    i: usize,
+    j: usize,
+    temperature: f64,
+) -> Result<PairSearches, Refusal>
     ensures { searches_answer result ≡ radii_ij set i j temperature }
 {
     if !limits::index_within(set.count, i, j) {
-        return SearchesAnswer::Refused(1);
+        return Err(Refusal::Length);
     }
     if !limits::temperature_within(temperature) {
-        return SearchesAnswer::Refused(2);
+        return Err(Refusal::Limit);
     }
     let sheets = set.sheets;
     let orders = set.orders;
@@ -255,23 +238,21 @@ pub fn hs_diameter_ij(
     temperature: f64,
     sigma_eff: f64,
     r0: f64,
-) -> NumberAnswer
-    ensures { number_answer result ≡ diameter_ij set i j temperature sigma_eff r0 }
+) -> Result<f64, Refusal>
+    ensures { answer result ≡ diameter_ij set i j temperature sigma_eff r0 }
 {
     if !limits::index_within(set.count, i, j) {
-        return NumberAnswer::Refused(1);
+        return Err(Refusal::Length);
     }
     if !limits::temperature_within(temperature) {
-        return NumberAnswer::Refused(2);
+        return Err(Refusal::Limit);
     }
     let sheets = set.sheets;
     let orders = set.orders;
     let pair = saftvrqmie_potential::pair_at(&sheets, orders, temperature, SIDE * i + j);
-    let FloatAnswer::Value(d) = saftvrqmie_searches::hs_diameter(pair, sigma_eff, r0) else {
-        return NumberAnswer::Refused(6);
-    };
+    let d = saftvrqmie_searches::hs_diameter(pair, sigma_eff, r0)?;
     if !number::is_finite(d) {
-        return NumberAnswer::Refused(7);
+        return Err(Refusal::NotFinite);
     }
-    NumberAnswer::Value(d)
+    Ok(d)
 }

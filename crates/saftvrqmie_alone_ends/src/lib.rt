@@ -5,7 +5,7 @@
 ghost use Rattle.std.specs.Prelude.{◌≡◌};
 ghost use Rattle.number.specs.Functions.{calls};
 ghost use Rattle.elementary.specs.Port.{port};
-ghost use Rattle.enclosure.specs.Answer.{answer};
+ghost use Rattle.number.specs.Answer.{answer};
 ghost use Rattle.enclosure.specs.Enclosure.{enclosures, mul_e};
 ghost use Rattle.saftvrqmie_potential_ends.specs.Pair.{pair_in};
 ghost use Rattle.saftvrqmie_potential.specs.Potential.{recip, potential};
@@ -13,10 +13,11 @@ ghost use Rattle.saftvrqmie_potential_ends.specs.Shared.{Sharing};
 ghost use Rattle.saftvrqmie_alone_ends.specs.Alone.{within_of, small_ends, plain_of, plain_from, tame_of, alone_of, sure_of, sound_of, power_point, u_alone, u_after};
 
 use binary_log::Log;
-use enclosure::{Enclosure, EnclosureAnswer};
+use enclosure::Enclosure;
 use interval::Interval;
+use number::Refusal;
 use power::FixedExponent;
-use saftvrqmie_potential_ends::{PairShared, PotentialEnclosuresAnswer};
+use saftvrqmie_potential_ends::PairShared;
 
 // What u alone asks of a pair beside what its radii share: the exponents, the orders, and whether the pair is tame.
 #[derive(Clone, Copy)]
@@ -130,56 +131,45 @@ fn sound(x: Sure) -> Enclosure
 fn recip_at(l: Log, e: FixedExponent) -> Enclosure
     ensures { result ≡ recip enclosures (power_point l e) }
 {
-    let one = enclosure::point(1.0);
-    enclosure::div(one, enclosure::point(power::raise(l, e)))
+    let one = Enclosure::point(1.0);
+    one / Enclosure::point(power::raise(l, e))
 }
 
 // 1 / r^e * q * s
 fn term(l: Log, e: FixedExponent, q: Enclosure, s: Enclosure) -> Sure
     ensures { result ≡ sure_of (mul_e (mul_e (recip enclosures (power_point l e)) q) s) }
 {
-    sure_of(enclosure::mul(enclosure::mul(recip_at(l, e), q), s))
+    sure_of(recip_at(l, e) * q * s)
 }
 
 // u at a radius by its logarithm l. No value or end hangs on a flag.
 fn u_alone(w: PairShared, x: Alone, l: Log) -> Sure
     ensures { result ≡ sure_of (u_alone w x l) }
 {
-    let u = enclosure::sub(
-        enclosure::mul(recip_at(l, x.er0), w.sr),
-        enclosure::mul(recip_at(l, x.ea0), w.sa),
-    );
+    let u = recip_at(l, x.er0) * w.sr - recip_at(l, x.ea0) * w.sa;
     if !x.first {
-        return sure_of(enclosure::mul(u, w.ce));
+        return sure_of(u * w.ce);
     }
-    let y = enclosure::sub(
-        sound(term(l, x.er2, w.q1r, w.sr)),
-        sound(term(l, x.ea2, w.q1a, w.sa)),
-    );
-    let u1 = enclosure::add(u, enclosure::mul(w.d, y));
+    let y = sound(term(l, x.er2, w.q1r, w.sr)) - sound(term(l, x.ea2, w.q1a, w.sa));
+    let u1 = u + w.d * y;
     if !x.second {
-        return sure_of(enclosure::mul(u1, w.ce));
+        return sure_of(u1 * w.ce);
     }
-    let z = enclosure::sub(
-        sound(term(l, x.er4, w.q2r, w.sr)),
-        sound(term(l, x.ea4, w.q2a, w.sa)),
-    );
-    let u2 = enclosure::add(u1, enclosure::mul(w.d2, z));
-    sure_of(enclosure::mul(u2, w.ce))
+    let z = sound(term(l, x.er4, w.q2r, w.sr)) - sound(term(l, x.ea4, w.q2a, w.sa));
+    let u2 = u1 + w.d2 * z;
+    sure_of(u2 * w.ce)
 }
 
 // u after both derivatives, all worked.
-fn u_whole(w: PairShared, r: Enclosure) -> EnclosureAnswer
+fn u_whole(w: PairShared, r: Enclosure) -> Result<Enclosure, Refusal>
     ensures { Sharing w → answer result ≡ u_after (potential enclosures (calls enclosures port) (pair_in w.pair) r) }
 {
-    let PotentialEnclosuresAnswer::Value(v) = saftvrqmie_potential_ends::potential_at(w, r) else {
-        return EnclosureAnswer::Outside;
-    };
-    EnclosureAnswer::Value(enclosure::after(v.u_r, enclosure::after(v.u_rr, v.u)))
+    let v = saftvrqmie_potential_ends::potential_at(w, r)?;
+    Ok(v.u.after(v.u_rr).after(v.u_r))
 }
 
 // u after both derivatives, which are worked where they may be unsound.
-pub fn u_after(w: PairShared, x: Alone, r: Enclosure) -> EnclosureAnswer
+pub fn u_after(w: PairShared, x: Alone, r: Enclosure) -> Result<Enclosure, Refusal>
     ensures { Sharing w → x ≡ alone_of w → answer result ≡ u_after (potential enclosures (calls enclosures port) (pair_in w.pair) r) }
 {
     if !(x.tame & binary_log::base_inside(r.value)) {
@@ -189,5 +179,5 @@ pub fn u_after(w: PairShared, x: Alone, r: Enclosure) -> EnclosureAnswer
     if l.negative {
         return u_whole(w, r);
     }
-    EnclosureAnswer::Value(enclosure::after(r, sound(u_alone(w, x, l))))
+    Ok(sound(u_alone(w, x, l)).after(r))
 }

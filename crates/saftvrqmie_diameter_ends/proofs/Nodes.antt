@@ -21,9 +21,9 @@ use Rattle.saftvrqmie_alone_ends.specs.Alone.{u_after}
 use Rattle.saftvrqmie_alone_ends.proofs.Same.{Same, same, add_same, mul_same, neg_same, one_flag, flags}
 use Rattle.saftvrqmie_diameter_ends.specs.Operations.{width_of}
 
-pub diameter_none : (p : PairIn Enclosure) (sigma_eff r0 : Enclosure) → ((r : Enclosure) → potential enclosures (calls enclosures port) p r ≡ refused 6) → refused 6 ≡ diameter enclosures (calls enclosures port) p sigma_eff r0
+pub diameter_none : (p : PairIn Enclosure) (sigma_eff r0 : Enclosure) (n : ℕ) → ((r : Enclosure) → potential enclosures (calls enclosures port) p r ≡ refused n) → refused n ≡ diameter enclosures (calls enclosures port) p sigma_eff r0
 unfolding diameter diameter_by node_turn ◌>>=◌
-diameter_none p sigma_eff r0 h = rw (fun_ext h) (walk_stop _ _ 21 0 6 r0 (omega arith) (walk_none _ _) refl)
+diameter_none p sigma_eff r0 n h = rw (fun_ext h) (walk_stop _ _ 21 0 n r0 (omega arith) (walk_none _ _) refl)
 
 -- ---- a node's part from what the exponential answers
 module _ (temperature width weight d-hs : Enclosure) where

@@ -4,7 +4,7 @@
 ghost use Rattle.std.specs.Prelude.{◌≡◌, ◌<◌};
 ghost use Rattle.number.specs.Functions.{calls};
 ghost use Rattle.elementary.specs.Port.{port};
-ghost use Rattle.enclosure.specs.Answer.{answer, ends};
+ghost use Rattle.number.specs.Answer.{answer};
 ghost use Rattle.enclosure.specs.Enclosure.{enclosures};
 ghost use Rattle.saftvrqmie_potential_ends.specs.Pair.{pair_in};
 ghost use Rattle.saftvrqmie_potential.specs.Potential.{potential};
@@ -16,10 +16,11 @@ ghost use Rattle.saftvrqmie_diameter_ends.specs.Operations.{diameter_ends, width
 
 mod rule;
 
-use enclosure::{Enclosure, EnclosureAnswer, EndsAnswer};
+use enclosure::{Enclosure, Ends};
+use number::Refusal;
 use saftvrqmie_alone_ends::Alone;
 use saftvrqmie_parameters::SaftVRQMiePars;
-use saftvrqmie_potential_ends::{PairEnclosures, PairShared, PairSharedAnswer};
+use saftvrqmie_potential_ends::{PairEnclosures, PairShared};
 use sizes::SIDE;
 
 // One node's part, added. Both derivatives count, whether worked or not.
@@ -31,29 +32,19 @@ fn node(
     r0: Enclosure,
     k: usize,
     d_hs: Enclosure,
-) -> EnclosureAnswer
+) -> Result<Enclosure, Refusal>
     requires { k < 21 }
     ensures { let F = calls enclosures port in
         let u = potential enclosures F (pair_in w.pair) in
         (Sharing w → x ≡ alone_of w → (sigma_eff : Enclosure) → width ≡ width_of sigma_eff r0 → answer result ≡ node_turn enclosures F u temperature sigma_eff r0 k d_hs) }
 {
-    let r = enclosure::add(
-        enclosure::add(enclosure::mul(width, rule::abscissa(k)), width),
-        r0,
-    );
-    let EnclosureAnswer::Value(u) = saftvrqmie_alone_ends::u_after(w, x, r) else {
-        return EnclosureAnswer::Outside;
-    };
-    let EnclosureAnswer::Value(e) = elementary_ends::exp(enclosure::div(
-        enclosure::neg(u),
-        temperature,
-    )) else {
-        return EnclosureAnswer::Outside;
-    };
-    let one = enclosure::point(1.0);
-    let f_u = enclosure::add(enclosure::neg(e), one);
-    let part = enclosure::mul(enclosure::mul(width, f_u), rule::weight(k));
-    EnclosureAnswer::Value(enclosure::add(d_hs, part))
+    let r = width * rule::abscissa(k) + width + r0;
+    let u = saftvrqmie_alone_ends::u_after(w, x, r)?;
+    let e = elementary_ends::exp(-u / temperature)?;
+    let one = Enclosure::point(1.0);
+    let f_u = -e + one;
+    let part = width * f_u * rule::weight(k);
+    Ok(d_hs + part)
 }
 
 fn diameter_by(
@@ -61,29 +52,29 @@ fn diameter_by(
     temperature: Enclosure,
     sigma_eff: Enclosure,
     r0: Enclosure,
-) -> EnclosureAnswer
+) -> Result<Enclosure, Refusal>
     ensures { Sharing w → answer result ≡ diameter_by enclosures (calls enclosures port) (potential enclosures (calls enclosures port) (pair_in w.pair)) temperature sigma_eff r0 }
 {
-    let half = enclosure::point(0.5);
-    let width = enclosure::mul(enclosure::sub(sigma_eff, r0), half);
+    let half = Enclosure::point(0.5);
+    let width = (sigma_eff - r0) * half;
     let x = saftvrqmie_alone_ends::alone_of(w);
     let mut d_hs = r0;
     for k in 0usize..21usize {
-        let EnclosureAnswer::Value(next) = node(w, x, temperature, width, r0, k, d_hs) else {
-            return EnclosureAnswer::Outside;
-        };
+        let next = node(w, x, temperature, width, r0, k, d_hs)?;
         d_hs = next;
     }
-    EnclosureAnswer::Value(d_hs)
+    Ok(d_hs)
 }
 
 // From the searched radii.
-pub fn hs_diameter(p: PairEnclosures, sigma_eff: Enclosure, r0: Enclosure) -> EnclosureAnswer
+pub fn hs_diameter(
+    p: PairEnclosures,
+    sigma_eff: Enclosure,
+    r0: Enclosure,
+) -> Result<Enclosure, Refusal>
     ensures { answer result ≡ diameter enclosures (calls enclosures port) (pair_in p) sigma_eff r0 }
 {
-    let PairSharedAnswer::At(w) = saftvrqmie_potential_ends::share(p) else {
-        return EnclosureAnswer::Outside;
-    };
+    let w = saftvrqmie_potential_ends::share(p)?;
     diameter_by(w, p.temperature, sigma_eff, r0)
 }
 
@@ -95,19 +86,19 @@ pub fn hs_diameter_ij_ends(
     temperature: f64,
     sigma_eff: f64,
     r0: f64,
-) -> EndsAnswer
-    ensures { ends result ≡ diameter_ends port set i j temperature sigma_eff r0 }
+) -> Result<Ends, Refusal>
+    ensures { answer result ≡ diameter_ends port set i j temperature sigma_eff r0 }
 {
     if !limits::index_within(set.count, i, j) {
-        return EndsAnswer::Refused(1);
+        return Err(Refusal::Length);
     }
     if !limits::temperature_within(temperature) {
-        return EndsAnswer::Refused(2);
+        return Err(Refusal::Limit);
     }
     let sheets = set.sheets;
     let orders = set.orders;
     let pair = saftvrqmie_potential_ends::pair_at(&sheets, orders, temperature, SIDE * i + j);
-    let s = enclosure::point(sigma_eff);
-    let r = enclosure::point(r0);
+    let s = Enclosure::point(sigma_eff);
+    let r = Enclosure::point(r0);
     enclosure::ends_of(hs_diameter(pair, s, r))
 }

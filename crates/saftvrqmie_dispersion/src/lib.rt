@@ -13,8 +13,8 @@ ghost use Rattle.saftvrqmie_dispersion.specs.Alpha.{dmt_of, alpha_mie, alpha_q1,
 ghost use Rattle.saftvrqmie_dispersion.specs.Perturbation.{dispersion_in, quantum_in, factors_in, dispersion_pair, k_factor, quantum1, quantum2, quantum_of, factors0, factors1, factors2, factors2_more, factors3, factors4, factors, first_mie, first_q1, first_q2, first_order_by, second_turn, second_order_by, first_order_ij, second_order_ij};
 
 use mie_parameters::PHI;
-use number::FloatAnswer;
-use saftvrqmie_dispersion_terms::{PairTerms, TermsAnswer};
+use number::Refusal;
+use saftvrqmie_dispersion_terms::PairTerms;
 use saftvrqmie_parameters::FeynmanHibbsOrder;
 use saftvrqmie_potential::Pair;
 
@@ -90,22 +90,18 @@ fn alpha_of(p: Pair, dmt: f64, s: f64, ra: f64, rr: f64) -> f64
 }
 
 // Alpha of a pair, at its effective diameter and depth.
-pub fn alpha_ij(p: Pair, sigma_eff: f64, epsilon_k_eff: f64) -> FloatAnswer
+pub fn alpha_ij(p: Pair, sigma_eff: f64, epsilon_k_eff: f64) -> Result<f64, Refusal>
     ensures { answer result ≡ alpha floats (calls floats port) (pair_in p) sigma_eff epsilon_k_eff }
 {
     let s = 1.0 * p.sigma / sigma_eff;
     if !binary_log::base_inside(s) {
-        return FloatAnswer::Outside;
+        return Err(Refusal::Domain);
     }
     let l = binary_log::log_base(s);
-    let FloatAnswer::Value(ra) = saftvrqmie_dispersion_terms::powf_at(l, p.la) else {
-        return FloatAnswer::Outside;
-    };
-    let FloatAnswer::Value(rr) = saftvrqmie_dispersion_terms::powf_at(l, p.lr) else {
-        return FloatAnswer::Outside;
-    };
+    let ra = saftvrqmie_dispersion_terms::powf_at(l, p.la)?;
+    let rr = saftvrqmie_dispersion_terms::powf_at(l, p.lr)?;
     let v = alpha_of(p, dmt_of(p), s, ra, rr);
-    FloatAnswer::Value(v * (1.0 * p.epsilon_k / epsilon_k_eff * p.c))
+    Ok(v * (1.0 * p.epsilon_k / epsilon_k_eff * p.c))
 }
 
 // `f` of a row of PHI.
@@ -129,18 +125,20 @@ pub fn chi(a: f64, zeta_bar: f64) -> f64
     f0 * zeta_bar + f1 * (1.0 * zeta_bar * z4) + f2 * (1.0 * (z4 * z4))
 }
 
-pub fn third_order_perturbation_ij(epsilon_k_eff: f64, a: f64, zeta_bar: f64) -> FloatAnswer
+pub fn third_order_perturbation_ij(
+    epsilon_k_eff: f64,
+    a: f64,
+    zeta_bar: f64,
+) -> Result<f64, Refusal>
     ensures { answer result ≡ third_order_ij floats (calls floats port) epsilon_k_eff a zeta_bar }
 {
     let f3 = f(PHI[3], a);
     let f4 = f(PHI[4], a);
     let f5 = f(PHI[5], a);
     let x = f4 * zeta_bar + f5 * (1.0 * (zeta_bar * zeta_bar));
-    let FloatAnswer::Value(e) = elementary::exp(x) else {
-        return FloatAnswer::Outside;
-    };
+    let e = elementary::exp(x)?;
     let cube = 1.0 * epsilon_k_eff * (epsilon_k_eff * epsilon_k_eff);
-    FloatAnswer::Value(-cube * f3 * zeta_bar * e)
+    Ok(-cube * f3 * zeta_bar * e)
 }
 
 // The isothermal hard sphere compressibility factor of the second order.
@@ -195,79 +193,54 @@ fn quantum_of(p: DispersionPair) -> Quantum
     }
 }
 
-fn first_mie(p: DispersionPair, w: PairTerms) -> FloatAnswer
+fn first_mie(p: DispersionPair, w: PairTerms) -> Result<f64, Refusal>
     ensures { answer result ≡ first_mie floats (dispersion_in p) (combine_at w) }
 {
-    let FloatAnswer::Value(int_a) = saftvrqmie_dispersion_terms::combine_at(w, p.la) else {
-        return FloatAnswer::Outside;
-    };
-    let FloatAnswer::Value(int_r) = saftvrqmie_dispersion_terms::combine_at(w, p.lr) else {
-        return FloatAnswer::Outside;
-    };
-    FloatAnswer::Value(int_a - int_r)
+    let int_a = saftvrqmie_dispersion_terms::combine_at(w, p.la)?;
+    let int_r = saftvrqmie_dispersion_terms::combine_at(w, p.lr)?;
+    Ok(int_a - int_r)
 }
 
-fn first_q1(p: DispersionPair, w: PairTerms, v: f64) -> FloatAnswer
+fn first_q1(p: DispersionPair, w: PairTerms, v: f64) -> Result<f64, Refusal>
     ensures { answer result ≡ first_q1 floats (dispersion_in p) (combine_at w) v }
 {
-    let FloatAnswer::Value(int_qa) = saftvrqmie_dispersion_terms::combine_at(w, p.la + 2.0) else {
-        return FloatAnswer::Outside;
-    };
-    let FloatAnswer::Value(int_qr) = saftvrqmie_dispersion_terms::combine_at(w, p.lr + 2.0) else {
-        return FloatAnswer::Outside;
-    };
+    let int_qa = saftvrqmie_dispersion_terms::combine_at(w, p.la + 2.0)?;
+    let int_qr = saftvrqmie_dispersion_terms::combine_at(w, p.lr + 2.0)?;
     let qa = quantum_1(p.dq_div_sigma_2, p.la);
     let qr = quantum_1(p.dq_div_sigma_2, p.lr);
-    FloatAnswer::Value(v + (int_qa * qa - int_qr * qr))
+    Ok(v + (int_qa * qa - int_qr * qr))
 }
 
-fn first_q2(p: DispersionPair, w: PairTerms, v: f64) -> FloatAnswer
+fn first_q2(p: DispersionPair, w: PairTerms, v: f64) -> Result<f64, Refusal>
     ensures { answer result ≡ first_q2 floats (dispersion_in p) (combine_at w) v }
 {
-    let FloatAnswer::Value(int_qa) = saftvrqmie_dispersion_terms::combine_at(w, p.la + 4.0) else {
-        return FloatAnswer::Outside;
-    };
-    let FloatAnswer::Value(int_qr) = saftvrqmie_dispersion_terms::combine_at(w, p.lr + 4.0) else {
-        return FloatAnswer::Outside;
-    };
+    let int_qa = saftvrqmie_dispersion_terms::combine_at(w, p.la + 4.0)?;
+    let int_qr = saftvrqmie_dispersion_terms::combine_at(w, p.lr + 4.0)?;
     let qa = quantum_2(p.dq_div_sigma_2, p.la);
     let qr = quantum_2(p.dq_div_sigma_2, p.lr);
-    FloatAnswer::Value(v + (int_qa * qa - int_qr * qr))
+    Ok(v + (int_qa * qa - int_qr * qr))
 }
 
-fn first_order_at(p: DispersionPair, w: PairTerms) -> FloatAnswer
+fn first_order_at(p: DispersionPair, w: PairTerms) -> Result<f64, Refusal>
     ensures { answer result ≡ first_order_by floats (dispersion_in p) (combine_at w) }
 {
     let order = p.order;
-    let FloatAnswer::Value(v) = first_mie(p, w) else {
-        return FloatAnswer::Outside;
-    };
+    let v = first_mie(p, w)?;
     if !saftvrqmie_potential::first_order(order) {
-        return FloatAnswer::Value(v * p.c);
+        return Ok(v * p.c);
     }
-    let FloatAnswer::Value(v1) = first_q1(p, w, v) else {
-        return FloatAnswer::Outside;
-    };
+    let v1 = first_q1(p, w, v)?;
     if !saftvrqmie_potential::second_order(order) {
-        return FloatAnswer::Value(v1 * p.c);
+        return Ok(v1 * p.c);
     }
-    let FloatAnswer::Value(v2) = first_q2(p, w, v1) else {
-        return FloatAnswer::Outside;
-    };
-    FloatAnswer::Value(v2 * p.c)
+    let v2 = first_q2(p, w, v1)?;
+    Ok(v2 * p.c)
 }
 
-pub fn first_order_perturbation_ij(p: DispersionPair) -> FloatAnswer
+pub fn first_order_perturbation_ij(p: DispersionPair) -> Result<f64, Refusal>
     ensures { answer result ≡ first_order_ij floats (calls floats port) (dispersion_in p) }
 {
-    let TermsAnswer::At(w) = saftvrqmie_dispersion_terms::terms_of(
-        p.epsilon_k,
-        p.zeta,
-        p.x0,
-        p.x0_eff,
-    ) else {
-        return FloatAnswer::Outside;
-    };
+    let w = saftvrqmie_dispersion_terms::terms_of(p.epsilon_k, p.zeta, p.x0, p.x0_eff)?;
     first_order_at(p, w)
 }
 
@@ -356,25 +329,16 @@ fn factors_of(g: Quantum, order: FeynmanHibbsOrder, q: u32) -> Factors
     factors_4(g)
 }
 
-fn second_turn(p: DispersionPair, w: PairTerms, g: Quantum, q: u32, a2: f64) -> FloatAnswer
+fn second_turn(p: DispersionPair, w: PairTerms, g: Quantum, q: u32, a2: f64) -> Result<f64, Refusal>
     ensures { answer result ≡ second_turn floats (dispersion_in p) (combine_at w) (quantum_in g) q a2 }
 {
     let order = p.order;
     let shift = 2.0 * (q as f64);
-    let FloatAnswer::Value(int_a) = saftvrqmie_dispersion_terms::combine_at(w, 2.0 * p.la + shift)
-    else {
-        return FloatAnswer::Outside;
-    };
-    let FloatAnswer::Value(int_r) = saftvrqmie_dispersion_terms::combine_at(w, 2.0 * p.lr + shift)
-    else {
-        return FloatAnswer::Outside;
-    };
-    let FloatAnswer::Value(int_ar) = saftvrqmie_dispersion_terms::combine_at(w, p.la + p.lr + shift)
-    else {
-        return FloatAnswer::Outside;
-    };
+    let int_a = saftvrqmie_dispersion_terms::combine_at(w, 2.0 * p.la + shift)?;
+    let int_r = saftvrqmie_dispersion_terms::combine_at(w, 2.0 * p.lr + shift)?;
+    let int_ar = saftvrqmie_dispersion_terms::combine_at(w, p.la + p.lr + shift)?;
     let h = factors_of(g, order, q);
-    FloatAnswer::Value(a2 + (int_a * h.afac + int_ar * h.arfac + int_r * h.rfac))
+    Ok(a2 + (int_a * h.afac + int_ar * h.arfac + int_r * h.rfac))
 }
 
 // The turns of the second order: 2 * order + 1.
@@ -388,7 +352,7 @@ fn turn_count(order: FeynmanHibbsOrder) -> u32
     }
 }
 
-fn second_order_at(p: DispersionPair, w: PairTerms) -> FloatAnswer
+fn second_order_at(p: DispersionPair, w: PairTerms) -> Result<f64, Refusal>
     ensures { answer result ≡ second_order_by floats (dispersion_in p) (combine_at w) }
 {
     let order = p.order;
@@ -396,24 +360,15 @@ fn second_order_at(p: DispersionPair, w: PairTerms) -> FloatAnswer
     let count = turn_count(order);
     let mut a2 = 0.0;
     for q in 0u32..count {
-        let FloatAnswer::Value(next) = second_turn(p, w, g, q, a2) else {
-            return FloatAnswer::Outside;
-        };
+        let next = second_turn(p, w, g, q, a2)?;
         a2 = next;
     }
-    FloatAnswer::Value(a2 * 0.5 * p.epsilon_k * (1.0 * (p.c * p.c)))
+    Ok(a2 * 0.5 * p.epsilon_k * (1.0 * (p.c * p.c)))
 }
 
-pub fn second_order_perturbation_ij(p: DispersionPair) -> FloatAnswer
+pub fn second_order_perturbation_ij(p: DispersionPair) -> Result<f64, Refusal>
     ensures { answer result ≡ second_order_ij floats (calls floats port) (dispersion_in p) }
 {
-    let TermsAnswer::At(w) = saftvrqmie_dispersion_terms::terms_of(
-        p.epsilon_k,
-        p.zeta,
-        p.x0,
-        p.x0_eff,
-    ) else {
-        return FloatAnswer::Outside;
-    };
+    let w = saftvrqmie_dispersion_terms::terms_of(p.epsilon_k, p.zeta, p.x0, p.x0_eff)?;
     second_order_at(p, w)
 }

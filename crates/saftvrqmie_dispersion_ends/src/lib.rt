@@ -4,7 +4,7 @@
 ghost use Rattle.std.specs.Prelude.{◌≡◌, ◌+◌, ◌*◌};
 ghost use Rattle.number.specs.Functions.{calls};
 ghost use Rattle.elementary.specs.Port.{port};
-ghost use Rattle.enclosure.specs.Answer.{answer};
+ghost use Rattle.number.specs.Answer.{answer};
 ghost use Rattle.enclosure.specs.Enclosure.{enclosures};
 ghost use Rattle.saftvrqmie_potential.specs.Potential.{order_number};
 ghost use Rattle.saftvrqmie_dispersion.specs.Perturbation.{dispersion_pair, k_factor, quantum1, quantum2, quantum_of, factors0, factors1, factors2, factors2_more, factors3, factors4, factors, first_mie, first_q1, first_q2, first_closed, first_order_by, second_turn, second_closed, second_order_by, first_order_ij, second_order_ij};
@@ -12,7 +12,8 @@ ghost use Rattle.saftvrqmie_dispersion_terms_ends.specs.Shared.{combine_at};
 ghost use Rattle.saftvrqmie_potential_ends.specs.Pair.{pair_in};
 ghost use Rattle.saftvrqmie_dispersion_ends.specs.Pair.{dispersion_in, quantum_in, factors_in};
 
-use enclosure::{Enclosure, EnclosureAnswer};
+use enclosure::Enclosure;
+use number::Refusal;
 use saftvrqmie_dispersion_terms_ends::PairTerms;
 use saftvrqmie_parameters::FeynmanHibbsOrder;
 use saftvrqmie_potential_ends::PairEnclosures;
@@ -52,24 +53,10 @@ pub struct Factors {
 pub fn k(zeta: Enclosure) -> Enclosure
     ensures { result ≡ k_factor enclosures zeta }
 {
-    let one = enclosure::point(1.0);
-    let four = enclosure::point(4.0);
-    enclosure::div(
-        enclosure::pow_up(enclosure::add(enclosure::neg(zeta), one), 4),
-        enclosure::add(
-            enclosure::add(
-                enclosure::sub(
-                    enclosure::add(
-                        enclosure::mul(zeta, four),
-                        enclosure::mul(enclosure::pow_up(zeta, 2), four),
-                    ),
-                    enclosure::mul(enclosure::pow_up(zeta, 3), four),
-                ),
-                enclosure::pow_up(zeta, 4),
-            ),
-            one,
-        ),
-    )
+    let one = Enclosure::point(1.0);
+    let four = Enclosure::point(4.0);
+    (-zeta + one).pow_up(4)
+        / (zeta * four + zeta.pow_up(2) * four - zeta.pow_up(3) * four + zeta.pow_up(4) + one)
 }
 
 // What both sums over pairs work before their perturbation.
@@ -87,10 +74,10 @@ pub fn dispersion_pair(
     let lr = p.lr;
     let epsilon_k = p.epsilon_k;
     let c = p.c;
-    let one = enclosure::point(1.0);
-    let x0 = enclosure::mul(enclosure::div(one, d_hs), p.sigma);
-    let x0_eff = enclosure::div(s_eff, d_hs);
-    let dq_div_sigma_2 = enclosure::div(dq, enclosure::pow_up(p.sigma, 2));
+    let one = Enclosure::point(1.0);
+    let x0 = one / d_hs * p.sigma;
+    let x0_eff = s_eff / d_hs;
+    let dq_div_sigma_2 = dq / p.sigma.pow_up(2);
     DispersionEnclosures {
         la: la,
         lr: lr,
@@ -107,29 +94,17 @@ pub fn dispersion_pair(
 fn quantum_1(dq: Enclosure, l: Enclosure) -> Enclosure
     ensures { result ≡ quantum1 enclosures dq l }
 {
-    let one = enclosure::point(1.0);
-    enclosure::mul(dq, enclosure::mul(l, enclosure::sub(l, one)))
+    let one = Enclosure::point(1.0);
+    dq * (l * (l - one))
 }
 
 fn quantum_2(dq: Enclosure, l: Enclosure) -> Enclosure
     ensures { result ≡ quantum2 enclosures dq l }
 {
-    let half = enclosure::point(0.5);
-    let two = enclosure::point(2.0);
-    let one = enclosure::point(1.0);
-    enclosure::mul(
-        enclosure::pow_up(dq, 2),
-        enclosure::mul(
-            enclosure::mul(
-                enclosure::mul(
-                    enclosure::mul(half, enclosure::add(l, two)),
-                    enclosure::add(l, one),
-                ),
-                l,
-            ),
-            enclosure::sub(l, one),
-        ),
-    )
+    let half = Enclosure::point(0.5);
+    let two = Enclosure::point(2.0);
+    let one = Enclosure::point(1.0);
+    dq.pow_up(2) * (half * (l + two) * (l + one) * l * (l - one))
 }
 
 fn quantum_of(p: DispersionEnclosures) -> Quantum
@@ -144,87 +119,63 @@ fn quantum_of(p: DispersionEnclosures) -> Quantum
     }
 }
 
-fn first_mie(p: DispersionEnclosures, w: PairTerms) -> EnclosureAnswer
+fn first_mie(p: DispersionEnclosures, w: PairTerms) -> Result<Enclosure, Refusal>
     ensures { answer result ≡ first_mie enclosures (dispersion_in p) (combine_at w) }
 {
-    let EnclosureAnswer::Value(int_a) = saftvrqmie_dispersion_terms_ends::combine_at(w, p.la) else {
-        return EnclosureAnswer::Outside;
-    };
-    let EnclosureAnswer::Value(int_r) = saftvrqmie_dispersion_terms_ends::combine_at(w, p.lr) else {
-        return EnclosureAnswer::Outside;
-    };
-    EnclosureAnswer::Value(enclosure::sub(int_a, int_r))
+    let int_a = saftvrqmie_dispersion_terms_ends::combine_at(w, p.la)?;
+    let int_r = saftvrqmie_dispersion_terms_ends::combine_at(w, p.lr)?;
+    Ok(int_a - int_r)
 }
 
-fn first_q1(p: DispersionEnclosures, w: PairTerms, v: Enclosure) -> EnclosureAnswer
+fn first_q1(p: DispersionEnclosures, w: PairTerms, v: Enclosure) -> Result<Enclosure, Refusal>
     ensures { answer result ≡ first_q1 enclosures (dispersion_in p) (combine_at w) v }
 {
-    let two = enclosure::point(2.0);
-    let ea = enclosure::add(p.la, two);
-    let er = enclosure::add(p.lr, two);
-    let EnclosureAnswer::Value(int_qa) = saftvrqmie_dispersion_terms_ends::combine_at(w, ea) else {
-        return EnclosureAnswer::Outside;
-    };
-    let EnclosureAnswer::Value(int_qr) = saftvrqmie_dispersion_terms_ends::combine_at(w, er) else {
-        return EnclosureAnswer::Outside;
-    };
+    let two = Enclosure::point(2.0);
+    let ea = p.la + two;
+    let er = p.lr + two;
+    let int_qa = saftvrqmie_dispersion_terms_ends::combine_at(w, ea)?;
+    let int_qr = saftvrqmie_dispersion_terms_ends::combine_at(w, er)?;
     let qa = quantum_1(p.dq_div_sigma_2, p.la);
     let qr = quantum_1(p.dq_div_sigma_2, p.lr);
-    EnclosureAnswer::Value(enclosure::add(
-        v,
-        enclosure::sub(enclosure::mul(int_qa, qa), enclosure::mul(int_qr, qr)),
-    ))
+    Ok(v + (int_qa * qa - int_qr * qr))
 }
 
-fn first_q2(p: DispersionEnclosures, w: PairTerms, v: Enclosure) -> EnclosureAnswer
+fn first_q2(p: DispersionEnclosures, w: PairTerms, v: Enclosure) -> Result<Enclosure, Refusal>
     ensures { answer result ≡ first_q2 enclosures (dispersion_in p) (combine_at w) v }
 {
-    let four = enclosure::point(4.0);
-    let ea = enclosure::add(p.la, four);
-    let er = enclosure::add(p.lr, four);
-    let EnclosureAnswer::Value(int_qa) = saftvrqmie_dispersion_terms_ends::combine_at(w, ea) else {
-        return EnclosureAnswer::Outside;
-    };
-    let EnclosureAnswer::Value(int_qr) = saftvrqmie_dispersion_terms_ends::combine_at(w, er) else {
-        return EnclosureAnswer::Outside;
-    };
+    let four = Enclosure::point(4.0);
+    let ea = p.la + four;
+    let er = p.lr + four;
+    let int_qa = saftvrqmie_dispersion_terms_ends::combine_at(w, ea)?;
+    let int_qr = saftvrqmie_dispersion_terms_ends::combine_at(w, er)?;
     let qa = quantum_2(p.dq_div_sigma_2, p.la);
     let qr = quantum_2(p.dq_div_sigma_2, p.lr);
-    EnclosureAnswer::Value(enclosure::add(
-        v,
-        enclosure::sub(enclosure::mul(int_qa, qa), enclosure::mul(int_qr, qr)),
-    ))
+    Ok(v + (int_qa * qa - int_qr * qr))
 }
 
 fn first_closed(p: DispersionEnclosures, v: Enclosure) -> Enclosure
     ensures { result ≡ first_closed enclosures (dispersion_in p) v }
 {
-    enclosure::after(p.dq_div_sigma_2, enclosure::mul(v, p.c))
+    (v * p.c).after(p.dq_div_sigma_2)
 }
 
-fn first_order_at(p: DispersionEnclosures, w: PairTerms) -> EnclosureAnswer
+fn first_order_at(p: DispersionEnclosures, w: PairTerms) -> Result<Enclosure, Refusal>
     ensures { answer result ≡ first_order_by enclosures (dispersion_in p) (combine_at w) }
 {
     let order = p.order;
-    let EnclosureAnswer::Value(v) = first_mie(p, w) else {
-        return EnclosureAnswer::Outside;
-    };
+    let v = first_mie(p, w)?;
     if !saftvrqmie_potential::first_order(order) {
-        return EnclosureAnswer::Value(first_closed(p, v));
+        return Ok(first_closed(p, v));
     }
-    let EnclosureAnswer::Value(v1) = first_q1(p, w, v) else {
-        return EnclosureAnswer::Outside;
-    };
+    let v1 = first_q1(p, w, v)?;
     if !saftvrqmie_potential::second_order(order) {
-        return EnclosureAnswer::Value(first_closed(p, v1));
+        return Ok(first_closed(p, v1));
     }
-    let EnclosureAnswer::Value(v2) = first_q2(p, w, v1) else {
-        return EnclosureAnswer::Outside;
-    };
-    EnclosureAnswer::Value(first_closed(p, v2))
+    let v2 = first_q2(p, w, v1)?;
+    Ok(first_closed(p, v2))
 }
 
-pub fn first_order_perturbation_ij(p: DispersionEnclosures) -> EnclosureAnswer
+pub fn first_order_perturbation_ij(p: DispersionEnclosures) -> Result<Enclosure, Refusal>
     ensures { answer result ≡ first_order_ij enclosures (calls enclosures port) (dispersion_in p) }
 {
     let w = saftvrqmie_dispersion_terms_ends::terms_of(p.epsilon_k, p.zeta, p.x0, p.x0_eff);
@@ -234,36 +185,36 @@ pub fn first_order_perturbation_ij(p: DispersionEnclosures) -> EnclosureAnswer
 fn factors_0() -> Factors
     ensures { factors_in result ≡ factors0 enclosures }
 {
-    let one = enclosure::point(1.0);
-    let two = enclosure::point(2.0);
+    let one = Enclosure::point(1.0);
+    let two = Enclosure::point(2.0);
     Factors {
         afac: one,
         rfac: one,
-        arfac: enclosure::mul(enclosure::neg(one), two),
+        arfac: -one * two,
     }
 }
 
 fn factors_1(g: Quantum) -> Factors
     ensures { factors_in result ≡ factors1 enclosures (quantum_in g) }
 {
-    let two = enclosure::point(2.0);
-    let rfac = enclosure::mul(g.qr1, two);
-    let afac = enclosure::mul(g.qa1, two);
+    let two = Enclosure::point(2.0);
+    let rfac = g.qr1 * two;
+    let afac = g.qa1 * two;
     Factors {
         afac: afac,
         rfac: rfac,
-        arfac: enclosure::neg(enclosure::add(rfac, afac)),
+        arfac: -(rfac + afac),
     }
 }
 
 fn factors_2(g: Quantum) -> Factors
     ensures { factors_in result ≡ factors2 enclosures (quantum_in g) }
 {
-    let two = enclosure::point(2.0);
+    let two = Enclosure::point(2.0);
     Factors {
-        afac: enclosure::mul(g.qa1, g.qa1),
-        rfac: enclosure::mul(g.qr1, g.qr1),
-        arfac: enclosure::mul(enclosure::mul(enclosure::neg(g.qa1), g.qr1), two),
+        afac: g.qa1 * g.qa1,
+        rfac: g.qr1 * g.qr1,
+        arfac: -g.qa1 * g.qr1 * two,
     }
 }
 
@@ -271,42 +222,33 @@ fn factors_2(g: Quantum) -> Factors
 fn factors_2_more(g: Quantum, h: Factors) -> Factors
     ensures { factors_in result ≡ factors2_more enclosures (quantum_in g) (factors_in h) }
 {
-    let two = enclosure::point(2.0);
+    let two = Enclosure::point(2.0);
     Factors {
-        afac: enclosure::add(h.afac, enclosure::mul(g.qa2, two)),
-        rfac: enclosure::add(h.rfac, enclosure::mul(g.qr2, two)),
-        arfac: enclosure::add(
-            h.arfac,
-            enclosure::mul(enclosure::neg(enclosure::add(g.qr2, g.qa2)), two),
-        ),
+        afac: h.afac + g.qa2 * two,
+        rfac: h.rfac + g.qr2 * two,
+        arfac: h.arfac + -(g.qr2 + g.qa2) * two,
     }
 }
 
 fn factors_3(g: Quantum) -> Factors
     ensures { factors_in result ≡ factors3 enclosures (quantum_in g) }
 {
-    let two = enclosure::point(2.0);
+    let two = Enclosure::point(2.0);
     Factors {
-        afac: enclosure::mul(enclosure::mul(g.qa2, g.qa1), two),
-        rfac: enclosure::mul(enclosure::mul(g.qr2, g.qr1), two),
-        arfac: enclosure::mul(
-            enclosure::neg(enclosure::add(
-                enclosure::mul(g.qr2, g.qa1),
-                enclosure::mul(g.qa2, g.qr1),
-            )),
-            two,
-        ),
+        afac: g.qa2 * g.qa1 * two,
+        rfac: g.qr2 * g.qr1 * two,
+        arfac: -(g.qr2 * g.qa1 + g.qa2 * g.qr1) * two,
     }
 }
 
 fn factors_4(g: Quantum) -> Factors
     ensures { factors_in result ≡ factors4 enclosures (quantum_in g) }
 {
-    let two = enclosure::point(2.0);
+    let two = Enclosure::point(2.0);
     Factors {
-        afac: enclosure::mul(g.qa2, g.qa2),
-        rfac: enclosure::mul(g.qr2, g.qr2),
-        arfac: enclosure::mul(enclosure::mul(enclosure::neg(g.qr2), g.qa2), two),
+        afac: g.qa2 * g.qa2,
+        rfac: g.qr2 * g.qr2,
+        arfac: -g.qr2 * g.qa2 * two,
     }
 }
 
@@ -338,35 +280,20 @@ fn second_turn(
     g: Quantum,
     q: u32,
     a2: Enclosure,
-) -> EnclosureAnswer
+) -> Result<Enclosure, Refusal>
     ensures { answer result ≡ second_turn enclosures (dispersion_in p) (combine_at w) (quantum_in g) q a2 }
 {
     let order = p.order;
-    let two = enclosure::point(2.0);
-    let shift = enclosure::mul(two, enclosure::point(q as f64));
-    let ea = enclosure::add(enclosure::mul(two, p.la), shift);
-    let er = enclosure::add(enclosure::mul(two, p.lr), shift);
-    let em = enclosure::add(enclosure::add(p.la, p.lr), shift);
-    let EnclosureAnswer::Value(int_a) = saftvrqmie_dispersion_terms_ends::combine_at(w, ea) else {
-        return EnclosureAnswer::Outside;
-    };
-    let EnclosureAnswer::Value(int_r) = saftvrqmie_dispersion_terms_ends::combine_at(w, er) else {
-        return EnclosureAnswer::Outside;
-    };
-    let EnclosureAnswer::Value(int_ar) = saftvrqmie_dispersion_terms_ends::combine_at(w, em) else {
-        return EnclosureAnswer::Outside;
-    };
+    let two = Enclosure::point(2.0);
+    let shift = two * Enclosure::point(q as f64);
+    let ea = two * p.la + shift;
+    let er = two * p.lr + shift;
+    let em = p.la + p.lr + shift;
+    let int_a = saftvrqmie_dispersion_terms_ends::combine_at(w, ea)?;
+    let int_r = saftvrqmie_dispersion_terms_ends::combine_at(w, er)?;
+    let int_ar = saftvrqmie_dispersion_terms_ends::combine_at(w, em)?;
     let h = factors_of(g, order, q);
-    EnclosureAnswer::Value(enclosure::add(
-        a2,
-        enclosure::add(
-            enclosure::add(
-                enclosure::mul(int_a, h.afac),
-                enclosure::mul(int_ar, h.arfac),
-            ),
-            enclosure::mul(int_r, h.rfac),
-        ),
-    ))
+    Ok(a2 + (int_a * h.afac + int_ar * h.arfac + int_r * h.rfac))
 }
 
 // The turns of the second order: 2 * order + 1.
@@ -384,34 +311,26 @@ fn turn_count(order: FeynmanHibbsOrder) -> u32
 fn second_closed(p: DispersionEnclosures, g: Quantum, a2: Enclosure) -> Enclosure
     ensures { result ≡ second_closed enclosures (dispersion_in p) (quantum_in g) a2 }
 {
-    let half = enclosure::point(0.5);
-    let v = enclosure::mul(
-        enclosure::mul(enclosure::mul(a2, half), p.epsilon_k),
-        enclosure::pow_up(p.c, 2),
-    );
-    enclosure::after(
-        g.qa1,
-        enclosure::after(g.qr1, enclosure::after(g.qa2, enclosure::after(g.qr2, v))),
-    )
+    let half = Enclosure::point(0.5);
+    let v = a2 * half * p.epsilon_k * p.c.pow_up(2);
+    v.after(g.qr2).after(g.qa2).after(g.qr1).after(g.qa1)
 }
 
-fn second_order_at(p: DispersionEnclosures, w: PairTerms) -> EnclosureAnswer
+fn second_order_at(p: DispersionEnclosures, w: PairTerms) -> Result<Enclosure, Refusal>
     ensures { answer result ≡ second_order_by enclosures (dispersion_in p) (combine_at w) }
 {
     let order = p.order;
     let g = quantum_of(p);
     let count = turn_count(order);
-    let mut a2 = enclosure::point(0.0);
+    let mut a2 = Enclosure::point(0.0);
     for q in 0u32..count {
-        let EnclosureAnswer::Value(next) = second_turn(p, w, g, q, a2) else {
-            return EnclosureAnswer::Outside;
-        };
+        let next = second_turn(p, w, g, q, a2)?;
         a2 = next;
     }
-    EnclosureAnswer::Value(second_closed(p, g, a2))
+    Ok(second_closed(p, g, a2))
 }
 
-pub fn second_order_perturbation_ij(p: DispersionEnclosures) -> EnclosureAnswer
+pub fn second_order_perturbation_ij(p: DispersionEnclosures) -> Result<Enclosure, Refusal>
     ensures { answer result ≡ second_order_ij enclosures (calls enclosures port) (dispersion_in p) }
 {
     let w = saftvrqmie_dispersion_terms_ends::terms_of(p.epsilon_k, p.zeta, p.x0, p.x0_eff);

@@ -7,13 +7,13 @@ use Rattle.number.specs.Ans.{Ans, held, refused, ◌>>=◌}
 use Rattle.number.specs.Arith.{floats}
 use Rattle.number.proofs.Walk.{walk_none, walk_stop}
 use Rattle.elementary.specs.Port.{port}
-use Rattle.dual.specs.Dual.{DualOf, add_d, mul_d}
-use Rattle.slopes.specs.Mixed.{Mixed, plain, sloped, as_dual, mixed}
+use Rattle.dual.specs.Dual.{DualOf, add_d, mul_d, neg_d}
+use Rattle.slopes.specs.Mixed.{Mixed, plain, sloped, as_dual, mixed, mixed_one}
 use Rattle.slopes.specs.Rules.{mixed_functions}
 use Rattle.saftvrqmie_parameters.specs.declared.FeynmanHibbsOrder.{FeynmanHibbsOrder}
 use Rattle.saftvrqmie_parameters.specs.declared.FeynmanHibbsOrder.TheVariants.{FH0, FH1, FH2}
 use Rattle.saftvrqmie_potential.specs.Potential.{order_number, q1, q2}
-use Rattle.saftvrqmie_dispersion_terms_slopes.specs.Staged.{pair_slopes_of, combine_at}
+use Rattle.saftvrqmie_dispersion_terms_slopes.specs.Staged.{pair_slopes_of, combine_at, mixed_by}
 use Rattle.saftvrqmie_dispersion_terms_slopes.specs.declared.PairSlopes.{PairSlopes}
 use Rattle.saftvrqmie_dispersion_terms_slopes.proofs.Staged.{combine_held, combine_refused}
 use Rattle.saftvrqmie_dispersion.specs.Perturbation.{FactorsIn, quantum_of, first_mie, first_order_by, second_turn, second_order_by, combine_of, first_order_ij, second_order_ij}
@@ -29,9 +29,17 @@ pub q1_plain : (l : Float) → q1 mixed (plain l) ≡ plain (q1 floats l)
 unfolding q1
 q1_plain l = refl
 
+pub q1_plain_one : (l : Float) → q1 mixed_one (plain l) ≡ plain (q1 floats l)
+unfolding q1
+q1_plain_one l = refl
+
 pub q2_plain : (l : Float) → q2 mixed (plain l) ≡ plain (q2 floats l)
 unfolding q2
 q2_plain l = refl
+
+pub q2_plain_one : (l : Float) → q2 mixed_one (plain l) ≡ plain (q2 floats l)
+unfolding q2
+q2_plain_one l = refl
 
 -- ---- a D with any number beside it
 pub mul_as : (x : D) (m : Mixed) → mixed.mul (sloped x) m ≡ sloped (mul_d floats x (as_dual m))
@@ -47,50 +55,50 @@ pub as_factors_is : (h : DualFactors) (k : FactorsIn Mixed) → mixed_factors h 
 as_factors_is h k p = ap as_factors p
 
 -- ---- what a pair's bases give or refuse, both perturbations do
-module _ (p : DualDispersionPair) where
+module _ (n : Mixed → Mixed) (is : (z : D) → n (sloped z) ≡ sloped (neg_d floats z)) (p : DualDispersionPair) where
   abbrev Terms : Ans PairSlopes
-  Terms = pair_slopes_of p.epsilon_k p.zeta p.x0 p.x0_eff
+  Terms = pair_slopes_of n p.epsilon_k p.zeta p.x0 p.x0_eff
 
-  combine_is : (w : PairSlopes) → Terms ≡ held w → combine_of mixed (mixed_functions port) (dispersion_in p) ≡ combine_at w
+  combine_is : (w : PairSlopes) → Terms ≡ held w → combine_of (mixed_by n) (mixed_functions port) (dispersion_in p) ≡ combine_at n w
   unfolding combine_of
-  combine_is w h = combine_held _ _ _ _ w h
+  combine_is w h = combine_held n is _ _ _ _ w h
 
-  combine_not : (n : ℕ) → Terms ≡ refused n → combine_of mixed (mixed_functions port) (dispersion_in p) ≡ (λ l. refused n)
+  combine_not : (k : ℕ) → Terms ≡ refused k → combine_of (mixed_by n) (mixed_functions port) (dispersion_in p) ≡ (λ l. refused k)
   unfolding combine_of
-  combine_not n h = combine_refused _ _ _ _ n h
+  combine_not k h = combine_refused n is _ _ _ _ k h
 
-  pub first_held : (w : PairSlopes) → Terms ≡ held w → first_order_ij mixed (mixed_functions port) (dispersion_in p) ≡ first_order_by mixed (dispersion_in p) (combine_at w)
+  pub first_held : (w : PairSlopes) → Terms ≡ held w → first_order_ij (mixed_by n) (mixed_functions port) (dispersion_in p) ≡ first_order_by (mixed_by n) (dispersion_in p) (combine_at n w)
   unfolding first_order_ij
-  first_held w h = ap (first_order_by mixed (dispersion_in p)) (combine_is w h)
+  first_held w h = ap (first_order_by (mixed_by n) (dispersion_in p)) (combine_is w h)
 
-  pub second_held : (w : PairSlopes) → Terms ≡ held w → second_order_ij mixed (mixed_functions port) (dispersion_in p) ≡ second_order_by mixed (dispersion_in p) (combine_at w)
+  pub second_held : (w : PairSlopes) → Terms ≡ held w → second_order_ij (mixed_by n) (mixed_functions port) (dispersion_in p) ≡ second_order_by (mixed_by n) (dispersion_in p) (combine_at n w)
   unfolding second_order_ij
-  second_held w h = ap (second_order_by mixed (dispersion_in p)) (combine_is w h)
+  second_held w h = ap (second_order_by (mixed_by n) (dispersion_in p)) (combine_is w h)
 
-  first_none : (n : ℕ) → first_order_by mixed (dispersion_in p) (λ l. refused n) ≡ refused n
+  first_none : (k : ℕ) → first_order_by (mixed_by n) (dispersion_in p) (λ l. refused k) ≡ refused k
   unfolding first_order_by first_mie ◌>>=◌
-  first_none n = refl
+  first_none k = refl
 
   pub some_turn : (o : FeynmanHibbsOrder) → 0 < order_number o * 2 + 1
   some_turn FH0 = omega arith
   some_turn FH1 = omega arith
   some_turn FH2 = omega arith
 
-  turn_none : (n q : ℕ) (a2 : Mixed) → second_turn mixed (dispersion_in p) (λ l. refused n) (quantum_of mixed (dispersion_in p)) q a2 ≡ refused n
+  turn_none : (k q : ℕ) (a2 : Mixed) → second_turn (mixed_by n) (dispersion_in p) (λ l. refused k) (quantum_of (mixed_by n) (dispersion_in p)) q a2 ≡ refused k
   unfolding second_turn ◌>>=◌
-  turn_none n q a2 = refl
+  turn_none k q a2 = refl
 
-  second_none : (n : ℕ) → second_order_by mixed (dispersion_in p) (λ l. refused n) ≡ refused n
+  second_none : (k : ℕ) → second_order_by (mixed_by n) (dispersion_in p) (λ l. refused k) ≡ refused k
   unfolding second_order_by ◌>>=◌
-  second_none n = rw (← walk_stop _ _ _ 0 n _ (some_turn p.order) (walk_none _ _) (turn_none n 0 _))
+  second_none k = rw (← walk_stop _ _ _ 0 k _ (some_turn p.order) (walk_none _ _) (turn_none k 0 _))
 
-  pub first_refused : (n : ℕ) → Terms ≡ refused n → first_order_ij mixed (mixed_functions port) (dispersion_in p) ≡ refused n
+  pub first_refused : (k : ℕ) → Terms ≡ refused k → first_order_ij (mixed_by n) (mixed_functions port) (dispersion_in p) ≡ refused k
   unfolding first_order_ij
-  first_refused n h = ap (first_order_by mixed (dispersion_in p)) (combine_not n h) ∙ first_none n
+  first_refused k h = ap (first_order_by (mixed_by n) (dispersion_in p)) (combine_not k h) ∙ first_none k
 
-  pub second_refused : (n : ℕ) → Terms ≡ refused n → second_order_ij mixed (mixed_functions port) (dispersion_in p) ≡ refused n
+  pub second_refused : (k : ℕ) → Terms ≡ refused k → second_order_ij (mixed_by n) (mixed_functions port) (dispersion_in p) ≡ refused k
   unfolding second_order_ij
-  second_refused n h = ap (second_order_by mixed (dispersion_in p)) (combine_not n h) ∙ second_none n
+  second_refused k h = ap (second_order_by (mixed_by n) (dispersion_in p)) (combine_not k h) ∙ second_none k
 
 -- ---- the turns of the second order: there is one
 pub count_some : (o : FeynmanHibbsOrder) (n : ℕ) → n ≡ order_number o * 2 + 1 → 0 < n

@@ -4,8 +4,10 @@ use native.Mathlib.Omega.{arith}
 use lib.ListN.{replicate}
 use lib.Ieee.{Float}
 use mathlib.Core.Path.{◌≡◌, refl, sym, ap, ◌∙◌}
-use mathlib.Core.Bool.{Bool, true, false}
 use mathlib.Core.List.{List}
+use Rattle.std.specs.Prelude.{Err, Ok, Result}
+use Rattle.number.specs.declared.refusal.Refusal.{Refusal}
+use Rattle.number.specs.Answer.{code}
 use Rattle.number.specs.Ans.{Ans, held, refused, ◌>>=◌}
 use Rattle.number.specs.Arith.{floats, zero64}
 use Rattle.number.specs.Functions.{Functions}
@@ -18,16 +20,18 @@ use Rattle.dual.specs.Value.{dual_of}
 use Rattle.dual.specs.declared.Dual.{Dual}
 use Rattle.slopes.specs.Mixed.{Mixed, sloped, mixed_one}
 use Rattle.slopes.specs.Rules.{mixed_functions}
+use Rattle.mie_parameters.specs.Answer.{outcome}
 use Rattle.mie_parameters.specs.Sums.{weighted, orders_sum}
+use Rattle.mie_parameters.proofs.Laws.{held_at, refused_at}
 use Rattle.saftvrqmie_parameters.specs.declared.OrderRecord.{OrderRecord}
 use Rattle.saftvrqmie_potential.specs.Potential.{recip}
 use Rattle.saftvrqmie_dispersion.specs.Perturbation.{k_factor}
-use Rattle.saftvrqmie_energies.specs.State.{SheetsIn, held_or6, points}
+use Rattle.saftvrqmie_energies.specs.State.{SheetsIn, points}
 use Rattle.saftvrqmie_energies.specs.Dispersion.{MixtureIn, segment_fractions, packing_turn, packing_row, packing, alpha_row, alphas, first_turn, first_row, first, second_pair_turn, second_row, second, third_turn, third_row, third, mixture, dispersion}
-use Rattle.saftvrqmie_energies.proofs.Turns.{was_held, was_refused, no_alphas, no_first, no_second, no_third, dispersion_is}
-use Rattle.saftvrqmie_dispersion_terms_slopes_one.specs.Staged.{mixed_of}
-use Rattle.saftvrqmie_hard_sphere_slopes_one.specs.Parts.{duals_at, FirstPlaces, sloped_at, sloped_sheet}
-use Rattle.saftvrqmie_hard_sphere_slopes_one.proofs.Laws.{turns_same}
+use Rattle.saftvrqmie_energies.proofs.Turns.{no_alphas, no_first, no_second, no_third, dispersion_is}
+use Rattle.saftvrqmie_dispersion_terms_slopes.specs.Staged.{mixed_of}
+use Rattle.saftvrqmie_hard_sphere_slopes.specs.Parts.{duals_at, FirstPlaces, sloped_at, sloped_sheet}
+use Rattle.saftvrqmie_hard_sphere_slopes.proofs.Laws.{turns_same}
 use Rattle.saftvrqmie_dispersion_sums_slopes.specs.declared.SegmentSlopes.{SegmentSlopes}
 use Rattle.saftvrqmie_dispersion_sums_slopes.specs.State.{mixture_in, sloped_list, sloped_sheets}
 use Rattle.saftvrqmie_dispersion_sums_slopes.proofs.Laws.{then_same, list_read, list_length}
@@ -85,16 +89,16 @@ module _ (n : ℕ) (sheets : List Float) (orders : List OrderRecord) (t : DualOf
 
   module _ (are-xs : FirstPlaces n xs (nth mixed_one fractions)) (w : SegmentSlopes)
       (is-w : mixture_in w ≡ mixture mixed_one F n (sloped_sheet table table' 0) (sloped_sheet table table' 1) (duals_at xs) (sloped_at rho rho') (points mixed_one m))
-      (inside : Bool) (l l' : List Float) (are-l : held_or6 inside (sloped_list l l') ≡ walk n (alpha_row mixed_one F s) begin) where
+      (found : Result (Unit {0}) Refusal) (l l' : List Float) (are-l : outcome found (sloped_list l l') ≡ walk n (alpha_row mixed_one F s) begin) where
     is_mixture : mixture_in w ≡ mixture mixed_one F n (sloped_sheet table table' 0) (sloped_sheet table table' 1) (nth mixed_one fractions) (sloped_at rho rho') (points mixed_one m)
     is_mixture = is-w ∙ mixture_same s (duals_at xs) (nth mixed_one fractions) are-xs (sloped_at rho rho') (points mixed_one m)
 
-    pub ways_no_alphas : inside ≡ false → refused 6 ≡ result
-    ways_no_alphas e = no_alphas mixed_one F s _ _ _ (sloped t) fractions refl (mixture_in w) is_mixture 6 (both_refuses 6 (alphas_both s high begin (list_length sheet zero64 zero64)) (was_refused inside _ _ are-l e))
+    pub ways_no_alphas : (k : Refusal) → found ≡ Err k → refused (code k) ≡ result
+    ways_no_alphas k e = no_alphas mixed_one F s _ _ _ (sloped t) fractions refl (mixture_in w) is_mixture (code k) (both_refuses (code k) (alphas_both s high begin (list_length sheet zero64 zero64)) (refused_at found _ _ k are-l e))
 
-    module _ (e : inside ≡ true) where
+    module _ (e : found ≡ Ok tt) where
       gives : (a : List Mixed) × ((alphas mixed_one F s ≡ held a) × Rows n n a (sloped_list l l'))
-      gives = both_holds (sloped_list l l') (alphas_both s high begin (list_length sheet zero64 zero64)) (was_held inside _ _ are-l e)
+      gives = both_holds (sloped_list l l') (alphas_both s high begin (list_length sheet zero64 zero64)) (held_at found _ _ are-l e)
 
       read : (i j : ℕ) → i < n → j < n → sloped_at l l' (cell i j) ≡ nth mixed_one gives.0 (cell i j)
       read i j p q = sym (rows_read n gives.0 (sloped_list l l') gives.1.1 i j p q ∙ list_read l l' (cell i j) (rw gives.1.1.len' (omega arith)))

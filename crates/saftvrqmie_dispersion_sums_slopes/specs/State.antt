@@ -7,8 +7,8 @@ use Rattle.saftvrqmie_potential.specs.Potential.{PairIn, pair_at_entry}
 use Rattle.saftvrqmie_potential_slopes.specs.Potential.{mixed_pair}
 use Rattle.saftvrqmie_energies.specs.State.{SheetsIn}
 use Rattle.saftvrqmie_energies.specs.Dispersion.{MixtureIn}
-use Rattle.saftvrqmie_dispersion_terms_slopes_one.specs.Staged.{mixed_of}
-use Rattle.saftvrqmie_hard_sphere_slopes_one.specs.Parts.{sloped_sheet}
+use Rattle.saftvrqmie_dispersion_terms_slopes.specs.Staged.{mixed_of}
+use Rattle.saftvrqmie_hard_sphere_slopes.specs.Parts.{sloped_sheet}
 use Rattle.saftvrqmie_dispersion_sums_slopes.specs.declared.SegmentSlopes.{SegmentSlopes}
 
 abbrev pub mixture_in : SegmentSlopes → MixtureIn Mixed

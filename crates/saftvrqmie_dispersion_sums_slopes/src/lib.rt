@@ -10,24 +10,25 @@ ghost use Rattle.elementary.specs.Port.{port};
 ghost use Rattle.dual.specs.Value.{dual_of};
 ghost use Rattle.slopes.specs.Mixed.{mixed_one};
 ghost use Rattle.slopes.specs.Rules.{mixed_functions};
+ghost use Rattle.mie_parameters.specs.Answer.{outcome};
 ghost use Rattle.mie_parameters.specs.Sums.{orders_sum};
 ghost use Rattle.saftvrqmie_potential.specs.Potential.{recip};
 ghost use Rattle.saftvrqmie_dispersion.specs.Perturbation.{dispersion_pair};
-ghost use Rattle.saftvrqmie_energies.specs.State.{held_or6, points};
+ghost use Rattle.saftvrqmie_energies.specs.State.{points};
 ghost use Rattle.saftvrqmie_energies.specs.Dispersion.{inv_xs_sum, segment_fractions, lead, packing_row, packing, alpha_row, first_row, first, second_row, second, third_row, third, mixture, dispersion};
-ghost use Rattle.saftvrqmie_dispersion_terms_slopes_one.specs.Staged.{mixed_of, sloped_answer};
-ghost use Rattle.saftvrqmie_dispersion_slopes_one.specs.Values.{dispersion_in};
-ghost use Rattle.saftvrqmie_hard_sphere_slopes_one.specs.Parts.{duals_at, FirstPlaces, sloped_at, sloped_sheet};
+ghost use Rattle.saftvrqmie_dispersion_terms_slopes.specs.Staged.{mixed_of, sloped_answer};
+ghost use Rattle.saftvrqmie_dispersion_slopes.specs.Values.{dispersion_in};
+ghost use Rattle.saftvrqmie_hard_sphere_slopes.specs.Parts.{duals_at, FirstPlaces, sloped_at, sloped_sheet};
 ghost use Rattle.saftvrqmie_dispersion_sums_slopes.specs.State.{mixture_in, sloped_list, sloped_pair, sloped_sheets};
 
 use dual::Dual;
 use mie_parameters::FRAC_PI_6;
-use saftvrqmie_dispersion_slopes_one::DualDispersionPair;
-use saftvrqmie_dispersion_terms_slopes_one::{cube, square};
-use saftvrqmie_hard_sphere_slopes_one::{entry, segment_density};
+use number::Refusal;
+use saftvrqmie_dispersion_slopes::DualDispersionPair;
+use saftvrqmie_dispersion_terms_slopes::{cube, square};
+use saftvrqmie_hard_sphere_slopes::{entry, segment_density};
 use saftvrqmie_parameters::OrderRecord;
 use sizes::{SHEET, SHEETS, SIDE, TABLE};
-use slopes::DualAnswer;
 
 #[derive(Clone, Copy)]
 pub struct SegmentSlopes {
@@ -76,11 +77,11 @@ fn segment_fractions(n: usize, x: &[f64], x_slopes: &[f64], m: &[f64; SIDE]) -> 
         FirstPlaces n result (nth mixed_one (segment_fractions mixed_one n x m)) }
 {
     let inv = inv_x_s_sum(n, x, x_slopes, m);
-    let zero = dual::plain(0.0);
+    let zero = Dual::plain(0.0);
     let mut xs = [zero; SIDE];
     for i in 0usize..n {
         let a = entry(x, x_slopes, i);
-        xs[i] = dual::mul(slopes::times(a, m[i]), inv);
+        xs[i] = slopes::times(a, m[i]) * inv;
     }
     xs
 }
@@ -101,8 +102,8 @@ fn packing_row(
     let mut r = sum;
     for j in 0usize..n {
         let d = table_entry(table, table_slopes, k, SIDE * i + j);
-        let v = dual::mul(dual::mul(xs[i], xs[j]), cube(d));
-        r = dual::add(r, v);
+        let v = xs[i] * xs[j] * cube(d);
+        r = r + v;
     }
     r
 }
@@ -120,11 +121,11 @@ fn packing(
     ensures { let d = sloped_sheet table.now table_slopes.now k in
         mixed_of result ≡ packing mixed_one (mixed_functions port) n (duals_at xs) d (mixed_of rho_s) }
 {
-    let mut r = dual::plain(0.0);
+    let mut r = Dual::plain(0.0);
     for i in 0usize..n {
         r = packing_row(n, xs, table, table_slopes, k, i, r);
     }
-    dual::mul(slopes::times(r, FRAC_PI_6), rho_s)
+    slopes::times(r, FRAC_PI_6) * rho_s
 }
 
 fn mixture(
@@ -153,7 +154,7 @@ fn mixture(
     }
 }
 
-// `Alpha::new` of a row; whether each power was inside.
+// `Alpha::new` of a row; 6 where a power is outside.
 fn alpha_row(
     n: usize,
     sheets: &[f64; SHEETS],
@@ -164,26 +165,24 @@ fn alpha_row(
     i: usize,
     alphas: &mut [f64; SHEET],
     alpha_slopes: &mut [f64; SHEET],
-) -> bool
+) -> Result<(), Refusal>
     requires { (n ≤ side) × (i < n) }
     ensures { let s = sloped_sheets n sheets.now orders (dual_of t) table.now table_slopes.now in
         let old = sloped_list alphas.old alpha_slopes.old in
-        held_or6 result (sloped_list alphas.new alpha_slopes.new) ≡ alpha_row mixed_one (mixed_functions port) s i old }
+        outcome result (sloped_list alphas.new alpha_slopes.new) ≡ alpha_row mixed_one (mixed_functions port) s i old }
 {
     for k in 0usize..n - i {
         let e = SIDE * i + (i + k);
         let pair = saftvrqmie_potential::pair_at(sheets, orders, t.re, e);
         let s = table_entry(table, table_slopes, 0, e);
         let depth = table_entry(table, table_slopes, 2, e);
-        let DualAnswer::Value(a) = saftvrqmie_alpha_slopes_one::alpha_ij(pair, t, s, depth) else {
-            return false;
-        };
+        let a = saftvrqmie_alpha_slopes::alpha_ij(pair, t, s, depth)?;
         alphas[e] = a.re;
         alpha_slopes[e] = a.eps;
         alphas[SIDE * (i + k) + i] = a.re;
         alpha_slopes[SIDE * (i + k) + i] = a.eps;
     }
-    true
+    Ok(())
 }
 
 fn alphas_of(
@@ -195,14 +194,14 @@ fn alphas_of(
     table_slopes: &[f64; TABLE],
     alphas: &mut [f64; SHEET],
     alpha_slopes: &mut [f64; SHEET],
-) -> bool
+) -> Result<(), Refusal>
     requires { n ≤ side }
     ensures { let s = sloped_sheets n sheets.now orders (dual_of t) table.now table_slopes.now in
         let old = sloped_list alphas.old alpha_slopes.old in
-        held_or6 result (sloped_list alphas.new alpha_slopes.new) ≡ walk n (alpha_row mixed_one (mixed_functions port) s) old }
+        outcome result (sloped_list alphas.new alpha_slopes.new) ≡ walk n (alpha_row mixed_one (mixed_functions port) s) old }
 {
     for i in 0usize..n {
-        if !alpha_row(
+        alpha_row(
             n,
             sheets,
             orders,
@@ -212,11 +211,9 @@ fn alphas_of(
             i,
             alphas,
             alpha_slopes,
-        ) {
-            return false;
-        }
+        )?;
     }
-    true
+    Ok(())
 }
 
 // What both perturbations of the pair at entry e take.
@@ -238,7 +235,7 @@ fn perturbed_pair(
     let d = table_entry(table, table_slopes, 1, e);
     let s = table_entry(table, table_slopes, 0, e);
     let q = table_entry(table, table_slopes, 3, e);
-    saftvrqmie_dispersion_slopes_one::dispersion_pair(pair, t, d, s, q, w.zeta)
+    saftvrqmie_dispersion_slopes::dispersion_pair(pair, t, d, s, q, w.zeta)
 }
 
 // 1.0 on the diagonal, else 2.0.
@@ -254,9 +251,9 @@ fn fac(i: usize, j: usize) -> f64
 fn lead(i: usize, j: usize, xi: Dual, xj: Dual, rho_s: Dual, d: Dual) -> Dual
     ensures { mixed_of result ≡ lead mixed_one (mixed_functions port) i j (mixed_of xi) (mixed_of xj) (mixed_of rho_s) (mixed_of d) }
 {
-    let a = slopes::times(dual::mul(xi, xj), fac(i, j));
-    let b = dual::mul(slopes::times(a, FRAC_PI_6), rho_s);
-    dual::mul(b, cube(d))
+    let a = slopes::times(xi * xj, fac(i, j));
+    let b = slopes::times(a, FRAC_PI_6) * rho_s;
+    b * cube(d)
 }
 
 fn first_row(
@@ -270,7 +267,7 @@ fn first_row(
     w: SegmentSlopes,
     i: usize,
     sum: Dual,
-) -> DualAnswer
+) -> Result<Dual, Refusal>
     requires { (n ≤ side) × (i < n) }
     ensures { let s = sloped_sheets n sheets.now orders (dual_of t) table.now table_slopes.now in
         sloped_answer result ≡ first_row mixed_one (mixed_functions port) s (duals_at xs) (mixture_in w) i (mixed_of sum) }
@@ -279,16 +276,12 @@ fn first_row(
     for k in 0usize..n - i {
         let e = SIDE * i + (i + k);
         let pair = perturbed_pair(sheets, orders, t, table, table_slopes, w, e);
-        let DualAnswer::Value(v) = saftvrqmie_dispersion_slopes_one::first_order_perturbation_ij(
-            pair,
-        ) else {
-            return DualAnswer::Outside;
-        };
+        let v = saftvrqmie_dispersion_slopes::first_order_perturbation_ij(pair)?;
         let d = table_entry(table, table_slopes, 1, e);
         let f = lead(i, i + k, xs[i], xs[i + k], w.rho_s, d);
-        a1 = dual::add(a1, dual::mul(f, v));
+        a1 = a1 + f * v;
     }
-    DualAnswer::Value(a1)
+    Ok(a1)
 }
 
 fn first(
@@ -300,37 +293,24 @@ fn first(
     table_slopes: &[f64; TABLE],
     xs: [Dual; SIDE],
     w: SegmentSlopes,
-) -> DualAnswer
+) -> Result<Dual, Refusal>
     requires { (0 < n) × (n ≤ side) }
     ensures { let s = sloped_sheets n sheets.now orders (dual_of t) table.now table_slopes.now in
         sloped_answer result ≡ first mixed_one (mixed_functions port) s (duals_at xs) (mixture_in w) }
 {
-    let mut a1 = dual::plain(0.0);
+    let mut a1 = Dual::plain(0.0);
     for i in 0usize..n {
-        let DualAnswer::Value(next) = first_row(
-            n,
-            sheets,
-            orders,
-            t,
-            table,
-            table_slopes,
-            xs,
-            w,
-            i,
-            a1,
-        ) else {
-            return DualAnswer::Outside;
-        };
+        let next = first_row(n, sheets, orders, t, table, table_slopes, xs, w, i, a1)?;
         a1 = next;
     }
-    DualAnswer::Value(a1)
+    Ok(a1)
 }
 
 // The sum, a turn's lead, chi + 1 and perturbation.
 fn second_added(sum: Dual, f: Dual, chi: Dual, v: Dual) -> Dual
     ensures { mixed_of result ≡ mixed_one.add (mixed_of sum) (mixed_one.mul (mixed_one.mul (mixed_of f) (mixed_one.add (mixed_of chi) (whole mixed_one 1))) (mixed_of v)) }
 {
-    dual::add(sum, dual::mul(dual::mul(f, slopes::plus(chi, 1.0)), v))
+    sum + f * slopes::plus(chi, 1.0) * v
 }
 
 fn second_row(
@@ -346,7 +326,7 @@ fn second_row(
     alpha_slopes: &[f64; SHEET],
     i: usize,
     sum: Dual,
-) -> DualAnswer
+) -> Result<Dual, Refusal>
     requires { (n ≤ side) × (i < n) }
     ensures { let s = sloped_sheets n sheets.now orders (dual_of t) table.now table_slopes.now in
         let alphas = sloped_at alphas.entry.now alpha_slopes.now in
@@ -356,18 +336,14 @@ fn second_row(
     for k in 0usize..n - i {
         let e = SIDE * i + (i + k);
         let pair = perturbed_pair(sheets, orders, t, table, table_slopes, w, e);
-        let DualAnswer::Value(v) = saftvrqmie_dispersion_slopes_one::second_order_perturbation_ij(
-            pair,
-        ) else {
-            return DualAnswer::Outside;
-        };
+        let v = saftvrqmie_dispersion_slopes::second_order_perturbation_ij_one(pair)?;
         let d = table_entry(table, table_slopes, 1, e);
         let f = lead(i, i + k, xs[i], xs[i + k], w.rho_s, d);
         let a = sheet_entry(alphas, alpha_slopes, e);
-        let chi = saftvrqmie_alpha_slopes_one::chi(a, w.zeta_bar);
+        let chi = saftvrqmie_alpha_slopes::chi(a, w.zeta_bar);
         a2 = second_added(a2, f, chi, v);
     }
-    DualAnswer::Value(a2)
+    Ok(a2)
 }
 
 fn second(
@@ -381,15 +357,15 @@ fn second(
     w: SegmentSlopes,
     alphas: &[f64; SHEET],
     alpha_slopes: &[f64; SHEET],
-) -> DualAnswer
+) -> Result<Dual, Refusal>
     requires { (0 < n) × (n ≤ side) }
     ensures { let s = sloped_sheets n sheets.now orders (dual_of t) table.now table_slopes.now in
         let alphas = sloped_at alphas.entry.now alpha_slopes.now in
         sloped_answer result ≡ second mixed_one (mixed_functions port) s (duals_at xs) (mixture_in w) alphas }
 {
-    let mut a2 = dual::plain(0.0);
+    let mut a2 = Dual::plain(0.0);
     for i in 0usize..n {
-        let DualAnswer::Value(next) = second_row(
+        let next = second_row(
             n,
             sheets,
             orders,
@@ -402,13 +378,11 @@ fn second(
             alpha_slopes,
             i,
             a2,
-        ) else {
-            return DualAnswer::Outside;
-        };
+        )?;
         a2 = next;
     }
-    let k = saftvrqmie_alpha_slopes_one::k(w.zeta);
-    DualAnswer::Value(dual::mul(a2, k))
+    let k = saftvrqmie_alpha_slopes::k(w.zeta);
+    Ok(a2 * k)
 }
 
 fn third_row(
@@ -421,7 +395,7 @@ fn third_row(
     alpha_slopes: &[f64; SHEET],
     i: usize,
     sum: Dual,
-) -> DualAnswer
+) -> Result<Dual, Refusal>
     requires { (n ≤ side) × (i < n) }
     ensures { let depths = sloped_sheet table.now table_slopes.now 2 in
         let alphas = sloped_at alphas.entry.now alpha_slopes.now in
@@ -432,15 +406,11 @@ fn third_row(
         let e = SIDE * i + j;
         let depth = table_entry(table, table_slopes, 2, e);
         let a = sheet_entry(alphas, alpha_slopes, e);
-        let DualAnswer::Value(v) = saftvrqmie_alpha_slopes_one::third_order_perturbation_ij(
-            depth, a, zeta_bar,
-        ) else {
-            return DualAnswer::Outside;
-        };
-        let f = dual::mul(xs[i], xs[j]);
-        a3 = dual::add(a3, dual::mul(f, v));
+        let v = saftvrqmie_alpha_slopes::third_order_perturbation_ij(depth, a, zeta_bar)?;
+        let f = xs[i] * xs[j];
+        a3 = a3 + f * v;
     }
-    DualAnswer::Value(a3)
+    Ok(a3)
 }
 
 fn third(
@@ -451,15 +421,15 @@ fn third(
     zeta_bar: Dual,
     alphas: &[f64; SHEET],
     alpha_slopes: &[f64; SHEET],
-) -> DualAnswer
+) -> Result<Dual, Refusal>
     requires { (0 < n) × (n ≤ side) }
     ensures { let depths = sloped_sheet table.now table_slopes.now 2 in
         let alphas = sloped_at alphas.entry.now alpha_slopes.now in
         sloped_answer result ≡ third mixed_one (mixed_functions port) n depths (duals_at xs) (mixed_of zeta_bar) alphas }
 {
-    let mut a3 = dual::plain(0.0);
+    let mut a3 = Dual::plain(0.0);
     for i in 0usize..n {
-        let DualAnswer::Value(next) = third_row(
+        let next = third_row(
             n,
             table,
             table_slopes,
@@ -469,20 +439,18 @@ fn third(
             alpha_slopes,
             i,
             a3,
-        ) else {
-            return DualAnswer::Outside;
-        };
+        )?;
         a3 = next;
     }
-    DualAnswer::Value(a3)
+    Ok(a3)
 }
 
 fn perturbation(temperature: Dual, a1: Dual, a2: Dual, a3: Dual) -> Dual
     ensures { mixed_of result ≡ orders_sum mixed_one (recip mixed_one (mixed_of temperature)) (mixed_of a1) (mixed_of a2) (mixed_of a3) }
 {
     let inv_t = slopes::recip(temperature);
-    let two = dual::add(dual::mul(a1, inv_t), dual::mul(a2, square(inv_t)));
-    dual::add(two, dual::mul(a3, cube(inv_t)))
+    let two = a1 * inv_t + a2 * square(inv_t);
+    two + a3 * cube(inv_t)
 }
 
 pub fn dispersion(
@@ -497,7 +465,7 @@ pub fn dispersion(
     rho_slopes: &[f64],
     table: &[f64; TABLE],
     table_slopes: &[f64; TABLE],
-) -> DualAnswer
+) -> Result<Dual, Refusal>
     requires { (0 < n) × (n ≤ side) × (length x.now ≡ n) × (length x_slopes.now ≡ n) × (length rho.now ≡ n) × (length rho_slopes.now ≡ n) }
     ensures { let s = sloped_sheets n sheets.now orders (dual_of t) table.now table_slopes.now in
         let x = sloped_at x.entry.now x_slopes.now in
@@ -509,7 +477,7 @@ pub fn dispersion(
     let w = mixture(n, xs, rho, rho_slopes, m, table, table_slopes);
     let mut alphas = [0.0; SHEET];
     let mut alpha_slopes = [0.0; SHEET];
-    if !alphas_of(
+    alphas_of(
         n,
         sheets,
         orders,
@@ -518,13 +486,9 @@ pub fn dispersion(
         table_slopes,
         &mut alphas,
         &mut alpha_slopes,
-    ) {
-        return DualAnswer::Outside;
-    }
-    let DualAnswer::Value(a1) = first(n, sheets, orders, t, table, table_slopes, xs, w) else {
-        return DualAnswer::Outside;
-    };
-    let DualAnswer::Value(a2) = second(
+    )?;
+    let a1 = first(n, sheets, orders, t, table, table_slopes, xs, w)?;
+    let a2 = second(
         n,
         sheets,
         orders,
@@ -535,10 +499,8 @@ pub fn dispersion(
         w,
         &alphas,
         &alpha_slopes,
-    ) else {
-        return DualAnswer::Outside;
-    };
-    let DualAnswer::Value(a3) = third(
+    )?;
+    let a3 = third(
         n,
         table,
         table_slopes,
@@ -546,9 +508,7 @@ pub fn dispersion(
         w.zeta_bar,
         &alphas,
         &alpha_slopes,
-    ) else {
-        return DualAnswer::Outside;
-    };
+    )?;
     let n_s = segment_density(n, rho, rho_slopes, m);
-    DualAnswer::Value(dual::mul(n_s, perturbation(t, a1, a2, a3)))
+    Ok(n_s * perturbation(t, a1, a2, a3))
 }

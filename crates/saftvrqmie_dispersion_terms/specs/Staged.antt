@@ -1,5 +1,7 @@
 -- What the float code works once for a pair and a packing fraction, and `combine_sutherland_and_b` from it, with the powers in their stages: the contracts of helpers alone. That this is the formula, bits and refusals, is shown in proofs/Staged.
-use Rattle.std.specs.Prelude.{Float}
+use Rattle.std.specs.Prelude.{Float, Err, Ok, Result}
+use Rattle.number.specs.declared.refusal.Refusal.{Refusal}
+use Rattle.number.specs.Answer.{code}
 use Rattle.number.specs.Ans.{Ans, held, refused, ◌>>=◌, demand}
 use Rattle.number.specs.Arith.{floats}
 use Rattle.number.specs.Domain.{base_inside}
@@ -7,13 +9,11 @@ use Rattle.binary_log.specs.BinaryLog.{log_of}
 use Rattle.power.specs.Power.{powf_at}
 use Rattle.saftvrqmie_dispersion_terms.specs.Terms.{factor_i, factor_j, combine}
 use Rattle.saftvrqmie_dispersion_terms.specs.declared.PairTerms.{PairTerms}
-use Rattle.saftvrqmie_dispersion_terms.specs.declared.TermsAnswer.{TermsAnswer}
-use Rattle.saftvrqmie_dispersion_terms.specs.declared.TermsAnswer.TheVariants.{At, Outside}
 
--- the number or values of each case of `TermsAnswer`
-abbrev pub pair_terms_answer : TermsAnswer → Ans PairTerms
-pair_terms_answer (At w) = held w
-pair_terms_answer Outside = refused 6
+-- the number or values of each case of `(Result PairTerms Refusal)`
+abbrev pub pair_terms_answer : Result PairTerms Refusal → Ans PairTerms
+pair_terms_answer (Ok w) = held w
+pair_terms_answer (Err r) = refused (code r)
 
 -- 6 where a base is outside: then no exponent has a value
 unfoldable pub pair_terms_of : Float → Float → Float → Float → Ans PairTerms

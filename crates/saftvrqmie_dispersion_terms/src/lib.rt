@@ -13,7 +13,7 @@ ghost use Rattle.saftvrqmie_dispersion_terms.specs.Staged.{pair_terms_answer, pa
 
 use binary_log::Log;
 use mie_parameters::LAM_COEFF;
-use number::FloatAnswer;
+use number::Refusal;
 
 // What all exponents of a pair share.
 #[derive(Clone, Copy)]
@@ -24,12 +24,6 @@ pub struct PairTerms {
     pub factor_j: f64,
     pub x0: Log,
     pub x0_eff: Log,
-}
-
-#[derive(Clone, Copy)]
-pub enum TermsAnswer {
-    At(PairTerms),
-    Outside,
 }
 
 // A row of LAM_COEFF with the inverse powers of lambda.
@@ -94,26 +88,26 @@ fn b_of(epsilon_k: f64, fi: f64, fj: f64, i: f64, j: f64, p: f64) -> f64
 }
 
 // The power of a base by its logarithm.
-pub fn powf_at(l: Log, y: f64) -> FloatAnswer
+pub fn powf_at(l: Log, y: f64) -> Result<f64, Refusal>
     ensures { answer result ≡ powf_at l y }
 {
     if !power::exponent_inside(y) {
-        return FloatAnswer::Outside;
+        return Err(Refusal::Domain);
     }
-    FloatAnswer::Value(power::raise(l, power::exponent(y)))
+    Ok(power::raise(l, power::exponent(y)))
 }
 
 // No value where a base is outside: then no exponent has one.
-pub fn terms_of(epsilon_k: f64, zeta: f64, x0: f64, x0_eff: f64) -> TermsAnswer
+pub fn terms_of(epsilon_k: f64, zeta: f64, x0: f64, x0_eff: f64) -> Result<PairTerms, Refusal>
     ensures { pair_terms_answer result ≡ pair_terms_of epsilon_k zeta x0 x0_eff }
 {
     if !binary_log::base_inside(x0) {
-        return TermsAnswer::Outside;
+        return Err(Refusal::Domain);
     }
     if !binary_log::base_inside(x0_eff) {
-        return TermsAnswer::Outside;
+        return Err(Refusal::Domain);
     }
-    TermsAnswer::At(PairTerms {
+    Ok(PairTerms {
         epsilon_k: epsilon_k,
         zeta: zeta,
         factor_i: factor_i(zeta),
@@ -123,23 +117,17 @@ pub fn terms_of(epsilon_k: f64, zeta: f64, x0: f64, x0_eff: f64) -> TermsAnswer
     })
 }
 
-pub fn combine_at(w: PairTerms, lambda: f64) -> FloatAnswer
+pub fn combine_at(w: PairTerms, lambda: f64) -> Result<f64, Refusal>
     ensures { answer result ≡ combine_at w lambda }
 {
-    let FloatAnswer::Value(p) = powf_at(w.x0, lambda) else {
-        return FloatAnswer::Outside;
-    };
-    let FloatAnswer::Value(p3) = powf_at(w.x0_eff, 3.0 - lambda) else {
-        return FloatAnswer::Outside;
-    };
-    let FloatAnswer::Value(p4) = powf_at(w.x0_eff, 4.0 - lambda) else {
-        return FloatAnswer::Outside;
-    };
+    let p = powf_at(w.x0, lambda)?;
+    let p3 = powf_at(w.x0_eff, 3.0 - lambda)?;
+    let p4 = powf_at(w.x0_eff, 4.0 - lambda)?;
     let int_as = sutherland_of(lambda, w.epsilon_k, eta_eff(lambda, w.zeta), p);
     let i = ilambda_of(lambda, p3);
     let j = jlambda_of(lambda, p4, p3);
     let int_b = b_of(w.epsilon_k, w.factor_i, w.factor_j, i, j, p);
-    FloatAnswer::Value(int_as + int_b)
+    Ok(int_as + int_b)
 }
 
 pub fn combine_sutherland_and_b(
@@ -148,11 +136,9 @@ pub fn combine_sutherland_and_b(
     zeta: f64,
     x0: f64,
     x0_eff: f64,
-) -> FloatAnswer
+) -> Result<f64, Refusal>
     ensures { answer result ≡ combine_sutherland_and_b floats (calls floats port) epsilon_k zeta x0 x0_eff lambda }
 {
-    let TermsAnswer::At(w) = terms_of(epsilon_k, zeta, x0, x0_eff) else {
-        return FloatAnswer::Outside;
-    };
+    let w = terms_of(epsilon_k, zeta, x0, x0_eff)?;
     combine_at(w, lambda)
 }

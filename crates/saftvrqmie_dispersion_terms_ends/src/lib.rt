@@ -4,15 +4,16 @@
 ghost use Rattle.std.specs.Prelude.{◌≡◌};
 ghost use Rattle.number.specs.Functions.{calls};
 ghost use Rattle.elementary.specs.Port.{port};
-ghost use Rattle.enclosure.specs.Answer.{answer};
+ghost use Rattle.number.specs.Answer.{answer};
 ghost use Rattle.enclosure.specs.Enclosure.{enclosures};
 ghost use Rattle.mie_parameters.specs.Tables.{c0, c1, c2, c3};
 ghost use Rattle.saftvrqmie_dispersion_terms.specs.Terms.{lam_sum, eta_eff, factor_i, factor_j, b_of, combine_sutherland_and_b};
 ghost use Rattle.saftvrqmie_dispersion_terms_ends.specs.Shared.{powf_at, sutherland_by, ilambda_by, jlambda_by, combine_at};
 
 use binary_log::Log;
-use enclosure::{Enclosure, EnclosureAnswer};
+use enclosure::Enclosure;
 use mie_parameters::LAM_COEFF;
+use number::Refusal;
 
 // A base of powers with its logarithm, which holds where the base is inside the power's domain.
 #[derive(Clone, Copy)]
@@ -36,121 +37,103 @@ pub struct PairTerms {
 fn lam_sum_0(inv0: Enclosure, inv1: Enclosure, inv2: Enclosure, inv3: Enclosure) -> Enclosure
     ensures { result ≡ lam_sum enclosures c0 inv0 inv1 inv2 inv3 }
 {
-    let a0 = enclosure::mul(inv0, enclosure::point(LAM_COEFF[0][0]));
-    let a1 = enclosure::mul(inv1, enclosure::point(LAM_COEFF[0][1]));
-    let a2 = enclosure::mul(inv2, enclosure::point(LAM_COEFF[0][2]));
-    let a3 = enclosure::mul(inv3, enclosure::point(LAM_COEFF[0][3]));
-    enclosure::add(enclosure::add(enclosure::add(a0, a1), a2), a3)
+    let a0 = inv0 * Enclosure::point(LAM_COEFF[0][0]);
+    let a1 = inv1 * Enclosure::point(LAM_COEFF[0][1]);
+    let a2 = inv2 * Enclosure::point(LAM_COEFF[0][2]);
+    let a3 = inv3 * Enclosure::point(LAM_COEFF[0][3]);
+    a0 + a1 + a2 + a3
 }
 
 fn lam_sum_1(inv0: Enclosure, inv1: Enclosure, inv2: Enclosure, inv3: Enclosure) -> Enclosure
     ensures { result ≡ lam_sum enclosures c1 inv0 inv1 inv2 inv3 }
 {
-    let a0 = enclosure::mul(inv0, enclosure::point(LAM_COEFF[1][0]));
-    let a1 = enclosure::mul(inv1, enclosure::point(LAM_COEFF[1][1]));
-    let a2 = enclosure::mul(inv2, enclosure::point(LAM_COEFF[1][2]));
-    let a3 = enclosure::mul(inv3, enclosure::point(LAM_COEFF[1][3]));
-    enclosure::add(enclosure::add(enclosure::add(a0, a1), a2), a3)
+    let a0 = inv0 * Enclosure::point(LAM_COEFF[1][0]);
+    let a1 = inv1 * Enclosure::point(LAM_COEFF[1][1]);
+    let a2 = inv2 * Enclosure::point(LAM_COEFF[1][2]);
+    let a3 = inv3 * Enclosure::point(LAM_COEFF[1][3]);
+    a0 + a1 + a2 + a3
 }
 
 fn lam_sum_2(inv0: Enclosure, inv1: Enclosure, inv2: Enclosure, inv3: Enclosure) -> Enclosure
     ensures { result ≡ lam_sum enclosures c2 inv0 inv1 inv2 inv3 }
 {
-    let a0 = enclosure::mul(inv0, enclosure::point(LAM_COEFF[2][0]));
-    let a1 = enclosure::mul(inv1, enclosure::point(LAM_COEFF[2][1]));
-    let a2 = enclosure::mul(inv2, enclosure::point(LAM_COEFF[2][2]));
-    let a3 = enclosure::mul(inv3, enclosure::point(LAM_COEFF[2][3]));
-    enclosure::add(enclosure::add(enclosure::add(a0, a1), a2), a3)
+    let a0 = inv0 * Enclosure::point(LAM_COEFF[2][0]);
+    let a1 = inv1 * Enclosure::point(LAM_COEFF[2][1]);
+    let a2 = inv2 * Enclosure::point(LAM_COEFF[2][2]);
+    let a3 = inv3 * Enclosure::point(LAM_COEFF[2][3]);
+    a0 + a1 + a2 + a3
 }
 
 fn lam_sum_3(inv0: Enclosure, inv1: Enclosure, inv2: Enclosure, inv3: Enclosure) -> Enclosure
     ensures { result ≡ lam_sum enclosures c3 inv0 inv1 inv2 inv3 }
 {
-    let a0 = enclosure::mul(inv0, enclosure::point(LAM_COEFF[3][0]));
-    let a1 = enclosure::mul(inv1, enclosure::point(LAM_COEFF[3][1]));
-    let a2 = enclosure::mul(inv2, enclosure::point(LAM_COEFF[3][2]));
-    let a3 = enclosure::mul(inv3, enclosure::point(LAM_COEFF[3][3]));
-    enclosure::add(enclosure::add(enclosure::add(a0, a1), a2), a3)
+    let a0 = inv0 * Enclosure::point(LAM_COEFF[3][0]);
+    let a1 = inv1 * Enclosure::point(LAM_COEFF[3][1]);
+    let a2 = inv2 * Enclosure::point(LAM_COEFF[3][2]);
+    let a3 = inv3 * Enclosure::point(LAM_COEFF[3][3]);
+    a0 + a1 + a2 + a3
 }
 
 pub fn eta_eff(lambda: Enclosure, zeta: Enclosure) -> Enclosure
     ensures { result ≡ eta_eff enclosures lambda zeta }
 {
-    let one = enclosure::point(1.0);
-    let inv1 = enclosure::div(one, lambda);
-    let square = enclosure::mul(lambda, lambda);
-    let inv2 = enclosure::div(one, enclosure::mul(one, square));
-    let inv3 = enclosure::div(one, enclosure::mul(enclosure::mul(one, lambda), square));
+    let one = Enclosure::point(1.0);
+    let inv1 = one / lambda;
+    let square = lambda * lambda;
+    let inv2 = one / (one * square);
+    let inv3 = one / (one * lambda * square);
     let c0 = lam_sum_0(one, inv1, inv2, inv3);
     let c1 = lam_sum_1(one, inv1, inv2, inv3);
     let c2 = lam_sum_2(one, inv1, inv2, inv3);
     let c3 = lam_sum_3(one, inv1, inv2, inv3);
-    let s3 = enclosure::add(enclosure::mul(zeta, c3), c2);
-    let s2 = enclosure::add(enclosure::mul(zeta, s3), c1);
-    let s1 = enclosure::add(enclosure::mul(zeta, s2), c0);
-    enclosure::mul(zeta, s1)
+    let s3 = zeta * c3 + c2;
+    let s2 = zeta * s3 + c1;
+    let s1 = zeta * s2 + c0;
+    zeta * s1
 }
 
 fn sutherland_of(l3: Enclosure, epsilon_k: Enclosure, ef: Enclosure, p: Enclosure) -> Enclosure
     ensures { result ≡ sutherland_by l3 epsilon_k ef p }
 {
-    let half = enclosure::point(0.5);
-    let one = enclosure::point(1.0);
-    let a = enclosure::add(enclosure::mul(enclosure::neg(ef), half), one);
-    let minus_twelve = enclosure::point(-12.0);
-    let c = enclosure::div(
-        enclosure::mul(
-            enclosure::mul(enclosure::mul(a, minus_twelve), p),
-            epsilon_k,
-        ),
-        l3,
-    );
-    let d = enclosure::pow_up(enclosure::add(enclosure::neg(ef), one), 3);
-    enclosure::div(c, d)
+    let half = Enclosure::point(0.5);
+    let one = Enclosure::point(1.0);
+    let a = -ef * half + one;
+    let minus_twelve = Enclosure::point(-12.0);
+    let c = a * minus_twelve * p * epsilon_k / l3;
+    let d = (-ef + one).pow_up(3);
+    c / d
 }
 
 fn ilambda_of(l3: Enclosure, p3: Enclosure) -> Enclosure
     ensures { result ≡ ilambda_by l3 p3 }
 {
-    let one = enclosure::point(1.0);
-    enclosure::div(enclosure::neg(enclosure::sub(p3, one)), l3)
+    let one = Enclosure::point(1.0);
+    -(p3 - one) / l3
 }
 
 fn jlambda_of(l3: Enclosure, l4: Enclosure, p4: Enclosure, p3: Enclosure) -> Enclosure
     ensures { result ≡ jlambda_by l3 l4 p4 p3 }
 {
-    let one = enclosure::point(1.0);
-    enclosure::div(
-        enclosure::neg(enclosure::sub(
-            enclosure::sub(enclosure::mul(p4, l3), enclosure::mul(p3, l4)),
-            one,
-        )),
-        enclosure::mul(l3, l4),
-    )
+    let one = Enclosure::point(1.0);
+    -(p4 * l3 - p3 * l4 - one) / (l3 * l4)
 }
 
 fn factor_i(zeta: Enclosure) -> Enclosure
     ensures { result ≡ factor_i enclosures zeta }
 {
-    let m = enclosure::neg(zeta);
-    let two = enclosure::point(2.0);
-    let one = enclosure::point(1.0);
-    enclosure::div(
-        enclosure::add(m, two),
-        enclosure::pow_up(enclosure::add(m, one), 3),
-    )
+    let m = -zeta;
+    let two = Enclosure::point(2.0);
+    let one = Enclosure::point(1.0);
+    (m + two) / (m + one).pow_up(3)
 }
 
 fn factor_j(zeta: Enclosure) -> Enclosure
     ensures { result ≡ factor_j enclosures zeta }
 {
-    let m = enclosure::neg(zeta);
-    let nine = enclosure::point(9.0);
-    let one = enclosure::point(1.0);
-    enclosure::div(
-        enclosure::mul(enclosure::mul(m, nine), enclosure::add(zeta, one)),
-        enclosure::pow_up(enclosure::add(m, one), 3),
-    )
+    let m = -zeta;
+    let nine = Enclosure::point(9.0);
+    let one = Enclosure::point(1.0);
+    m * nine * (zeta + one) / (m + one).pow_up(3)
 }
 
 fn b_of(
@@ -163,17 +146,8 @@ fn b_of(
 ) -> Enclosure
     ensures { result ≡ b_of enclosures epsilon_k fi fj i j p }
 {
-    let six = enclosure::point(6.0);
-    enclosure::mul(
-        enclosure::mul(
-            enclosure::mul(
-                p,
-                enclosure::add(enclosure::mul(fi, i), enclosure::mul(fj, j)),
-            ),
-            six,
-        ),
-        epsilon_k,
-    )
+    let six = Enclosure::point(6.0);
+    p * (fi * i + fj * j) * six * epsilon_k
 }
 
 // The logarithm is worked once for all exponents.
@@ -187,38 +161,32 @@ fn base_of(x: Enclosure) -> Base
     }
 }
 
-fn powf_at(b: Base, y: Enclosure) -> EnclosureAnswer
+fn powf_at(b: Base, y: Enclosure) -> Result<Enclosure, Refusal>
     ensures { answer result ≡ powf_at b y }
 {
     if !b.inside {
-        return EnclosureAnswer::Outside;
+        return Err(Refusal::Domain);
     }
     enclosure::answered_two(saftvrqmie_dispersion_terms::powf_at(b.log, y.value), b.x, y)
 }
 
-pub fn combine_at(w: PairTerms, lambda: Enclosure) -> EnclosureAnswer
+pub fn combine_at(w: PairTerms, lambda: Enclosure) -> Result<Enclosure, Refusal>
     ensures { answer result ≡ combine_at w lambda }
 {
-    let three = enclosure::point(3.0);
-    let e3 = enclosure::sub(three, lambda);
-    let four = enclosure::point(4.0);
-    let e4 = enclosure::sub(four, lambda);
-    let EnclosureAnswer::Value(p) = powf_at(w.x0, lambda) else {
-        return EnclosureAnswer::Outside;
-    };
-    let EnclosureAnswer::Value(p3) = powf_at(w.x0_eff, e3) else {
-        return EnclosureAnswer::Outside;
-    };
-    let EnclosureAnswer::Value(p4) = powf_at(w.x0_eff, e4) else {
-        return EnclosureAnswer::Outside;
-    };
-    let l3 = enclosure::sub(lambda, three);
-    let l4 = enclosure::sub(lambda, four);
+    let three = Enclosure::point(3.0);
+    let e3 = three - lambda;
+    let four = Enclosure::point(4.0);
+    let e4 = four - lambda;
+    let p = powf_at(w.x0, lambda)?;
+    let p3 = powf_at(w.x0_eff, e3)?;
+    let p4 = powf_at(w.x0_eff, e4)?;
+    let l3 = lambda - three;
+    let l4 = lambda - four;
     let int_as = sutherland_of(l3, w.epsilon_k, eta_eff(lambda, w.zeta), p);
     let i = ilambda_of(l3, p3);
     let j = jlambda_of(l3, l4, p4, p3);
     let int_b = b_of(w.epsilon_k, w.factor_i, w.factor_j, i, j, p);
-    EnclosureAnswer::Value(enclosure::add(int_as, int_b))
+    Ok(int_as + int_b)
 }
 
 // As a function of the exponent.
@@ -246,7 +214,7 @@ pub fn combine_sutherland_and_b(
     zeta: Enclosure,
     x0: Enclosure,
     x0_eff: Enclosure,
-) -> EnclosureAnswer
+) -> Result<Enclosure, Refusal>
     ensures { answer result ≡ combine_sutherland_and_b enclosures (calls enclosures port) epsilon_k zeta x0 x0_eff lambda }
 {
     combine_at(terms_of(epsilon_k, zeta, x0, x0_eff), lambda)

@@ -4,7 +4,7 @@ use lib.Ieee.{Float}
 use lib.ListN.{set}
 use mathlib.Core.List.{List}
 use mathlib.Core.Path.{◌≡◌, refl, sym, ap, ◌∙◌}
-use mathlib.Core.Bool.{Bool, true, false}
+use mathlib.Core.Bool.{true}
 use Rattle.number.specs.Ans.{Ans, held, refused, ◌>>=◌}
 use Rattle.number.specs.Arith.{Arith, floats, decimal, whole}
 use Rattle.number.specs.Functions.{Functions, answered, calls}
@@ -15,22 +15,10 @@ use Rattle.saftvrqmie_dispersion.specs.Alpha.{alpha, chi, third_order_ij}
 use Rattle.saftvrqmie_dispersion.specs.Perturbation.{DispersionIn, first_order_ij, second_order_ij}
 use Rattle.number.specs.Lists.{nth}
 use Rattle.mie_parameters.specs.Sums.{weighted, orders_sum}
-use Rattle.saftvrqmie_energies.specs.State.{SheetsIn, held_or6, diagonal}
+use Rattle.saftvrqmie_energies.specs.State.{SheetsIn, diagonal}
 use Rattle.saftvrqmie_energies.specs.HardSphere.{ZetaIn, zeta, frac1mz3, zeta23, hard_sphere_of, hard_sphere}
 use Rattle.saftvrqmie_energies.specs.NonAdditive.{non_additive_sum, density_shares, non_additive}
 use Rattle.saftvrqmie_energies.specs.Dispersion.{MixtureIn, segment_fractions, alphas, first, second, third, mixture, dispersion, alpha_turn, first_turn, second_pair_turn, third_turn, dispersion_pair_at, lead_at}
-
-pub left_refused : {S : Type 0} (b : Bool) (x : S) (a : Ans S) → b ≡ false → refused 6 ≡ a → held_or6 b x ≡ a
-unfolding held_or6
-left_refused b x a p q = rw p q
-
-pub was_held : {S : Type 0} (b : Bool) (x : S) (a : Ans S) → held_or6 b x ≡ a → b ≡ true → a ≡ held x
-unfolding held_or6
-was_held b x a p e = sym p ∙ ap (λ (b : Bool). held_or6 b x) e
-
-pub was_refused : {S : Type 0} (b : Bool) (x : S) (a : Ans S) → held_or6 b x ≡ a → b ≡ false → a ≡ refused 6
-unfolding held_or6
-was_refused b x a p e = sym p ∙ ap (λ (b : Bool). held_or6 b x) e
 
 -- a call of the float run is its answer
 once : (a : Ans Float) (x : Float) → answered floats a x ≡ a

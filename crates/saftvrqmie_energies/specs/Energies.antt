@@ -1,7 +1,9 @@
 -- The quantum energies as an operation: hard sphere, dispersion and, if wanted, non-additive, from a set, a temperature, fractions, densities and a table.
-use Rattle.std.specs.Prelude.{ℕ, ◌*◌, eqb, Float, length, List, Bool, ◌&&◌, cond}
+use Rattle.std.specs.Prelude.{ℕ, ◌*◌, eqb, Float, length, List, Bool, ◌&&◌, cond, Result}
+use Rattle.number.specs.declared.refusal.Refusal.{Refusal}
+use Rattle.number.specs.Answer.{answer_by}
 use Rattle.std.specs.Float.Ieee.Scale.{finite}
-use Rattle.number.specs.Ans.{Ans, held, refused, ◌>>=◌, demand}
+use Rattle.number.specs.Ans.{Ans, held, ◌>>=◌, demand}
 use Rattle.number.specs.Arith.{Arith, floats, zero64}
 use Rattle.number.specs.Functions.{Functions, Answers, calls}
 use Rattle.sizes.specs.Sizes.{sheet}
@@ -13,8 +15,6 @@ use Rattle.saftvrqmie_energies.specs.HardSphere.{hard_sphere}
 use Rattle.saftvrqmie_energies.specs.NonAdditive.{non_additive}
 use Rattle.saftvrqmie_energies.specs.Dispersion.{dispersion}
 use Rattle.saftvrqmie_energies.specs.declared.QuantumEnergies.{QuantumEnergies}
-use Rattle.saftvrqmie_energies.specs.declared.EnergiesAnswer.{EnergiesAnswer}
-use Rattle.saftvrqmie_energies.specs.declared.EnergiesAnswer.TheVariants.{Energies, Refused}
 
 -- the three contributions, in the numbers N
 pub record EnergiesIn (N : Type 0) : Type 0 where
@@ -25,10 +25,8 @@ pub record EnergiesIn (N : Type 0) : Type 0 where
 abbrev pub energies_in : QuantumEnergies → EnergiesIn Float
 energies_in e = record { hard_sphere = e.hard_sphere; dispersion = e.dispersion; non_additive = e.non_additive }
 
--- document 01's number or values of each case of `EnergiesAnswer`
-abbrev pub energies_answer : EnergiesAnswer → Ans (EnergiesIn Float)
-energies_answer (Energies e) = held (energies_in e)
-energies_answer (Refused n) = refused n
+abbrev pub energies_answer : Result QuantumEnergies Refusal → Ans (EnergiesIn Float)
+energies_answer = answer_by energies_in
 
 -- The contributions, from the sheets, mole fractions, partial densities, m and the temperature. A non-additive part that is not wanted is +0 and nothing of it is worked
 unfoldable pub contributions : (A : Arith) → Functions A.Num → SheetsIn A.Num → (ℕ → A.Num) → (ℕ → A.Num) → (ℕ → A.Num) → A.Num → Bool → Ans (EnergiesIn A.Num)

@@ -1,6 +1,5 @@
 -- What the energies of the quantum model are worked from, in the numbers N: sheets of a set and of a table by their entry e, component lists by their index i; and what contributions share.
-use Rattle.std.specs.Prelude.{ℕ, ◌+◌, ◌*◌, Float, List, Bool, true, false}
-use Rattle.number.specs.Ans.{Ans, held, refused}
+use Rattle.std.specs.Prelude.{ℕ, ◌+◌, ◌*◌, Float, List}
 use Rattle.number.specs.Arith.{Arith}
 use Rattle.number.specs.Lists.{at}
 use Rattle.sizes.specs.Sizes.{sheet, cell}
@@ -14,11 +13,6 @@ pub record SheetsIn (N : Type 0) : Type 0 where
   pub hs_diameter : ℕ → N
   pub epsilon_k_eff : ℕ → N
   pub quantum_d : ℕ → N
-
--- a test's answer with the state beside it, for the contracts of helpers alone: held, or 6
-unfoldable pub held_or6 : {S : Type 0} → Bool → S → Ans S
-held_or6 true s = held s
-held_or6 false s = refused 6
 
 -- diameters of the components: the diagonal of a sheet
 abbrev pub diagonal : {N : Type 0} → (ℕ → N) → ℕ → N

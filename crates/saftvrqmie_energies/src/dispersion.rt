@@ -8,13 +8,14 @@ ghost use Rattle.sizes.specs.Sizes.{side, sheet};
 ghost use Rattle.elementary.specs.Port.{port};
 ghost use Rattle.saftvrqmie_potential.specs.Potential.{recip};
 ghost use Rattle.saftvrqmie_dispersion.specs.Perturbation.{dispersion_in, dispersion_pair};
+ghost use Rattle.mie_parameters.specs.Answer.{outcome};
 ghost use Rattle.mie_parameters.specs.Sums.{orders_sum};
-ghost use Rattle.saftvrqmie_energies.specs.State.{held_or6, points, sheet_of, set_pair_at, sheets_of_state};
+ghost use Rattle.saftvrqmie_energies.specs.State.{points, sheet_of, set_pair_at, sheets_of_state};
 ghost use Rattle.saftvrqmie_energies.specs.Dispersion.{mixture_in, inv_xs_sum, segment_fractions, lead, packing_row, packing, alpha_row, first_row, first, second_row, second, third_row, third, mixture, dispersion};
 
 use crate::state;
 use mie_parameters::FRAC_PI_6;
-use number::FloatAnswer;
+use number::Refusal;
 use saftvrqmie_dispersion::DispersionPair;
 use saftvrqmie_parameters::OrderRecord;
 use sizes::table::{EPSILON_K_EFF, HS_DIAMETER, QUANTUM_D, SIGMA_EFF};
@@ -76,7 +77,7 @@ fn packing(n: usize, xs: &[f64; SIDE], table: &[f64], k: usize, rho_s: f64) -> f
     r * FRAC_PI_6 * rho_s
 }
 
-// `Alpha::new` of a row; whether each power was inside.
+// `Alpha::new` of a row; 6 where a power is outside.
 fn alpha_row(
     n: usize,
     sheets: &[f64; SHEETS],
@@ -85,23 +86,21 @@ fn alpha_row(
     table: &[f64],
     i: usize,
     alphas: &mut [f64; SHEET],
-) -> bool
+) -> Result<(), Refusal>
     requires { (n ≤ side) × (length table.now ≡ 4 * sheet) × (i < n) }
     ensures { let s = sheets_of_state floats n sheets.now orders t table.now in
-        held_or6 result alphas.new ≡ alpha_row floats (calls floats port) s i alphas.old }
+        outcome result alphas.new ≡ alpha_row floats (calls floats port) s i alphas.old }
 {
     for k in 0usize..n - i {
         let e = SIDE * i + (i + k);
         let pair = saftvrqmie_potential::pair_at(sheets, orders, t, e);
         let s = table[SIGMA_EFF + e];
         let depth = table[EPSILON_K_EFF + e];
-        let FloatAnswer::Value(a) = saftvrqmie_dispersion::alpha_ij(pair, s, depth) else {
-            return false;
-        };
+        let a = saftvrqmie_dispersion::alpha_ij(pair, s, depth)?;
         alphas[e] = a;
         alphas[SIDE * (i + k) + i] = a;
     }
-    true
+    Ok(())
 }
 
 fn alphas_of(
@@ -111,17 +110,15 @@ fn alphas_of(
     t: f64,
     table: &[f64],
     alphas: &mut [f64; SHEET],
-) -> bool
+) -> Result<(), Refusal>
     requires { (n ≤ side) × (length table.now ≡ 4 * sheet) }
     ensures { let s = sheets_of_state floats n sheets.now orders t table.now in
-        held_or6 result alphas.new ≡ walk n (alpha_row floats (calls floats port) s) alphas.old }
+        outcome result alphas.new ≡ walk n (alpha_row floats (calls floats port) s) alphas.old }
 {
     for i in 0usize..n {
-        if !alpha_row(n, sheets, orders, t, table, i, alphas) {
-            return false;
-        }
+        alpha_row(n, sheets, orders, t, table, i, alphas)?;
     }
-    true
+    Ok(())
 }
 
 // What both perturbations of the pair at entry e take.
@@ -173,7 +170,7 @@ fn first_row(
     w: SegmentState,
     i: usize,
     sum: f64,
-) -> FloatAnswer
+) -> Result<f64, Refusal>
     requires { (n ≤ side) × (length table.now ≡ 4 * sheet) × (i < n) }
     ensures { let s = sheets_of_state floats n sheets.now orders t table.now in
         let xs = points floats xs.entry.now in
@@ -183,13 +180,11 @@ fn first_row(
     for k in 0usize..n - i {
         let e = SIDE * i + (i + k);
         let pair = perturbed_pair(sheets, orders, t, table, w, e);
-        let FloatAnswer::Value(v) = saftvrqmie_dispersion::first_order_perturbation_ij(pair) else {
-            return FloatAnswer::Outside;
-        };
+        let v = saftvrqmie_dispersion::first_order_perturbation_ij(pair)?;
         let d = table[HS_DIAMETER + e];
         a1 = a1 + lead(i, i + k, xs[i], xs[i + k], w.rho_s, d) * v;
     }
-    FloatAnswer::Value(a1)
+    Ok(a1)
 }
 
 fn first(
@@ -200,7 +195,7 @@ fn first(
     table: &[f64],
     xs: &[f64; SIDE],
     w: SegmentState,
-) -> FloatAnswer
+) -> Result<f64, Refusal>
     requires { (n ≤ side) × (length table.now ≡ 4 * sheet) }
     ensures { let s = sheets_of_state floats n sheets.now orders t table.now in
         let xs = points floats xs.entry.now in
@@ -208,12 +203,10 @@ fn first(
 {
     let mut a1 = 0.0;
     for i in 0usize..n {
-        let FloatAnswer::Value(next) = first_row(n, sheets, orders, t, table, xs, w, i, a1) else {
-            return FloatAnswer::Outside;
-        };
+        let next = first_row(n, sheets, orders, t, table, xs, w, i, a1)?;
         a1 = next;
     }
-    FloatAnswer::Value(a1)
+    Ok(a1)
 }
 
 fn second_row(
@@ -227,7 +220,7 @@ fn second_row(
     alphas: &[f64; SHEET],
     i: usize,
     sum: f64,
-) -> FloatAnswer
+) -> Result<f64, Refusal>
     requires { (n ≤ side) × (length table.now ≡ 4 * sheet) × (i < n) }
     ensures { let s = sheets_of_state floats n sheets.now orders t table.now in
         let xs = points floats xs.entry.now in
@@ -238,14 +231,12 @@ fn second_row(
     for k in 0usize..n - i {
         let e = SIDE * i + (i + k);
         let pair = perturbed_pair(sheets, orders, t, table, w, e);
-        let FloatAnswer::Value(v) = saftvrqmie_dispersion::second_order_perturbation_ij(pair) else {
-            return FloatAnswer::Outside;
-        };
+        let v = saftvrqmie_dispersion::second_order_perturbation_ij(pair)?;
         let d = table[HS_DIAMETER + e];
         let chi = saftvrqmie_dispersion::chi(alphas[e], w.zeta_bar);
         a2 = a2 + lead(i, i + k, xs[i], xs[i + k], w.rho_s, d) * (chi + 1.0) * v;
     }
-    FloatAnswer::Value(a2)
+    Ok(a2)
 }
 
 fn second(
@@ -257,7 +248,7 @@ fn second(
     xs: &[f64; SIDE],
     w: SegmentState,
     alphas: &[f64; SHEET],
-) -> FloatAnswer
+) -> Result<f64, Refusal>
     requires { (n ≤ side) × (length table.now ≡ 4 * sheet) }
     ensures { let s = sheets_of_state floats n sheets.now orders t table.now in
         let xs = points floats xs.entry.now in
@@ -266,14 +257,11 @@ fn second(
 {
     let mut a2 = 0.0;
     for i in 0usize..n {
-        let FloatAnswer::Value(next) = second_row(n, sheets, orders, t, table, xs, w, alphas, i, a2)
-        else {
-            return FloatAnswer::Outside;
-        };
+        let next = second_row(n, sheets, orders, t, table, xs, w, alphas, i, a2)?;
         a2 = next;
     }
     let k = saftvrqmie_dispersion::k(w.zeta);
-    FloatAnswer::Value(a2 * k)
+    Ok(a2 * k)
 }
 
 fn third_row(
@@ -284,7 +272,7 @@ fn third_row(
     alphas: &[f64; SHEET],
     i: usize,
     sum: f64,
-) -> FloatAnswer
+) -> Result<f64, Refusal>
     requires { (n ≤ side) × (length table.now ≡ 4 * sheet) × (i < n) }
     ensures { let epsilon_k_eff = sheet_of floats table.now 2 in
         let xs = points floats xs.entry.now in
@@ -295,14 +283,10 @@ fn third_row(
     for j in 0usize..n {
         let e = SIDE * i + j;
         let depth = table[EPSILON_K_EFF + e];
-        let FloatAnswer::Value(v) = saftvrqmie_dispersion::third_order_perturbation_ij(
-            depth, alphas[e], w.zeta_bar,
-        ) else {
-            return FloatAnswer::Outside;
-        };
+        let v = saftvrqmie_dispersion::third_order_perturbation_ij(depth, alphas[e], w.zeta_bar)?;
         a3 = a3 + xs[i] * xs[j] * v;
     }
-    FloatAnswer::Value(a3)
+    Ok(a3)
 }
 
 fn third(
@@ -311,7 +295,7 @@ fn third(
     xs: &[f64; SIDE],
     w: SegmentState,
     alphas: &[f64; SHEET],
-) -> FloatAnswer
+) -> Result<f64, Refusal>
     requires { (n ≤ side) × (length table.now ≡ 4 * sheet) }
     ensures { let epsilon_k_eff = sheet_of floats table.now 2 in
         let xs = points floats xs.entry.now in
@@ -320,12 +304,10 @@ fn third(
 {
     let mut a3 = 0.0;
     for i in 0usize..n {
-        let FloatAnswer::Value(next) = third_row(n, table, xs, w, alphas, i, a3) else {
-            return FloatAnswer::Outside;
-        };
+        let next = third_row(n, table, xs, w, alphas, i, a3)?;
         a3 = next;
     }
-    FloatAnswer::Value(a3)
+    Ok(a3)
 }
 
 fn mixture(n: usize, xs: &[f64; SIDE], rho: &[f64], m: &[f64; SIDE], table: &[f64]) -> SegmentState
@@ -363,7 +345,7 @@ pub fn dispersion(
     x: &[f64],
     rho: &[f64],
     table: &[f64],
-) -> FloatAnswer
+) -> Result<f64, Refusal>
     requires { (n ≤ side) × (length table.now ≡ 4 * sheet) × (length x.now ≡ n) × (length rho.now ≡ n) }
     ensures { let s = sheets_of_state floats n sheets.now orders t table.now in
         let x = points floats x.entry.now in
@@ -374,18 +356,10 @@ pub fn dispersion(
     let xs = segment_fractions(n, x, m);
     let w = mixture(n, &xs, rho, m, table);
     let mut alphas = [0.0; SHEET];
-    if !alphas_of(n, sheets, orders, t, table, &mut alphas) {
-        return FloatAnswer::Outside;
-    }
-    let FloatAnswer::Value(a1) = first(n, sheets, orders, t, table, &xs, w) else {
-        return FloatAnswer::Outside;
-    };
-    let FloatAnswer::Value(a2) = second(n, sheets, orders, t, table, &xs, w, &alphas) else {
-        return FloatAnswer::Outside;
-    };
-    let FloatAnswer::Value(a3) = third(n, table, &xs, w, &alphas) else {
-        return FloatAnswer::Outside;
-    };
+    alphas_of(n, sheets, orders, t, table, &mut alphas)?;
+    let a1 = first(n, sheets, orders, t, table, &xs, w)?;
+    let a2 = second(n, sheets, orders, t, table, &xs, w, &alphas)?;
+    let a3 = third(n, table, &xs, w, &alphas)?;
     let n_s = state::segment_density(n, rho, m);
-    FloatAnswer::Value(n_s * perturbation(t, a1, a2, a3))
+    Ok(n_s * perturbation(t, a1, a2, a3))
 }

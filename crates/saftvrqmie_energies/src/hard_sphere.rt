@@ -10,7 +10,7 @@ ghost use Rattle.saftvrqmie_energies.specs.HardSphere.{zeta_in, zeta23_in, zeta_
 
 use crate::state;
 use mie_parameters::PI;
-use number::FloatAnswer;
+use number::Refusal;
 use sizes::SIDE;
 
 #[derive(Clone, Copy)]
@@ -100,7 +100,13 @@ fn hard_sphere_of(z: Zetas, z23: f64, l: f64) -> f64
         / PI
 }
 
-pub fn hard_sphere(n: usize, x: &[f64], rho: &[f64], table: &[f64], m: &[f64; SIDE]) -> FloatAnswer
+pub fn hard_sphere(
+    n: usize,
+    x: &[f64],
+    rho: &[f64],
+    table: &[f64],
+    m: &[f64; SIDE],
+) -> Result<f64, Refusal>
     requires { (n ≤ side) × (length x.now ≡ n) × (length rho.now ≡ n) × (length table.now ≡ 4 * sheet) }
     ensures { let x = points floats x.entry.now in
         let rho = points floats rho.entry.now in
@@ -109,9 +115,7 @@ pub fn hard_sphere(n: usize, x: &[f64], rho: &[f64], table: &[f64], m: &[f64; SI
         answer result ≡ hard_sphere floats (calls floats port) n x rho d m }
 {
     let z = zeta(n, rho, table, m);
-    let FloatAnswer::Value(l) = elementary::ln_1p(z.z3 * (-1.0)) else {
-        return FloatAnswer::Outside;
-    };
+    let l = elementary::ln_1p(z.z3 * (-1.0))?;
     let z23 = zeta_23(n, x, table, m);
-    FloatAnswer::Value(hard_sphere_of(z, z23, l))
+    Ok(hard_sphere_of(z, z23, l))
 }

@@ -16,7 +16,7 @@ mod hard_sphere;
 mod non_additive_hs;
 mod state;
 
-use number::FloatAnswer;
+use number::Refusal;
 use saftvrqmie_parameters::{OrderRecord, SaftVRQMiePars};
 use sizes::{SHEET, SHEETS, SIDE, TABLE};
 
@@ -25,12 +25,6 @@ pub struct QuantumEnergies {
     pub hard_sphere: f64,
     pub dispersion: f64,
     pub non_additive: f64,
-}
-
-#[derive(Clone, Copy)]
-pub enum EnergiesAnswer {
-    Energies(QuantumEnergies),
-    Refused(u8),
 }
 
 fn all_finite(e: QuantumEnergies) -> bool
@@ -72,20 +66,18 @@ pub fn energies_of(
     densities: &[f64],
     table: &[f64],
     non_additive: bool,
-) -> EnergiesAnswer
+) -> Result<QuantumEnergies, Refusal>
     ensures { let set : SaftVRQMiePars = record { count = n; m = m.now; sheets = sheets.now; orders = orders } in
         energies_answer result ≡ energies set temperature fractions.now densities.now table.now non_additive }
 {
     if !right_lengths(n, fractions, densities, table) {
-        return EnergiesAnswer::Refused(1);
+        return Err(Refusal::Length);
     }
     if !limits::state_within(n, temperature, fractions, densities) {
-        return EnergiesAnswer::Refused(2);
+        return Err(Refusal::Limit);
     }
-    let FloatAnswer::Value(h) = hard_sphere::hard_sphere(n, fractions, densities, table, m) else {
-        return EnergiesAnswer::Refused(6);
-    };
-    let FloatAnswer::Value(d) = dispersion::dispersion(
+    let h = hard_sphere::hard_sphere(n, fractions, densities, table, m)?;
+    let d = dispersion::dispersion(
         n,
         m,
         sheets,
@@ -94,9 +86,7 @@ pub fn energies_of(
         fractions,
         densities,
         table,
-    ) else {
-        return EnergiesAnswer::Refused(6);
-    };
+    )?;
     let a = wanted_part(n, densities, m, table, non_additive);
     let e = QuantumEnergies {
         hard_sphere: h,
@@ -104,9 +94,9 @@ pub fn energies_of(
         non_additive: a,
     };
     if !all_finite(e) {
-        return EnergiesAnswer::Refused(7);
+        return Err(Refusal::NotFinite);
     }
-    EnergiesAnswer::Energies(e)
+    Ok(e)
 }
 
 pub fn helmholtz_energy_densities(
@@ -116,7 +106,7 @@ pub fn helmholtz_energy_densities(
     densities: &[f64],
     table: &[f64],
     non_additive: bool,
-) -> EnergiesAnswer
+) -> Result<QuantumEnergies, Refusal>
     ensures { energies_answer result ≡ energies set temperature fractions.now densities.now table.now non_additive }
 {
     let m = set.m;

@@ -1,6 +1,8 @@
 -- The quantum energies as a two-ended operation: the float operation's refusals in its order, then 8, then the ends of each contribution.
-use Rattle.std.specs.Prelude.{Float, List, Bool, ◌&&◌}
-use Rattle.number.specs.Ans.{Ans, held, refused, ◌>>=◌, demand}
+use Rattle.std.specs.Prelude.{Float, List, Bool, ◌&&◌, Result}
+use Rattle.number.specs.declared.refusal.Refusal.{Refusal}
+use Rattle.number.specs.Answer.{answer_by}
+use Rattle.number.specs.Ans.{Ans, held, ◌>>=◌, demand}
 use Rattle.number.specs.Functions.{Answers, calls}
 use Rattle.enclosure.specs.declared.Enclosure.{Enclosure}
 use Rattle.enclosure.specs.declared.Ends.{Ends}
@@ -9,28 +11,21 @@ use Rattle.enclosure.specs.Ends.{ends_in}
 use Rattle.saftvrqmie_parameters.specs.declared.SaftVRQMiePars.{SaftVRQMiePars}
 use Rattle.saftvrqmie_energies.specs.Energies.{EnergiesIn, contributions_of, energies_by}
 use Rattle.saftvrqmie_energies_ends.specs.declared.EnergiesEnds.{EnergiesEnds}
-use Rattle.saftvrqmie_energies_ends.specs.declared.EnergiesEndsAnswer.{EnergiesEndsAnswer}
-use Rattle.saftvrqmie_energies_ends.specs.declared.EnergiesEndsAnswer.TheVariants.{Held, Refused}
 use Rattle.saftvrqmie_energies_ends.specs.declared.EnergiesEnclosures.{EnergiesEnclosures}
-use Rattle.saftvrqmie_energies_ends.specs.declared.EnclosuresAnswer.{EnclosuresAnswer}
-use Rattle.saftvrqmie_energies_ends.specs.declared.EnclosuresAnswer.TheVariants as Enclosed
 
 -- the ends of the three contributions, as the code's struct holds them
 abbrev pub ends_each : EnergiesEnds → EnergiesIn Ends
 ends_each e = record { hard_sphere = e.hard_sphere; dispersion = e.dispersion; non_additive = e.non_additive }
 
--- document 01's number or values of each case of `EnergiesEndsAnswer`
-abbrev pub energies_ends_answer : EnergiesEndsAnswer → Ans (EnergiesIn Ends)
-energies_ends_answer (Held e) = held (ends_each e)
-energies_ends_answer (Refused n) = refused n
+abbrev pub energies_ends_answer : Result EnergiesEnds Refusal → Ans (EnergiesIn Ends)
+energies_ends_answer = answer_by ends_each
 
--- the enclosures of the three, and the number or values of each case of `EnclosuresAnswer`
+-- the enclosures of the three
 abbrev pub enclosures_each : EnergiesEnclosures → EnergiesIn Enclosure
 enclosures_each e = record { hard_sphere = e.hard_sphere; dispersion = e.dispersion; non_additive = e.non_additive }
 
-abbrev pub enclosures_answer : EnclosuresAnswer → Ans (EnergiesIn Enclosure)
-enclosures_answer (Enclosed.Held e) = held (enclosures_each e)
-enclosures_answer (Enclosed.Refused n) = refused n
+abbrev pub enclosures_answer : Result EnergiesEnclosures Refusal → Ans (EnergiesIn Enclosure)
+enclosures_answer = answer_by enclosures_each
 
 abbrev pub together : {N : Type 0} → N → N → N → EnergiesIn N
 together h d a = record { hard_sphere = h; dispersion = d; non_additive = a }

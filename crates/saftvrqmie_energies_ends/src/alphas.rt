@@ -6,13 +6,15 @@ ghost use Rattle.sizes.specs.Sizes.{side, sheet};
 ghost use Rattle.elementary.specs.Port.{port};
 ghost use Rattle.enclosure.specs.Enclosure.{enclosures};
 ghost use Rattle.number.specs.Lists.{nth};
-ghost use Rattle.saftvrqmie_energies.specs.State.{held_or6, sheets_of_state};
+ghost use Rattle.mie_parameters.specs.Answer.{outcome};
+ghost use Rattle.saftvrqmie_energies.specs.State.{sheets_of_state};
 ghost use Rattle.saftvrqmie_energies.specs.Dispersion.{alpha_row, alphas};
 ghost use Rattle.saftvrqmie_energies_ends.specs.Parts.{AlphasLent, Whole, alphas_in};
 
 use crate::state;
-use enclosure::{Enclosure, EnclosureAnswer};
+use enclosure::Enclosure;
 use interval::Interval;
+use number::Refusal;
 use saftvrqmie_parameters::OrderRecord;
 use sizes::{SHEET, SHEETS, SIDE};
 
@@ -61,7 +63,7 @@ fn store(
     sound[e] = ends.sound;
 }
 
-// `Alpha::new` of a row, written over what stands: whether each power was inside.
+// `Alpha::new` of a row, written over what stands.
 fn alpha_row(
     n: usize,
     sheets: &[f64; SHEETS],
@@ -73,14 +75,14 @@ fn alpha_row(
     lower: &mut [f64; SHEET],
     upper: &mut [f64; SHEET],
     sound: &mut [bool; SHEET],
-) -> bool
+) -> Result<(), Refusal>
     requires { (n ≤ side) × (length table.now ≡ 4 * sheet) × (i < n) × Whole (record { values = values.now; lower = lower.old; upper = upper.old; sound = sound.old }) }
     ensures { let old : AlphasLent =
         record { values = values.entry.now; lower = lower.old; upper = upper.old; sound = sound.old } in
         let new : AlphasLent =
         record { values = values.exit.now; lower = lower.new; upper = upper.new; sound = sound.new } in
         let s = sheets_of_state enclosures n sheets.now orders t table.now in
-        (held_or6 result (alphas_in new) ≡ alpha_row enclosures (calls enclosures port) s i (alphas_in old)) × Whole new }
+        (outcome result (alphas_in new) ≡ alpha_row enclosures (calls enclosures port) s i (alphas_in old)) × Whole new }
 {
     for k in 0usize..n - i {
         let e = SIDE * i + (i + k);
@@ -88,13 +90,11 @@ fn alpha_row(
         let pair = saftvrqmie_potential_ends::pair_at(sheets, orders, t, e);
         let s = state::entry_of(table, 0, e);
         let depth = state::entry_of(table, 2, e);
-        let EnclosureAnswer::Value(a) = saftvrqmie_alpha_ends::alpha_ij(pair, s, depth) else {
-            return false;
-        };
+        let a = saftvrqmie_alpha_ends::alpha_ij(pair, s, depth)?;
         store(values, lower, upper, sound, e, a);
         store(values, lower, upper, sound, mirrored, a);
     }
-    true
+    Ok(())
 }
 
 // Over a sheet of zeros.
@@ -108,19 +108,17 @@ pub fn alphas(
     lower: &mut [f64; SHEET],
     upper: &mut [f64; SHEET],
     sound: &mut [bool; SHEET],
-) -> bool
+) -> Result<(), Refusal>
     requires { (n ≤ side) × (length table.now ≡ 4 * sheet)
         × (alphas_in (record { values = values.now; lower = lower.old; upper = upper.old; sound = sound.old }) ≡ replicate sheet (whole enclosures 0))
         × Whole (record { values = values.now; lower = lower.old; upper = upper.old; sound = sound.old }) }
     ensures { let new : AlphasLent =
         record { values = values.exit.now; lower = lower.new; upper = upper.new; sound = sound.new } in
         let s = sheets_of_state enclosures n sheets.now orders t table.now in
-        (held_or6 result (alphas_in new) ≡ alphas enclosures (calls enclosures port) s) × Whole new }
+        (outcome result (alphas_in new) ≡ alphas enclosures (calls enclosures port) s) × Whole new }
 {
     for i in 0usize..n {
-        if !alpha_row(n, sheets, orders, t, table, i, values, lower, upper, sound) {
-            return false;
-        }
+        alpha_row(n, sheets, orders, t, table, i, values, lower, upper, sound)?;
     }
-    true
+    Ok(())
 }

@@ -4,7 +4,7 @@ ghost use Rattle.number.specs.Arith.{whole};
 ghost use Rattle.number.specs.Functions.{calls};
 ghost use Rattle.sizes.specs.Sizes.{side, sheet};
 ghost use Rattle.elementary.specs.Port.{port};
-ghost use Rattle.enclosure.specs.Answer.{answer};
+ghost use Rattle.number.specs.Answer.{answer};
 ghost use Rattle.enclosure.specs.Enclosure.{enclosures, point};
 ghost use Rattle.saftvrqmie_dispersion.specs.Perturbation.{dispersion_pair};
 ghost use Rattle.number.specs.Lists.{nth};
@@ -16,7 +16,8 @@ ghost use Rattle.saftvrqmie_dispersion_ends.specs.Pair.{dispersion_in};
 ghost use Rattle.saftvrqmie_energies_ends.specs.Parts.{AlphasLent, Whole, alphas_in, mixture_in};
 
 use crate::{alphas, state};
-use enclosure::{Enclosure, EnclosureAnswer};
+use enclosure::Enclosure;
+use number::Refusal;
 use saftvrqmie_dispersion_ends::DispersionEnclosures;
 use saftvrqmie_parameters::OrderRecord;
 use sizes::{SHEET, SHEETS, SIDE};
@@ -33,14 +34,14 @@ fn inv_x_s_sum(n: usize, x: &[f64], m: &[f64; SIDE]) -> Enclosure
     requires { (n ≤ side) × (length x.now ≡ n) }
     ensures { result ≡ inv_xs_sum enclosures n (points enclosures x.now) (points enclosures m.now) }
 {
-    let one = enclosure::point(1.0);
-    let mut r = enclosure::point(0.0);
+    let one = Enclosure::point(1.0);
+    let mut r = Enclosure::point(0.0);
     for i in 0usize..n {
-        let a = enclosure::point(x[i]);
-        let b = enclosure::point(m[i]);
+        let a = Enclosure::point(x[i]);
+        let b = Enclosure::point(m[i]);
         r = state::plus_product(r, a, b);
     }
-    enclosure::div(one, r)
+    one / r
 }
 
 // x_s of the dispersion.
@@ -49,12 +50,12 @@ fn segment_fractions(n: usize, x: &[f64], m: &[f64; SIDE]) -> [Enclosure; SIDE]
     ensures { result ≡ segment_fractions enclosures n (points enclosures x.now) (points enclosures m.now) }
 {
     let inv = inv_x_s_sum(n, x, m);
-    let zero = enclosure::point(0.0);
+    let zero = Enclosure::point(0.0);
     let mut xs = [zero; SIDE];
     for i in 0usize..n {
-        let a = enclosure::point(x[i]);
-        let b = enclosure::point(m[i]);
-        let p = enclosure::mul(enclosure::mul(a, b), inv);
+        let a = Enclosure::point(x[i]);
+        let b = Enclosure::point(m[i]);
+        let p = a * b * inv;
         xs[i] = p;
     }
     xs
@@ -76,8 +77,8 @@ fn packing_row(
         let d = state::entry_of(table, k, SIDE * i + j);
         let xi = state::at_component(xs, i);
         let xj = state::at_component(xs, j);
-        let x = enclosure::mul(xi, xj);
-        r = state::plus_product(r, x, enclosure::pow_up(d, 3));
+        let x = xi * xj;
+        r = state::plus_product(r, x, d.pow_up(3));
     }
     r
 }
@@ -87,12 +88,12 @@ fn packing(n: usize, xs: [Enclosure; SIDE], table: &[f64], k: usize, rho_s: Encl
     requires { (n ≤ side) × (length table.now ≡ 4 * sheet) × (k < 2) }
     ensures { result ≡ packing enclosures (calls enclosures port) n (nth enclosures xs) (sheet_of enclosures table.now k) rho_s }
 {
-    let c = enclosure::frac_pi_6();
-    let mut r = enclosure::point(0.0);
+    let c = Enclosure::frac_pi_6();
+    let mut r = Enclosure::point(0.0);
     for i in 0usize..n {
         r = packing_row(n, xs, table, k, i, r);
     }
-    enclosure::mul(enclosure::mul(r, c), rho_s)
+    r * c * rho_s
 }
 
 fn mixture(
@@ -122,11 +123,11 @@ fn mixture(
 fn perturbation(temperature: Enclosure, a1: Enclosure, a2: Enclosure, a3: Enclosure) -> Enclosure
     ensures { result ≡ orders_sum enclosures (recip enclosures temperature) a1 a2 a3 }
 {
-    let one = enclosure::point(1.0);
-    let inv_t = enclosure::div(one, temperature);
-    let a = enclosure::mul(a1, inv_t);
-    let b = state::plus_product(a, a2, enclosure::pow_up(inv_t, 2));
-    state::plus_product(b, a3, enclosure::pow_up(inv_t, 3))
+    let one = Enclosure::point(1.0);
+    let inv_t = one / temperature;
+    let a = a1 * inv_t;
+    let b = state::plus_product(a, a2, inv_t.pow_up(2));
+    state::plus_product(b, a3, inv_t.pow_up(3))
 }
 
 // 1.0 on the diagonal, else 2.0.
@@ -134,9 +135,9 @@ fn fac(i: usize, j: usize) -> Enclosure
     ensures { result ≡ cond (eqb i j) (whole enclosures 1) (whole enclosures 2) }
 {
     if i == j {
-        return enclosure::point(1.0);
+        return Enclosure::point(1.0);
     }
-    enclosure::point(2.0)
+    Enclosure::point(2.0)
 }
 
 fn lead(
@@ -149,12 +150,9 @@ fn lead(
 ) -> Enclosure
     ensures { result ≡ lead enclosures (calls enclosures port) i j xi xj rho_s d }
 {
-    let c = enclosure::frac_pi_6();
-    let x = enclosure::mul(enclosure::mul(xi, xj), fac(i, j));
-    enclosure::mul(
-        enclosure::mul(enclosure::mul(x, c), rho_s),
-        enclosure::pow_up(d, 3),
-    )
+    let c = Enclosure::frac_pi_6();
+    let x = xi * xj * fac(i, j);
+    x * c * rho_s * d.pow_up(3)
 }
 
 // What both perturbations of the pair at entry e take.
@@ -190,7 +188,7 @@ fn first_row(
     w: MixtureEnclosures,
     i: usize,
     sum: Enclosure,
-) -> EnclosureAnswer
+) -> Result<Enclosure, Refusal>
     requires { (n ≤ side) × (length table.now ≡ 4 * sheet) × (i < n) }
     ensures { let s = sheets_of_state enclosures n sheets.now orders t table.now in
         answer result ≡ first_row enclosures (calls enclosures port) s (nth enclosures xs) (mixture_in w) i sum }
@@ -199,18 +197,14 @@ fn first_row(
     for k in 0usize..n - i {
         let e = SIDE * i + (i + k);
         let pair = perturbed_pair(sheets, orders, t, table, w, e);
-        let EnclosureAnswer::Value(v) = saftvrqmie_dispersion_ends::first_order_perturbation_ij(
-            pair,
-        ) else {
-            return EnclosureAnswer::Outside;
-        };
+        let v = saftvrqmie_dispersion_ends::first_order_perturbation_ij(pair)?;
         let d = state::entry_of(table, 1, e);
         let xi = state::at_component(xs, i);
         let xj = state::at_component(xs, i + k);
         let c = lead(i, i + k, xi, xj, w.rho_s, d);
         a1 = state::plus_product(a1, c, v);
     }
-    EnclosureAnswer::Value(a1)
+    Ok(a1)
 }
 
 fn first(
@@ -221,20 +215,17 @@ fn first(
     table: &[f64],
     xs: [Enclosure; SIDE],
     w: MixtureEnclosures,
-) -> EnclosureAnswer
+) -> Result<Enclosure, Refusal>
     requires { (n ≤ side) × (length table.now ≡ 4 * sheet) }
     ensures { let s = sheets_of_state enclosures n sheets.now orders t table.now in
         answer result ≡ first enclosures (calls enclosures port) s (nth enclosures xs) (mixture_in w) }
 {
-    let mut a1 = enclosure::point(0.0);
+    let mut a1 = Enclosure::point(0.0);
     for i in 0usize..n {
-        let EnclosureAnswer::Value(next) = first_row(n, sheets, orders, t, table, xs, w, i, a1)
-        else {
-            return EnclosureAnswer::Outside;
-        };
+        let next = first_row(n, sheets, orders, t, table, xs, w, i, a1)?;
         a1 = next;
     }
-    EnclosureAnswer::Value(a1)
+    Ok(a1)
 }
 
 fn second_row(
@@ -251,7 +242,7 @@ fn second_row(
     sound: &[bool; SHEET],
     i: usize,
     sum: Enclosure,
-) -> EnclosureAnswer
+) -> Result<Enclosure, Refusal>
     requires { (n ≤ side) × (length table.now ≡ 4 * sheet) × (i < n)
         × Whole (record { values = values.now; lower = lower.now; upper = upper.now; sound = sound.now }) }
     ensures { let l : AlphasLent =
@@ -259,26 +250,22 @@ fn second_row(
         let s = sheets_of_state enclosures n sheets.now orders t table.now in
         answer result ≡ second_row enclosures (calls enclosures port) s (nth enclosures xs) (mixture_in w) (nth enclosures (alphas_in l)) i sum }
 {
-    let one = enclosure::point(1.0);
+    let one = Enclosure::point(1.0);
     let mut a2 = sum;
     for k in 0usize..n - i {
         let e = SIDE * i + (i + k);
         let pair = perturbed_pair(sheets, orders, t, table, w, e);
-        let EnclosureAnswer::Value(v) = saftvrqmie_dispersion_ends::second_order_perturbation_ij(
-            pair,
-        ) else {
-            return EnclosureAnswer::Outside;
-        };
+        let v = saftvrqmie_dispersion_ends::second_order_perturbation_ij(pair)?;
         let d = state::entry_of(table, 1, e);
         let a = alphas::alpha_at(values, lower, upper, sound, e);
         let chi = saftvrqmie_alpha_ends::chi(a, w.zeta_bar);
         let xi = state::at_component(xs, i);
         let xj = state::at_component(xs, i + k);
         let c = lead(i, i + k, xi, xj, w.rho_s, d);
-        let f = enclosure::mul(c, enclosure::add(chi, one));
+        let f = c * (chi + one);
         a2 = state::plus_product(a2, f, v);
     }
-    EnclosureAnswer::Value(a2)
+    Ok(a2)
 }
 
 fn second(
@@ -293,7 +280,7 @@ fn second(
     lower: &[f64; SHEET],
     upper: &[f64; SHEET],
     sound: &[bool; SHEET],
-) -> EnclosureAnswer
+) -> Result<Enclosure, Refusal>
     requires { (n ≤ side) × (length table.now ≡ 4 * sheet)
         × Whole (record { values = values.now; lower = lower.now; upper = upper.now; sound = sound.now }) }
     ensures { let l : AlphasLent =
@@ -301,17 +288,15 @@ fn second(
         let s = sheets_of_state enclosures n sheets.now orders t table.now in
         answer result ≡ second enclosures (calls enclosures port) s (nth enclosures xs) (mixture_in w) (nth enclosures (alphas_in l)) }
 {
-    let mut a2 = enclosure::point(0.0);
+    let mut a2 = Enclosure::point(0.0);
     for i in 0usize..n {
-        let EnclosureAnswer::Value(next) = second_row(
+        let next = second_row(
             n, sheets, orders, t, table, xs, w, values, lower, upper, sound, i, a2,
-        ) else {
-            return EnclosureAnswer::Outside;
-        };
+        )?;
         a2 = next;
     }
     let k = saftvrqmie_dispersion_ends::k(w.zeta);
-    EnclosureAnswer::Value(enclosure::mul(a2, k))
+    Ok(a2 * k)
 }
 
 fn third_row(
@@ -325,7 +310,7 @@ fn third_row(
     sound: &[bool; SHEET],
     i: usize,
     sum: Enclosure,
-) -> EnclosureAnswer
+) -> Result<Enclosure, Refusal>
     requires { (n ≤ side) × (length table.now ≡ 4 * sheet) × (i < n)
         × Whole (record { values = values.now; lower = lower.now; upper = upper.now; sound = sound.now }) }
     ensures { let l : AlphasLent =
@@ -338,17 +323,13 @@ fn third_row(
         let e = SIDE * i + j;
         let depth = state::entry_of(table, 2, e);
         let a = alphas::alpha_at(values, lower, upper, sound, e);
-        let EnclosureAnswer::Value(v) = saftvrqmie_alpha_ends::third_order_perturbation_ij(
-            depth, a, zeta_bar,
-        ) else {
-            return EnclosureAnswer::Outside;
-        };
+        let v = saftvrqmie_alpha_ends::third_order_perturbation_ij(depth, a, zeta_bar)?;
         let xi = state::at_component(xs, i);
         let xj = state::at_component(xs, j);
-        let c = enclosure::mul(xi, xj);
+        let c = xi * xj;
         a3 = state::plus_product(a3, c, v);
     }
-    EnclosureAnswer::Value(a3)
+    Ok(a3)
 }
 
 fn third(
@@ -360,7 +341,7 @@ fn third(
     lower: &[f64; SHEET],
     upper: &[f64; SHEET],
     sound: &[bool; SHEET],
-) -> EnclosureAnswer
+) -> Result<Enclosure, Refusal>
     requires { (n ≤ side) × (length table.now ≡ 4 * sheet)
         × Whole (record { values = values.now; lower = lower.now; upper = upper.now; sound = sound.now }) }
     ensures { let l : AlphasLent =
@@ -368,16 +349,12 @@ fn third(
         let epsilon_k_eff = sheet_of enclosures table.now 2 in
         answer result ≡ third enclosures (calls enclosures port) n epsilon_k_eff (nth enclosures xs) zeta_bar (nth enclosures (alphas_in l)) }
 {
-    let mut a3 = enclosure::point(0.0);
+    let mut a3 = Enclosure::point(0.0);
     for i in 0usize..n {
-        let EnclosureAnswer::Value(next) = third_row(
-            n, table, xs, zeta_bar, values, lower, upper, sound, i, a3,
-        ) else {
-            return EnclosureAnswer::Outside;
-        };
+        let next = third_row(n, table, xs, zeta_bar, values, lower, upper, sound, i, a3)?;
         a3 = next;
     }
-    EnclosureAnswer::Value(a3)
+    Ok(a3)
 }
 
 pub fn dispersion(
@@ -389,7 +366,7 @@ pub fn dispersion(
     x: &[f64],
     rho: &[f64],
     table: &[f64],
-) -> EnclosureAnswer
+) -> Result<Enclosure, Refusal>
     requires { (n ≤ side) × (length table.now ≡ 4 * sheet) × (length x.now ≡ n) × (length rho.now ≡ n) }
     ensures { let s = sheets_of_state enclosures n sheets.now orders t table.now in
         let x = points enclosures x.entry.now in
@@ -403,7 +380,7 @@ pub fn dispersion(
     let mut lower = [0.0; SHEET];
     let mut upper = [0.0; SHEET];
     let mut sound = [true; SHEET];
-    if !alphas::alphas(
+    alphas::alphas(
         n,
         sheets,
         orders,
@@ -413,23 +390,13 @@ pub fn dispersion(
         &mut lower,
         &mut upper,
         &mut sound,
-    ) {
-        return EnclosureAnswer::Outside;
-    }
-    let EnclosureAnswer::Value(a1) = first(n, sheets, orders, t, table, xs, w) else {
-        return EnclosureAnswer::Outside;
-    };
-    let EnclosureAnswer::Value(a2) = second(
+    )?;
+    let a1 = first(n, sheets, orders, t, table, xs, w)?;
+    let a2 = second(
         n, sheets, orders, t, table, xs, w, &values, &lower, &upper, &sound,
-    ) else {
-        return EnclosureAnswer::Outside;
-    };
-    let EnclosureAnswer::Value(a3) = third(
-        n, table, xs, w.zeta_bar, &values, &lower, &upper, &sound,
-    ) else {
-        return EnclosureAnswer::Outside;
-    };
+    )?;
+    let a3 = third(n, table, xs, w.zeta_bar, &values, &lower, &upper, &sound)?;
     let n_s = state::segment_density(n, rho, m);
-    let p = enclosure::point(t);
-    EnclosureAnswer::Value(enclosure::mul(n_s, perturbation(p, a1, a2, a3)))
+    let p = Enclosure::point(t);
+    Ok(n_s * perturbation(p, a1, a2, a3))
 }

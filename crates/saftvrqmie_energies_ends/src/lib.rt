@@ -22,7 +22,8 @@ mod non_additive_hs;
 mod state;
 
 use crate::hard_sphere::ZetaEnclosures;
-use enclosure::{Enclosure, EnclosureAnswer, Ends};
+use enclosure::{Enclosure, Ends};
+use number::Refusal;
 use saftvrqmie_parameters::{OrderRecord, SaftVRQMiePars};
 use sizes::{SHEET, SHEETS, SIDE};
 
@@ -34,24 +35,12 @@ pub struct EnergiesEnds {
     pub non_additive: Ends,
 }
 
-#[derive(Clone, Copy)]
-pub enum EnergiesEndsAnswer {
-    Held(EnergiesEnds),
-    Refused(u8),
-}
-
 // Each contribution of the two-ended run, sound or not.
 #[derive(Clone, Copy)]
 pub struct EnergiesEnclosures {
     pub hard_sphere: Enclosure,
     pub dispersion: Enclosure,
     pub non_additive: Enclosure,
-}
-
-#[derive(Clone, Copy)]
-pub enum EnclosuresAnswer {
-    Held(EnergiesEnclosures),
-    Refused(u8),
 }
 
 // Not wanted: +0, and nothing of it is worked.
@@ -70,7 +59,7 @@ fn wanted_part(
         result ≡ cond wanted (non_additive enclosures (calls enclosures port) n rho m hs_diameter) (point zero64) }
 {
     if !wanted {
-        return enclosure::point(0.0);
+        return Enclosure::point(0.0);
     }
     non_additive_hs::non_additive(n, rho, m, table, z)
 }
@@ -111,21 +100,19 @@ pub fn enclosures_of(
     densities: &[f64],
     table: &[f64],
     non_additive: bool,
-) -> EnclosuresAnswer
+) -> Result<EnergiesEnclosures, Refusal>
     ensures { let set : SaftVRQMiePars = record { count = n; m = m.now; sheets = sheets.now; orders = orders } in
         enclosures_answer result ≡ energies_enclosed port set temperature fractions.now densities.now table.now non_additive }
 {
     if !saftvrqmie_energies::right_lengths(n, fractions, densities, table) {
-        return EnclosuresAnswer::Refused(1);
+        return Err(Refusal::Length);
     }
     if !limits::state_within(n, temperature, fractions, densities) {
-        return EnclosuresAnswer::Refused(2);
+        return Err(Refusal::Limit);
     }
     let z = hard_sphere::zeta(n, densities, table, m);
-    let EnclosureAnswer::Value(h) = hard_sphere::hard_sphere(n, fractions, table, m, z) else {
-        return EnclosuresAnswer::Refused(6);
-    };
-    let EnclosureAnswer::Value(d) = dispersion::dispersion(
+    let h = hard_sphere::hard_sphere(n, fractions, table, m, z)?;
+    let d = dispersion::dispersion(
         n,
         m,
         sheets,
@@ -134,14 +121,12 @@ pub fn enclosures_of(
         fractions,
         densities,
         table,
-    ) else {
-        return EnclosuresAnswer::Refused(6);
-    };
+    )?;
     let a = wanted_part(n, densities, m, table, z, non_additive);
     if !all_finite(h, d, a) {
-        return EnclosuresAnswer::Refused(7);
+        return Err(Refusal::NotFinite);
     }
-    EnclosuresAnswer::Held(EnergiesEnclosures {
+    Ok(EnergiesEnclosures {
         hard_sphere: h,
         dispersion: d,
         non_additive: a,
@@ -149,16 +134,16 @@ pub fn enclosures_of(
 }
 
 // 8 where a contribution's enclosure is not sound, else the ends of each.
-pub fn sound_ends(e: EnergiesEnclosures) -> EnergiesEndsAnswer
+pub fn sound_ends(e: EnergiesEnclosures) -> Result<EnergiesEnds, Refusal>
     ensures { energies_ends_answer result ≡ sound_ends (enclosures_each e) }
 {
     let h = e.hard_sphere;
     let d = e.dispersion;
     let a = e.non_additive;
     if !all_sound(h, d, a) {
-        return EnergiesEndsAnswer::Refused(8);
+        return Err(Refusal::Unsound);
     }
-    EnergiesEndsAnswer::Held(EnergiesEnds {
+    Ok(EnergiesEnds {
         hard_sphere: ends_in(h),
         dispersion: ends_in(d),
         non_additive: ends_in(a),
@@ -176,7 +161,7 @@ pub fn energies_ends_of(
     densities: &[f64],
     table: &[f64],
     non_additive: bool,
-) -> EnergiesEndsAnswer
+) -> Result<EnergiesEnds, Refusal>
     ensures { let set : SaftVRQMiePars = record { count = n; m = m.now; sheets = sheets.now; orders = orders } in
         energies_ends_answer result ≡ energies_ends port set temperature fractions.now densities.now table.now non_additive }
 {
@@ -192,8 +177,8 @@ pub fn energies_ends_of(
         non_additive,
     );
     match worked {
-        EnclosuresAnswer::Refused(k) => EnergiesEndsAnswer::Refused(k),
-        EnclosuresAnswer::Held(e) => sound_ends(e),
+        Err(k) => Err(k),
+        Ok(e) => sound_ends(e),
     }
 }
 
@@ -204,7 +189,7 @@ pub fn helmholtz_energy_densities_ends(
     densities: &[f64],
     table: &[f64],
     non_additive: bool,
-) -> EnergiesEndsAnswer
+) -> Result<EnergiesEnds, Refusal>
     ensures { energies_ends_answer result ≡ energies_ends port set temperature fractions.now densities.now table.now non_additive }
 {
     let m = set.m;

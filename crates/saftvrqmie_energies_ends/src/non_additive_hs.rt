@@ -17,12 +17,12 @@ use sizes::SIDE;
 fn g_hs(di: Enclosure, dj: Enclosure, z2: Enclosure, f: Enclosure) -> Enclosure
     ensures { result ≡ g_hs enclosures di dj z2 f }
 {
-    let mu = enclosure::div(enclosure::mul(di, dj), enclosure::add(di, dj));
-    let three = enclosure::point(3.0);
-    let two = enclosure::point(2.0);
-    let mz = enclosure::mul(mu, z2);
-    let a = enclosure::mul(mz, enclosure::pow_up(f, 2));
-    let b = enclosure::mul(enclosure::pow_up(mz, 2), enclosure::pow_up(f, 3));
+    let mu = di * dj / (di + dj);
+    let three = Enclosure::point(3.0);
+    let two = Enclosure::point(2.0);
+    let mz = mu * z2;
+    let a = mz * f.pow_up(2);
+    let b = mz.pow_up(2) * f.pow_up(3);
     state::plus_product(state::plus_product(f, a, three), b, two)
 }
 
@@ -38,17 +38,14 @@ fn non_additive_ij(
 ) -> Enclosure
     ensures { result ≡ non_additive_ij enclosures (calls enclosures port) rho_s xi xj di dj dij z2 f }
 {
-    let half = enclosure::point(0.5);
-    let two = enclosure::point(2.0);
-    let pi = enclosure::pi();
-    let a = enclosure::mul(enclosure::add(di, dj), half);
+    let half = Enclosure::point(0.5);
+    let two = Enclosure::point(2.0);
+    let pi = Enclosure::pi();
+    let a = (di + dj) * half;
     let g = g_hs(di, dj, z2, f);
-    let x = enclosure::mul(enclosure::mul(enclosure::neg(rho_s), xi), xj);
-    let y = enclosure::mul(enclosure::mul(x, enclosure::pow_up(a, 2)), g);
-    enclosure::mul(
-        enclosure::mul(enclosure::mul(y, enclosure::sub(a, dij)), two),
-        pi,
-    )
+    let x = -rho_s * xi * xj;
+    let y = x * a.pow_up(2) * g;
+    y * (a - dij) * two * pi
 }
 
 // x_s of the non-additive part.
@@ -58,12 +55,12 @@ fn density_shares(n: usize, rho_s: Enclosure, rho: &[f64], m: &[f64; SIDE]) -> [
         let m = points enclosures m.entry.now in
         result ≡ density_shares enclosures (calls enclosures port) n rho_s rho m }
 {
-    let zero = enclosure::point(0.0);
+    let zero = Enclosure::point(0.0);
     let mut x = [zero; SIDE];
     for i in 0usize..n {
-        let a = enclosure::point(rho[i]);
-        let b = enclosure::point(m[i]);
-        let p = enclosure::div(enclosure::mul(a, b), rho_s);
+        let a = Enclosure::point(rho[i]);
+        let b = Enclosure::point(m[i]);
+        let p = a * b / rho_s;
         x[i] = p;
     }
     x
@@ -91,7 +88,7 @@ fn non_additive_column(
         let xi = state::at_component(xs, i);
         let xj = state::at_component(xs, j);
         let v = non_additive_ij(rho_s, xi, xj, di, dj, dij, z2, f);
-        r = enclosure::add(r, v);
+        r = r + v;
     }
     r
 }
@@ -108,7 +105,7 @@ fn non_additive_sum(
     ensures { let hs_diameter = sheet_of enclosures table.now 1 in
         result ≡ non_additive_sum enclosures (calls enclosures port) n (nth enclosures xs) hs_diameter rho_s z2 f }
 {
-    let mut r = enclosure::point(0.0);
+    let mut r = Enclosure::point(0.0);
     for j in 0usize..n {
         r = non_additive_column(n, xs, table, rho_s, z2, f, j, r);
     }
@@ -132,5 +129,5 @@ pub fn non_additive(
     let rho_s = state::segment_density(n, rho, m);
     let xs = density_shares(n, rho_s, rho, m);
     let v = non_additive_sum(n, xs, table, rho_s, z.z2, f);
-    enclosure::after(z.z0, enclosure::after(z.z1, enclosure::mul(rho_s, v)))
+    (rho_s * v).after(z.z1).after(z.z0)
 }

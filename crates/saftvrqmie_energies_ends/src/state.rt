@@ -13,7 +13,7 @@ use sizes::{SHEET, SIDE};
 pub fn plus_product(sum: Enclosure, x: Enclosure, y: Enclosure) -> Enclosure
     ensures { result ≡ add_e sum (mul_e x y) }
 {
-    enclosure::add(sum, enclosure::mul(x, y))
+    sum + x * y
 }
 
 // Entry e of sheet k of a table, as a point.
@@ -21,7 +21,7 @@ pub fn entry_of(table: &[f64], k: usize, e: usize) -> Enclosure
     requires { (k < 4) × (e < sheet) × (length table.now ≡ 4 * sheet) }
     ensures { result ≡ sheet_of enclosures table.now k e }
 {
-    enclosure::point(table[k * SHEET + e])
+    Enclosure::point(table[k * SHEET + e])
 }
 
 // Entry i of an array; beyond it is not read.
@@ -43,10 +43,10 @@ pub fn segment_density(n: usize, rho: &[f64], m: &[f64; SIDE]) -> Enclosure
     requires { (n ≤ side) × (length rho.now ≡ n) }
     ensures { result ≡ weighted enclosures n (points enclosures rho.now) (points enclosures m.now) }
 {
-    let mut r = enclosure::point(0.0);
+    let mut r = Enclosure::point(0.0);
     for i in 0usize..n {
-        let a = enclosure::point(rho[i]);
-        let b = enclosure::point(m[i]);
+        let a = Enclosure::point(rho[i]);
+        let b = Enclosure::point(m[i]);
         r = plus_product(r, a, b);
     }
     r

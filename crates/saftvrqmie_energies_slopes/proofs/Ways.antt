@@ -17,7 +17,7 @@ use Rattle.saftvrqmie_energies.specs.HardSphere.{hard_sphere}
 use Rattle.saftvrqmie_energies.specs.NonAdditive.{non_additive}
 use Rattle.saftvrqmie_energies.specs.Dispersion.{dispersion}
 use Rattle.saftvrqmie_energies.specs.Energies.{EnergiesIn, contributions}
-use Rattle.saftvrqmie_hard_sphere_slopes_one.specs.Parts.{sloped_at, sloped_sheet}
+use Rattle.saftvrqmie_hard_sphere_slopes.specs.Parts.{sloped_at, sloped_sheet}
 use Rattle.saftvrqmie_dispersion_sums_slopes.specs.State.{sloped_sheets}
 use Rattle.saftvrqmie_energies_slopes.specs.Energies.{slopes_finite, contributions_slope, energies_slope}
 

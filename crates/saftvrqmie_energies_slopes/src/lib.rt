@@ -9,21 +9,15 @@ ghost use Rattle.saftvrqmie_parameters.specs.declared.SaftVRQMiePars.{SaftVRQMie
 ghost use Rattle.saftvrqmie_energies_slopes.specs.Energies.{energies_slopes_in, energies_slopes_answer, finite_dual, slopes_finite, energies_slope};
 
 use dual::Dual;
+use number::Refusal;
 use saftvrqmie_parameters::OrderRecord;
 use sizes::{SHEET, SHEETS, SIDE, TABLE};
-use slopes::DualAnswer;
 
 #[derive(Clone, Copy)]
 pub struct QuantumEnergiesSlopes {
     pub hard_sphere: Dual,
     pub dispersion: Dual,
     pub non_additive: Dual,
-}
-
-#[derive(Clone, Copy)]
-pub enum EnergiesSlopesAnswer {
-    Energies(QuantumEnergiesSlopes),
-    Refused(u8),
 }
 
 fn is_finite(x: Dual) -> bool
@@ -52,13 +46,13 @@ pub fn energies_of(
     table: &[f64; TABLE],
     table_slopes: &[f64; TABLE],
     non_additive: bool,
-) -> EnergiesSlopesAnswer
+) -> Result<QuantumEnergiesSlopes, Refusal>
     requires { (0 < n) × (n ≤ side) × (length x.now ≡ n) × (length x_slopes.now ≡ n) × (length rho.now ≡ n) × (length rho_slopes.now ≡ n) }
     ensures { let set : SaftVRQMiePars = record { count = n; m = m.now; sheets = sheets.now; orders = orders } in
         let run = energies_slope port set (dual_of temperature) x.now x_slopes.now rho.now rho_slopes.now in
         energies_slopes_answer result ≡ run table.now table_slopes.now non_additive }
 {
-    let DualAnswer::Value(h) = saftvrqmie_hard_sphere_slopes_one::hard_sphere(
+    let h = saftvrqmie_hard_sphere_slopes::hard_sphere(
         n,
         x,
         x_slopes,
@@ -67,10 +61,8 @@ pub fn energies_of(
         table,
         table_slopes,
         m,
-    ) else {
-        return EnergiesSlopesAnswer::Refused(6);
-    };
-    let DualAnswer::Value(d) = saftvrqmie_dispersion_sums_slopes::dispersion(
+    )?;
+    let d = saftvrqmie_dispersion_sums_slopes::dispersion(
         n,
         m,
         sheets,
@@ -82,10 +74,8 @@ pub fn energies_of(
         rho_slopes,
         table,
         table_slopes,
-    ) else {
-        return EnergiesSlopesAnswer::Refused(6);
-    };
-    let a = saftvrqmie_hard_sphere_slopes_one::wanted_part(
+    )?;
+    let a = saftvrqmie_hard_sphere_slopes::wanted_part(
         n,
         rho,
         rho_slopes,
@@ -100,7 +90,7 @@ pub fn energies_of(
         non_additive: a,
     };
     if !all_finite(e) {
-        return EnergiesSlopesAnswer::Refused(7);
+        return Err(Refusal::NotFinite);
     }
-    EnergiesSlopesAnswer::Energies(e)
+    Ok(e)
 }

@@ -1,5 +1,7 @@
 -- Sums that begin at a plain +0 and add numbers with a slope, places of a list, and the ways of both contributions. Assumes nothing.
 use Prim.Native.Nat.{ℕ, zero, suc, ◌≤◌, ◌<◌}
+use Rattle.std.specs.Prelude.{Err, Ok, Result}
+use Rattle.number.specs.declared.refusal.Refusal.{Refusal}
 use native.Mathlib.Omega.{arith}
 use native.Mathlib.Nat.{not-suc-le-zero}
 use borrow.Author.Tests.{ltb-true, ltb-false}
@@ -11,7 +13,7 @@ use mathlib.Core.Path.{◌≡◌, refl, sym, ap, ◌∙◌}
 use mathlib.Core.Bool.{Bool, true, false}
 use mathlib.Core.List.{List}
 use Rattle.number.specs.Ans.{Ans, held, ◌>>=◌}
-use Rattle.number.specs.Arith.{floats, zero64, decimal}
+use Rattle.number.specs.Arith.{Arith, floats, zero64, decimal}
 use Rattle.number.specs.Functions.{Functions}
 use Rattle.number.specs.Lists.{at, nth}
 use Rattle.number.specs.Walk.{turns}
@@ -20,15 +22,13 @@ use Rattle.elementary.specs.Port.{port}
 use Rattle.dual.specs.Dual.{DualOf, plain_d, add_d, mul_d, div_d}
 use Rattle.dual.specs.Value.{dual_of}
 use Rattle.dual.specs.declared.Dual.{Dual}
-use Rattle.slopes.specs.Mixed.{Mixed, plain, sloped, as_dual, mixed}
+use Rattle.slopes.specs.Mixed.{Mixed, plain, sloped, as_dual, mixed, mixed_one}
 use Rattle.slopes.specs.Rules.{mixed_functions}
 use Rattle.slopes.specs.Answer.{dual_answer}
-use Rattle.slopes.specs.declared.DualAnswer.{DualAnswer}
-use Rattle.slopes.specs.declared.DualAnswer.TheVariants.{Value, Outside}
 use Rattle.mie_parameters.specs.Places.{in_places}
 use Rattle.mie_parameters.specs.Sums.{weighted}
 use Rattle.saftvrqmie_energies.specs.State.{diagonal, points}
-use Rattle.saftvrqmie_energies.specs.HardSphere.{ZetaIn, Zeta23In, zeta_added, zeta, frac1mz3, zeta23_added, zeta23_sums}
+use Rattle.saftvrqmie_energies.specs.HardSphere.{ZetaIn, Zeta23In, zeta_added, zeta, frac1mz3, zeta23_added, zeta23_sums, zeta23}
 use Rattle.saftvrqmie_energies.specs.NonAdditive.{g_hs, non_additive_ij, non_additive_turn, non_additive_column, non_additive_sum, density_shares, non_additive}
 use Rattle.saftvrqmie_hard_sphere_slopes.specs.Parts.{mixed_of, mixed_answer, duals_at, FirstPlaces, sloped_at, sloped_sheet}
 
@@ -42,7 +42,7 @@ begun f s t p zero h = absurd (not-suc-le-zero h)
 begun f s t p (suc zero) h = p
 begun f s t p (suc (suc n)) h = ap (f (suc n)) (begun f s t p (suc n) (omega arith))
 
-turns_same : {S : Type 0} (n : ℕ) (f g : ℕ → S → S) (s : S) → ((j : ℕ) (x : S) → j < n → f j x ≡ g j x) → turns n f s ≡ turns n g s
+pub turns_same : {S : Type 0} (n : ℕ) (f g : ℕ → S → S) (s : S) → ((j : ℕ) (x : S) → j < n → f j x ≡ g j x) → turns n f s ≡ turns n g s
 unfolding turns
 turns_same zero f g s h = refl
 turns_same (suc n) f g s h = h n _ (omega arith) ∙ ap (g n) (turns_same n f g s (λ j x p. h j x (omega arith)))
@@ -80,7 +80,7 @@ unfolding turns
 filled_length f zero l = refl
 filled_length f (suc n) l = length-set (turns n (λ i s. set s i (f i)) l) n (f n) ∙ filled_length f n l
 
-filled : {S : Type 0} (f : ℕ → S) (z : S) (n j : ℕ) (l : List S) → j < n → n ≤ length l → get_or (turns n (λ i s. set s i (f i)) l) j z ≡ f j
+pub filled : {S : Type 0} (f : ℕ → S) (z : S) (n j : ℕ) (l : List S) → j < n → n ≤ length l → get_or (turns n (λ i s. set s i (f i)) l) j z ≡ f j
 unfolding turns
 filled f z zero j l h q = absurd (not-suc-le-zero h)
 filled f z (suc n) j l h q = either (λ k. filled f z n j l k (omega arith)) (ltb j n) refl
@@ -97,7 +97,7 @@ filled f z (suc n) j l h q = either (λ k. filled f z n j l k (omega arith)) (lt
 abbrev pub struct_of : DualOf Float → Dual
 struct_of x = record { re = x.re; eps = x.eps }
 
-back : (x : Dual) → x ≡ struct_of (dual_of x)
+pub back : (x : Dual) → x ≡ struct_of (dual_of x)
 unfolding dual_of
 back x = refl
 
@@ -131,12 +131,12 @@ module _ (n : ℕ) (rho_s : Dual) (rho rho' m : List Float) where
       ap (λ (l : List Dual). duals_at l i) p ∙ ap mixed_of (filled share_of _ n i l q (rw k h)) ∙ here i ∙ sym there
 
 -- ---- the ways
-cases : (a : DualAnswer) → mixed_answer a ≡ (dual_answer a >>= λ x. held (sloped x))
+cases : (a : Result Dual Refusal) → mixed_answer a ≡ (dual_answer a >>= λ x. held (sloped x))
 unfolding ◌>>=◌
-cases (Value x) = refl
-cases Outside = refl
+cases (Ok x) = refl
+cases (Err r) = refl
 
-pub at_mixed : (a : DualAnswer) (w : Ans (DualOf Float)) → dual_answer a ≡ w → mixed_answer a ≡ (w >>= λ x. held (sloped x))
+pub at_mixed : (a : Result Dual Refusal) (w : Ans (DualOf Float)) → dual_answer a ≡ w → mixed_answer a ≡ (w >>= λ x. held (sloped x))
 at_mixed a w p = cases a ∙ ap (λ (w : Ans (DualOf Float)). w >>= λ x. held (sloped x)) p
 
 pub plus_next : (r s a : Dual) (c : Float) (w : Mixed) → mixed_of s ≡ mixed.add (mixed_of r) (mixed.mul (mixed_of a) (plain c)) → mixed_of a ≡ w → mixed_of s ≡ mixed.add (mixed_of r) (mixed.mul w (plain c))
@@ -145,14 +145,44 @@ plus_next r s a c w p q = p ∙ ap (λ (w : Mixed). mixed.add (mixed_of r) (mixe
 pub turn_next : (r v s : Dual) (w : Mixed) → dual_of s ≡ add_d floats (dual_of r) (dual_of v) → mixed_of v ≡ w → mixed_of s ≡ mixed.add (mixed_of r) w
 turn_next r v s w p q = ap sloped p ∙ ap (λ (w : Mixed). mixed.add (mixed_of r) w) q
 
-module _ (n : ℕ) (d : ℕ → Mixed) (rho_s z2 f : Mixed) where
-  sum_same : (x y : ℕ → Mixed) → ((i : ℕ) → i < n → x i ≡ y i) → non_additive_sum mixed F n x d rho_s z2 f ≡ non_additive_sum mixed F n y d rho_s z2 f
-  unfolding non_additive_sum non_additive_column non_additive_turn
-  sum_same x y h = turns_same n _ _ _ (λ j s p. turns_same n _ _ _ (λ i r q. rw (h i q, h j p)))
+module _ (A : Arith) (G : Functions A.Num) where
+  open A use {Num, mul as ◌⊗◌, after}
 
-pub non_additive_is : (n : ℕ) (rho m d : ℕ → Mixed) (z : ZetaIn Mixed) (xs : ℕ → Mixed) (rho_s f v r : Mixed) → z ≡ zeta mixed F n rho (diagonal d) m → rho_s ≡ weighted mixed n rho m
-    → ((i : ℕ) → i < n → xs i ≡ nth mixed (density_shares mixed F n rho_s rho m) i) → f ≡ frac1mz3 mixed z.z3 → v ≡ non_additive_sum mixed F n xs d rho_s z.z2 f → r ≡ mixed.mul rho_s v → r ≡ non_additive mixed F n rho m d
-unfolding non_additive
-non_additive_is n rho m d z xs rho_s f v r is-z is-rho are-xs is_f is-v is-r =
-    let e = is-r ∙ ap (λ (w : Mixed). mixed.mul rho_s w) (is-v ∙ sum_same n d rho_s z.z2 f xs _ are-xs) in
-    rw (← is-z, ← is-rho, ← is_f) e
+  infixl 70 ◌⊗◌
+  sum_same : (n : ℕ) (d : ℕ → Num) (rho_s z2 f : Num) (x y : ℕ → Num) → ((i : ℕ) → i < n → x i ≡ y i) → non_additive_sum A G n x d rho_s z2 f ≡ non_additive_sum A G n y d rho_s z2 f
+  unfolding non_additive_sum non_additive_column non_additive_turn
+  sum_same n d rho_s z2 f x y h = turns_same n _ _ _ (λ j s p. turns_same n _ _ _ (λ i r q. rw (h i q, h j p, non_additive_turn)))
+
+  pub non_additive_is : ((u x : Num) → after u x ≡ x) → (n : ℕ) (rho m d : ℕ → Num) (z : ZetaIn Num) (xs : ℕ → Num) (rho_s f v r : Num) → z ≡ zeta A G n rho (diagonal d) m → rho_s ≡ weighted A n rho m
+      → ((i : ℕ) → i < n → xs i ≡ nth A (density_shares A G n rho_s rho m) i) → f ≡ frac1mz3 A z.z3 → v ≡ non_additive_sum A G n xs d rho_s z.z2 f → r ≡ rho_s ⊗ v → r ≡ non_additive A G n rho m d
+  unfolding non_additive
+  non_additive_is keeps n rho m d z xs rho_s f v r is-z is-rho are-xs is_f is-v is-r =
+      let e = is-r ∙ ap (λ (w : Num). rho_s ⊗ w) (is-v ∙ sum_same n d rho_s z.z2 f xs _ are-xs) in
+      rw (← is-z, ← is-rho, ← is_f, keeps z.z0 _, keeps z.z1 _, non_additive) e
+
+-- ---- at `mixed_one` the same: only D's are negated
+module _ (n : ℕ) where
+  pub zeta_one : (rho d : ℕ → Mixed) (m : List Float) → zeta mixed F n rho d (points mixed m) ≡ zeta mixed_one F n rho d (points mixed_one m)
+  unfolding zeta zeta_added
+  zeta_one rho d m = refl
+
+  pub zeta23_one : (x d : ℕ → Mixed) (m : List Float) → zeta23 mixed n x d (points mixed m) ≡ zeta23 mixed_one n x d (points mixed_one m)
+  unfolding zeta23 zeta23_sums zeta23_added
+  zeta23_one x d m = refl
+
+  pub weighted_one : (rho : ℕ → Mixed) (m : List Float) → weighted mixed n rho (points mixed m) ≡ weighted mixed_one n rho (points mixed_one m)
+  unfolding weighted
+  weighted_one rho m = refl
+
+  pub shares_one : (rho_s : Mixed) (rho : ℕ → Mixed) (m : List Float) → density_shares mixed F n rho_s rho (points mixed m) ≡ density_shares mixed_one F n rho_s rho (points mixed_one m)
+  unfolding density_shares in_places
+  shares_one rho_s rho m = refl
+
+  module _ (x d : ℕ → Mixed) (rho_s : DualOf Float) (z2 f : Mixed) where
+    pub column_one : (j : ℕ) (s : Mixed) → non_additive_column mixed F n x d (sloped rho_s) z2 f j s ≡ non_additive_column mixed_one F n x d (sloped rho_s) z2 f j s
+    unfolding non_additive_column non_additive_turn non_additive_ij g_hs
+    column_one j s = refl
+
+    pub sum_one : non_additive_sum mixed F n x d (sloped rho_s) z2 f ≡ non_additive_sum mixed_one F n x d (sloped rho_s) z2 f
+    unfolding non_additive_sum non_additive_column non_additive_turn non_additive_ij g_hs
+    sum_one = refl

@@ -1,14 +1,14 @@
 -- The code's D's, lists and answers as the formulas of saftvrqmie_energies take them at mixed numbers (document 02, Slip 1).
-use Rattle.std.specs.Prelude.{ℕ, ◌+◌, ◌*◌, ◌<◌, Float, get_or, List, ◌≡◌}
+use Rattle.std.specs.Prelude.{ℕ, ◌+◌, ◌*◌, ◌<◌, Float, get_or, List, ◌≡◌, Result}
+use Rattle.number.specs.declared.refusal.Refusal.{Refusal}
+use Rattle.number.specs.Answer.{answer_by}
 use Rattle.std.specs.Float.{nan}
-use Rattle.number.specs.Ans.{Ans, held, refused}
+use Rattle.number.specs.Ans.{Ans}
 use Rattle.number.specs.Lists.{at}
 use Rattle.sizes.specs.Sizes.{sheet}
 use Rattle.dual.specs.declared.Dual.{Dual}
 use Rattle.dual.specs.Value.{dual_of}
 use Rattle.slopes.specs.Mixed.{Mixed, sloped}
-use Rattle.slopes.specs.declared.DualAnswer.{DualAnswer}
-use Rattle.slopes.specs.declared.DualAnswer.TheVariants.{Value, Outside}
 use Rattle.saftvrqmie_energies.specs.HardSphere.{ZetaIn, Zeta23In}
 use Rattle.saftvrqmie_hard_sphere_slopes.specs.declared.ZetaSlopes.{ZetaSlopes}
 use Rattle.saftvrqmie_hard_sphere_slopes.specs.declared.Zeta23Slopes.{Zeta23Slopes}
@@ -17,10 +17,8 @@ use Rattle.saftvrqmie_hard_sphere_slopes.specs.declared.Zeta23Slopes.{Zeta23Slop
 abbrev pub mixed_of : Dual → Mixed
 mixed_of x = sloped (dual_of x)
 
--- document 01's number or value of each case of `DualAnswer`
-abbrev pub mixed_answer : DualAnswer → Ans Mixed
-mixed_answer (Value x) = held (mixed_of x)
-mixed_answer Outside = refused 6
+abbrev pub mixed_answer : Result Dual Refusal → Ans Mixed
+mixed_answer = answer_by mixed_of
 
 -- entry i of a list of D's; beyond the list it is not read
 abbrev pub duals_at : List Dual → ℕ → Mixed

@@ -1,4 +1,5 @@
 // The hard sphere's and the non-additive part's contributions (saftvrqmie/eos/hard_sphere.rs, non_additive_hs.rs) with slopes: densities, fractions and diameters carry one, m is plain (document 02, Slip 1).
+// In both arithmetics of slopes/specs/Mixed: `at_mixed`, and `at_one`, where a negated number is a D.
 #![tactic(auto)]
 
 ghost use Rattle.std.specs.Prelude.{◌≡◌, cond, ◌<◌, ◌≤◌, length};
@@ -7,7 +8,7 @@ ghost use Rattle.number.specs.Lists.{nth};
 ghost use Rattle.sizes.specs.Sizes.{side, sheet};
 ghost use Rattle.elementary.specs.Port.{port};
 ghost use Rattle.dual.specs.Value.{dual_of};
-ghost use Rattle.slopes.specs.Mixed.{plain, as_dual, mixed};
+ghost use Rattle.slopes.specs.Mixed.{plain, as_dual, mixed, mixed_one};
 ghost use Rattle.slopes.specs.Rules.{mixed_functions};
 ghost use Rattle.mie_parameters.specs.Sums.{weighted};
 ghost use Rattle.saftvrqmie_energies.specs.State.{diagonal, points};
@@ -17,9 +18,9 @@ ghost use Rattle.saftvrqmie_hard_sphere_slopes.specs.Parts.{mixed_of, mixed_answ
 
 use dual::Dual;
 use mie_parameters::PI;
+use number::Refusal;
 use sizes::table::HS_DIAMETER;
 use sizes::{SIDE, TABLE};
-use slopes::DualAnswer;
 
 #[derive(Clone, Copy)]
 pub struct ZetaSlopes {
@@ -36,7 +37,7 @@ struct Zeta23Slopes {
 }
 
 // Entry i of a list, with its slope.
-fn entry(l: &[f64], slopes: &[f64], i: usize) -> Dual
+pub fn entry(l: &[f64], slopes: &[f64], i: usize) -> Dual
     requires { (i < length l.now) × (i < length slopes.now) }
     ensures { mixed_of result ≡ sloped_at l.now slopes.now i }
 {
@@ -59,19 +60,21 @@ fn diameter(table: &[f64; TABLE], slopes: &[f64; TABLE], e: usize) -> Dual
 
 // sum + x * c, where c is plain
 fn plus_times(sum: Dual, x: Dual, c: f64) -> Dual
-    ensures { mixed_of result ≡ mixed.add (mixed_of sum) (mixed.mul (mixed_of x) (plain c)) }
+    ensures at_mixed { mixed_of result ≡ mixed.add (mixed_of sum) (mixed.mul (mixed_of x) (plain c)) }
+    ensures at_one { mixed_of result ≡ mixed_one.add (mixed_of sum) (mixed_one.mul (mixed_of x) (plain c)) }
 {
-    dual::add(sum, slopes::times(x, c))
+    sum + slopes::times(x, c)
 }
 
 fn zeta_added(rho: Dual, d: Dual, m: f64, z: ZetaSlopes) -> ZetaSlopes
-    ensures { zeta_in result ≡ zeta_added mixed (mixed_functions port) (mixed_of rho) (mixed_of d) (plain m) (zeta_in z) }
+    ensures at_mixed { zeta_in result ≡ zeta_added mixed (mixed_functions port) (mixed_of rho) (mixed_of d) (plain m) (zeta_in z) }
+    ensures at_one { zeta_in result ≡ zeta_added mixed_one (mixed_functions port) (mixed_of rho) (mixed_of d) (plain m) (zeta_in z) }
 {
     let w = PI / 6.0 * m;
-    let t0 = dual::mul(rho, dual::pow_up(d, 0));
-    let t1 = dual::mul(rho, dual::pow_up(d, 1));
-    let t2 = dual::mul(rho, dual::pow_up(d, 2));
-    let t3 = dual::mul(rho, dual::pow_up(d, 3));
+    let t0 = rho * d.pow_up(0);
+    let t1 = rho * d.pow_up(1);
+    let t2 = rho * d.pow_up(2);
+    let t3 = rho * d.pow_up(3);
     ZetaSlopes {
         z0: plus_times(z.z0, t0, w),
         z1: plus_times(z.z1, t1, w),
@@ -89,12 +92,16 @@ pub fn zeta(
     m: &[f64; SIDE],
 ) -> ZetaSlopes
     requires { (0 < n) × (n ≤ side) × (length rho.now ≡ n) × (length rho_slopes.now ≡ n) }
-    ensures { let rho = sloped_at rho.entry.now rho_slopes.now in
+    ensures at_mixed { let rho = sloped_at rho.entry.now rho_slopes.now in
         let d = diagonal (sloped_sheet table.now table_slopes.now 1) in
         let m = points mixed m.entry.now in
         zeta_in result ≡ zeta mixed (mixed_functions port) n rho d m }
+    ensures at_one { let rho = sloped_at rho.entry.now rho_slopes.now in
+        let d = diagonal (sloped_sheet table.now table_slopes.now 1) in
+        let m = points mixed_one m.entry.now in
+        zeta_in result ≡ zeta mixed_one (mixed_functions port) n rho d m }
 {
-    let zero = dual::plain(0.0);
+    let zero = Dual::plain(0.0);
     let mut z = ZetaSlopes {
         z0: zero,
         z1: zero,
@@ -110,16 +117,18 @@ pub fn zeta(
 }
 
 fn frac_1mz3(z3: Dual) -> Dual
-    ensures { mixed_of result ≡ frac1mz3 mixed (mixed_of z3) }
+    ensures at_mixed { mixed_of result ≡ frac1mz3 mixed (mixed_of z3) }
+    ensures at_one { mixed_of result ≡ frac1mz3 mixed_one (mixed_of z3) }
 {
-    dual::neg(slopes::recip(slopes::minus(z3, 1.0)))
+    -slopes::recip(slopes::minus(z3, 1.0))
 }
 
 fn zeta_23_added(x: Dual, d: Dual, m: f64, y: Zeta23Slopes) -> Zeta23Slopes
-    ensures { zeta23_in result ≡ zeta23_added mixed (mixed_of x) (mixed_of d) (plain m) (zeta23_in y) }
+    ensures at_mixed { zeta23_in result ≡ zeta23_added mixed (mixed_of x) (mixed_of d) (plain m) (zeta23_in y) }
+    ensures at_one { zeta23_in result ≡ zeta23_added mixed_one (mixed_of x) (mixed_of d) (plain m) (zeta23_in y) }
 {
-    let t0 = dual::mul(x, dual::pow_up(d, 2));
-    let t1 = dual::mul(x, dual::pow_up(d, 3));
+    let t0 = x * d.pow_up(2);
+    let t1 = x * d.pow_up(3);
     Zeta23Slopes {
         y0: plus_times(y.y0, t0, m),
         y1: plus_times(y.y1, t1, m),
@@ -135,29 +144,34 @@ fn zeta_23(
     m: &[f64; SIDE],
 ) -> Dual
     requires { (0 < n) × (n ≤ side) × (length x.now ≡ n) × (length x_slopes.now ≡ n) }
-    ensures { let x = sloped_at x.entry.now x_slopes.now in
+    ensures at_mixed { let x = sloped_at x.entry.now x_slopes.now in
         let d = diagonal (sloped_sheet table.now table_slopes.now 1) in
         let m = points mixed m.entry.now in
         mixed_of result ≡ zeta23 mixed n x d m }
+    ensures at_one { let x = sloped_at x.entry.now x_slopes.now in
+        let d = diagonal (sloped_sheet table.now table_slopes.now 1) in
+        let m = points mixed_one m.entry.now in
+        mixed_of result ≡ zeta23 mixed_one n x d m }
 {
-    let zero = dual::plain(0.0);
+    let zero = Dual::plain(0.0);
     let mut y = Zeta23Slopes { y0: zero, y1: zero };
     for i in 0usize..n {
         let a = entry(x, x_slopes, i);
         let d = diameter(table, table_slopes, SIDE * i + i);
         y = zeta_23_added(a, d, m[i], y);
     }
-    dual::div(y.y0, y.y1)
+    y.y0 / y.y1
 }
 
 fn hard_sphere_of(z: ZetaSlopes, z23: Dual, l: Dual) -> Dual
-    ensures { mixed_of result ≡ hard_sphere_of mixed (mixed_functions port) (zeta_in z) (mixed_of z23) (mixed_of l) }
+    ensures at_mixed { mixed_of result ≡ hard_sphere_of mixed (mixed_functions port) (zeta_in z) (mixed_of z23) (mixed_of l) }
+    ensures at_one { mixed_of result ≡ hard_sphere_of mixed_one (mixed_functions port) (zeta_in z) (mixed_of z23) (mixed_of l) }
 {
     let f = frac_1mz3(z.z3);
-    let a = slopes::times(dual::mul(dual::mul(z.z1, z.z2), f), 3.0);
-    let b = dual::mul(dual::pow_up(z.z2, 2), dual::pow_up(f, 2));
-    let c = dual::sub(dual::mul(z.z2, dual::pow_up(z23, 2)), z.z0);
-    let sum = dual::add(dual::add(a, dual::mul(b, z23)), dual::mul(c, l));
+    let a = slopes::times(z.z1 * z.z2 * f, 3.0);
+    let b = z.z2.pow_up(2) * f.pow_up(2);
+    let c = z.z2 * z23.pow_up(2) - z.z0;
+    let sum = a + b * z23 + c * l;
     slopes::over(slopes::times(sum, 6.0), PI)
 }
 
@@ -170,31 +184,35 @@ pub fn hard_sphere(
     table: &[f64; TABLE],
     table_slopes: &[f64; TABLE],
     m: &[f64; SIDE],
-) -> DualAnswer
+) -> Result<Dual, Refusal>
     requires { (0 < n) × (n ≤ side) × (length x.now ≡ n) × (length x_slopes.now ≡ n) × (length rho.now ≡ n) × (length rho_slopes.now ≡ n) }
-    ensures { let x = sloped_at x.entry.now x_slopes.now in
+    ensures at_mixed { let x = sloped_at x.entry.now x_slopes.now in
         let rho = sloped_at rho.entry.now rho_slopes.now in
         let d = diagonal (sloped_sheet table.now table_slopes.now 1) in
         let m = points mixed m.entry.now in
         mixed_answer result ≡ hard_sphere mixed (mixed_functions port) n x rho d m }
+    ensures at_one { let x = sloped_at x.entry.now x_slopes.now in
+        let rho = sloped_at rho.entry.now rho_slopes.now in
+        let d = diagonal (sloped_sheet table.now table_slopes.now 1) in
+        let m = points mixed_one m.entry.now in
+        mixed_answer result ≡ hard_sphere mixed_one (mixed_functions port) n x rho d m }
 {
     let z = zeta(n, rho, rho_slopes, table, table_slopes, m);
     let v = slopes::times(z.z3, -1.0);
-    let DualAnswer::Value(l) = slopes::ln_1p(v) else {
-        return DualAnswer::Outside;
-    };
+    let l = slopes::ln_1p(v)?;
     let z23 = zeta_23(n, x, x_slopes, table, table_slopes, m);
-    DualAnswer::Value(hard_sphere_of(z, z23, l))
+    Ok(hard_sphere_of(z, z23, l))
 }
 
 fn g_hs(di: Dual, dj: Dual, z2: Dual, f: Dual) -> Dual
-    ensures { mixed_of result ≡ g_hs mixed (mixed_of di) (mixed_of dj) (mixed_of z2) (mixed_of f) }
+    ensures at_mixed { mixed_of result ≡ g_hs mixed (mixed_of di) (mixed_of dj) (mixed_of z2) (mixed_of f) }
+    ensures at_one { mixed_of result ≡ g_hs mixed_one (mixed_of di) (mixed_of dj) (mixed_of z2) (mixed_of f) }
 {
-    let mu = dual::div(dual::mul(di, dj), dual::add(di, dj));
-    let v = dual::mul(mu, z2);
-    let a = slopes::times(dual::mul(v, dual::pow_up(f, 2)), 3.0);
-    let b = slopes::times(dual::mul(dual::pow_up(v, 2), dual::pow_up(f, 3)), 2.0);
-    dual::add(dual::add(f, a), b)
+    let mu = di * dj / (di + dj);
+    let v = mu * z2;
+    let a = slopes::times(v * f.pow_up(2), 3.0);
+    let b = slopes::times(v.pow_up(2) * f.pow_up(3), 2.0);
+    f + a + b
 }
 
 fn non_additive_ij(
@@ -207,22 +225,26 @@ fn non_additive_ij(
     z2: Dual,
     f: Dual,
 ) -> Dual
-    ensures { let F = mixed_functions port in
+    ensures at_mixed { let F = mixed_functions port in
         mixed_of result ≡ non_additive_ij mixed F (mixed_of rho_s) (mixed_of xi) (mixed_of xj) (mixed_of di) (mixed_of dj) (mixed_of dij) (mixed_of z2) (mixed_of f) }
+    ensures at_one { let F = mixed_functions port in
+        mixed_of result ≡ non_additive_ij mixed_one F (mixed_of rho_s) (mixed_of xi) (mixed_of xj) (mixed_of di) (mixed_of dj) (mixed_of dij) (mixed_of z2) (mixed_of f) }
 {
-    let a = slopes::times(dual::add(di, dj), 0.5);
+    let a = slopes::times(di + dj, 0.5);
     let g = g_hs(di, dj, z2, f);
-    let b = dual::mul(dual::mul(dual::neg(rho_s), xi), xj);
-    let c = dual::mul(dual::mul(b, dual::pow_up(a, 2)), g);
-    slopes::times(slopes::times(dual::mul(c, dual::sub(a, dij)), 2.0), PI)
+    let b = -rho_s * xi * xj;
+    let c = b * a.pow_up(2) * g;
+    slopes::times(slopes::times(c * (a - dij), 2.0), PI)
 }
 
-fn segment_density(n: usize, rho: &[f64], rho_slopes: &[f64], m: &[f64; SIDE]) -> Dual
+pub fn segment_density(n: usize, rho: &[f64], rho_slopes: &[f64], m: &[f64; SIDE]) -> Dual
     requires { (0 < n) × (n ≤ side) × (length rho.now ≡ n) × (length rho_slopes.now ≡ n) }
-    ensures { let rho = sloped_at rho.entry.now rho_slopes.now in
+    ensures at_mixed { let rho = sloped_at rho.entry.now rho_slopes.now in
         mixed_of result ≡ weighted mixed n rho (points mixed m.now) }
+    ensures at_one { let rho = sloped_at rho.entry.now rho_slopes.now in
+        mixed_of result ≡ weighted mixed_one n rho (points mixed_one m.now) }
 {
-    let mut r = dual::plain(0.0);
+    let mut r = Dual::plain(0.0);
     for i in 0usize..n {
         let a = entry(rho, rho_slopes, i);
         r = plus_times(r, a, m[i]);
@@ -239,15 +261,18 @@ fn density_shares(
     m: &[f64; SIDE],
 ) -> [Dual; SIDE]
     requires { (n ≤ side) × (length rho.now ≡ n) × (length rho_slopes.now ≡ n) }
-    ensures { let rho = sloped_at rho.entry.now rho_slopes.now in
+    ensures at_mixed { let rho = sloped_at rho.entry.now rho_slopes.now in
         let m = points mixed m.entry.now in
         FirstPlaces n result (nth mixed (density_shares mixed (mixed_functions port) n (mixed_of rho_s) rho m)) }
+    ensures at_one { let rho = sloped_at rho.entry.now rho_slopes.now in
+        let m = points mixed_one m.entry.now in
+        FirstPlaces n result (nth mixed_one (density_shares mixed_one (mixed_functions port) n (mixed_of rho_s) rho m)) }
 {
-    let zero = dual::plain(0.0);
+    let zero = Dual::plain(0.0);
     let mut x = [zero; SIDE];
     for i in 0usize..n {
         let a = entry(rho, rho_slopes, i);
-        x[i] = dual::div(slopes::times(a, m[i]), rho_s);
+        x[i] = slopes::times(a, m[i]) / rho_s;
     }
     x
 }
@@ -264,8 +289,10 @@ fn non_additive_column(
     sum: Dual,
 ) -> Dual
     requires { (n ≤ side) × (j < n) }
-    ensures { let d = sloped_sheet table.now table_slopes.now 1 in
+    ensures at_mixed { let d = sloped_sheet table.now table_slopes.now 1 in
         mixed_of result ≡ non_additive_column mixed (mixed_functions port) n (duals_at xs) d (mixed_of rho_s) (mixed_of z2) (mixed_of f) j (mixed_of sum) }
+    ensures at_one { let d = sloped_sheet table.now table_slopes.now 1 in
+        mixed_of result ≡ non_additive_column mixed_one (mixed_functions port) n (duals_at xs) d (mixed_of rho_s) (mixed_of z2) (mixed_of f) j (mixed_of sum) }
 {
     let mut r = sum;
     for i in 0usize..n {
@@ -273,7 +300,7 @@ fn non_additive_column(
         let dj = diameter(table, table_slopes, SIDE * j + j);
         let dij = diameter(table, table_slopes, SIDE * i + j);
         let v = non_additive_ij(rho_s, xs[i], xs[j], di, dj, dij, z2, f);
-        r = dual::add(r, v);
+        r = r + v;
     }
     r
 }
@@ -288,10 +315,12 @@ fn non_additive_sum(
     f: Dual,
 ) -> Dual
     requires { (0 < n) × (n ≤ side) }
-    ensures { let d = sloped_sheet table.now table_slopes.now 1 in
+    ensures at_mixed { let d = sloped_sheet table.now table_slopes.now 1 in
         mixed_of result ≡ non_additive_sum mixed (mixed_functions port) n (duals_at xs) d (mixed_of rho_s) (mixed_of z2) (mixed_of f) }
+    ensures at_one { let d = sloped_sheet table.now table_slopes.now 1 in
+        mixed_of result ≡ non_additive_sum mixed_one (mixed_functions port) n (duals_at xs) d (mixed_of rho_s) (mixed_of z2) (mixed_of f) }
 {
-    let mut r = dual::plain(0.0);
+    let mut r = Dual::plain(0.0);
     for j in 0usize..n {
         r = non_additive_column(n, xs, table, table_slopes, rho_s, z2, f, j, r);
     }
@@ -307,17 +336,21 @@ pub fn non_additive(
     table_slopes: &[f64; TABLE],
 ) -> Dual
     requires { (0 < n) × (n ≤ side) × (length rho.now ≡ n) × (length rho_slopes.now ≡ n) }
-    ensures { let rho = sloped_at rho.entry.now rho_slopes.now in
+    ensures at_mixed { let rho = sloped_at rho.entry.now rho_slopes.now in
         let m = points mixed m.entry.now in
         let d = sloped_sheet table.now table_slopes.now 1 in
         mixed_of result ≡ non_additive mixed (mixed_functions port) n rho m d }
+    ensures at_one { let rho = sloped_at rho.entry.now rho_slopes.now in
+        let m = points mixed_one m.entry.now in
+        let d = sloped_sheet table.now table_slopes.now 1 in
+        mixed_of result ≡ non_additive mixed_one (mixed_functions port) n rho m d }
 {
     let z = zeta(n, rho, rho_slopes, table, table_slopes, m);
     let f = frac_1mz3(z.z3);
     let rho_s = segment_density(n, rho, rho_slopes, m);
     let xs = density_shares(n, rho_s, rho, rho_slopes, m);
     let sum = non_additive_sum(n, xs, table, table_slopes, rho_s, z.z2, f);
-    dual::mul(rho_s, sum)
+    rho_s * sum
 }
 
 // Not wanted: +0 with slope +0, and nothing of it is worked.
@@ -331,13 +364,17 @@ pub fn wanted_part(
     wanted: bool,
 ) -> Dual
     requires { (0 < n) × (n ≤ side) × (length rho.now ≡ n) × (length rho_slopes.now ≡ n) }
-    ensures { let rho = sloped_at rho.entry.now rho_slopes.now in
+    ensures at_mixed { let rho = sloped_at rho.entry.now rho_slopes.now in
         let m = points mixed m.entry.now in
         let d = sloped_sheet table.now table_slopes.now 1 in
         dual_of result ≡ as_dual (cond wanted (non_additive mixed (mixed_functions port) n rho m d) (plain zero64)) }
+    ensures at_one { let rho = sloped_at rho.entry.now rho_slopes.now in
+        let m = points mixed_one m.entry.now in
+        let d = sloped_sheet table.now table_slopes.now 1 in
+        dual_of result ≡ as_dual (cond wanted (non_additive mixed_one (mixed_functions port) n rho m d) (plain zero64)) }
 {
     if !wanted {
-        return dual::plain(0.0);
+        return Dual::plain(0.0);
     }
     non_additive(n, rho, rho_slopes, m, table, table_slopes)
 }

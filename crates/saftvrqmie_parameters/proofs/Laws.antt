@@ -1,5 +1,7 @@
 -- Laws over plain values, cited at the returns. Assumes nothing.
 use Prim.Native.Nat.{ℕ, ◌*◌, ◌≤◌, ◌<◌, max}
+use Rattle.std.specs.Prelude.{Err, Ok, Result}
+use Rattle.number.specs.declared.refusal.Refusal.{Refusal}
 use native.Mathlib.Nat.{mul-le-mul}
 use native.Mathlib.Omega.{arith}
 use mathlib.Core.Path.{◌≡◌}
@@ -9,6 +11,7 @@ use lib.ListN.{length}
 use lib.Ieee.{Float}
 use mathlib.Core.List.{List}
 use borrow.Author.Tests.{lt-leb, le-leb, eq-eqb, ne_eqb, eqb-true}
+use Rattle.number.specs.Answer.{answer, code}
 use Rattle.number.specs.Ans.{Ans, held, refused, ◌>>=◌, demand}
 use Rattle.number.specs.Arith.{floats}
 use Rattle.number.specs.Lists.{at}
@@ -17,15 +20,10 @@ use Rattle.number.proofs.Walk.{via}
 use Rattle.limits.specs.declared.Component.{Component}
 use Rattle.limits.specs.Limits.{square, count_within, all_one}
 use Rattle.saftvrqmie_parameters.specs.declared.OrderRecord.{OrderRecord}
-use Rattle.saftvrqmie_parameters.specs.declared.SaftVRQMiePars.{SaftVRQMiePars}
-use Rattle.saftvrqmie_parameters.specs.declared.ParameterSet.{ParameterSet}
 use Rattle.saftvrqmie_parameters.specs.declared.PairParameters.{PairParameters}
-use Rattle.saftvrqmie_parameters.specs.declared.PairAnswer.{PairAnswer}
-use Rattle.saftvrqmie_parameters.specs.declared.PairAnswer.TheVariants.{At, Outside}
-use Rattle.mie_parameters.specs.declared.ParameterAnswer.TheVariants.{Held}
 use Rattle.mie_parameters.specs.Places.{in_places}
 use Rattle.mie_parameters.proofs.Laws.{and_left, and_right, count_low, count_high}
-use Rattle.saftvrqmie_parameters.specs.Parameters.{Lists, pair_orders, pair_answer, pair_parameters, store_pair, sheets_turn, sheets_of, right_lengths, within_limits, component_of, order_walk, orders_of, saft_vrq_mie_pars, given}
+use Rattle.saftvrqmie_parameters.specs.Parameters.{Lists, pair_orders, pair_parameters, store_pair, sheets_turn, sheets_of, right_lengths, within_limits, component_of, order_walk, orders_of, saft_vrq_mie_pars}
 
 module _ (a b : ℕ) where
   pub above : 2 < max a b → refused 4 ≡ pair_orders a b
@@ -44,14 +42,14 @@ module _ (a b : ℕ) where
   product_small p q = mul-le-mul p q
 
 -- a turn of the sheets, over plain values
-module _ (n : ℕ) (c : ℕ → Component) (mass : ℕ → Float) (k l : ℕ → ℕ → Float) (i j : ℕ) (x : List Float) (a b : Component) (r : PairAnswer) where
-  pub pair_held : (y : List Float) (p : PairParameters) → a ≡ c i → b ≡ c j → pair_answer r ≡ pair_parameters a b (mass i) (mass j) (k i j) (l i j) → r ≡ At p → y ≡ store_pair x (cell i j) p → sheets_turn n c mass k l i j x ≡ held y
+module _ (n : ℕ) (c : ℕ → Component) (mass : ℕ → Float) (k l : ℕ → ℕ → Float) (i j : ℕ) (x : List Float) (a b : Component) (r : Result PairParameters Refusal) where
+  pub pair_held : (y : List Float) (p : PairParameters) → a ≡ c i → b ≡ c j → answer r ≡ pair_parameters a b (mass i) (mass j) (k i j) (l i j) → r ≡ Ok p → y ≡ store_pair x (cell i j) p → sheets_turn n c mass k l i j x ≡ held y
   unfolding sheets_turn ◌>>=◌
-  pair_held y p d e q h g = rw (← d, ← e, via pair_answer q h, g)
+  pair_held y p d e q h g = rw (← d, ← e, via answer q h, g)
 
-  pub pair_outside : a ≡ c i → b ≡ c j → pair_answer r ≡ pair_parameters a b (mass i) (mass j) (k i j) (l i j) → r ≡ Outside → sheets_turn n c mass k l i j x ≡ refused 6
+  pub pair_outside : (e : Refusal) → a ≡ c i → b ≡ c j → answer r ≡ pair_parameters a b (mass i) (mass j) (k i j) (l i j) → r ≡ Err e → sheets_turn n c mass k l i j x ≡ refused (code e)
   unfolding sheets_turn ◌>>=◌
-  pair_outside d e q h = rw (← d, ← e, via pair_answer q h)
+  pair_outside m d e q h = rw (← d, ← e, via answer q h)
 
 -- what right lengths say
 pub record Right (l : Lists) : Type 0 where
@@ -113,10 +111,6 @@ lengths l p9 =
       l_ij = eqb-true (length l.l_ij) (n * n) (and_right c8 e9 p9);
     }
 
--- a refusal given by its number
-pub give : (q : Ans SaftVRQMiePars) (r : ParameterSet) (m k : ℕ) → r ≡ given (refused m) → m ≡ k → q ≡ refused k → r ≡ given q
-give q r m k p d e = rw (e, ← d) p
-
 -- the operation, test by test
 abbrev pub Within : Lists → Bool
 Within l = within_limits l.count (component_of l) (at l.mass) (square l.count l.k_ij) (square l.count l.l_ij)
@@ -150,6 +144,6 @@ module _ (l : Lists) where
   pub holds : (x y : List Float) (o : List OrderRecord) → right_lengths l ≡ true → Within l ≡ true → all_one l.count (at l.m) ≡ true
       → order_walk l.count l.fh ≡ held true → sheets_in l ≡ held x
       → y ≡ in_places floats l.count (at l.m) → o ≡ orders_of l.count l.fh
-      → record { answer = Held; set = record { count = l.count; m = y; sheets = x; orders = o } } ≡ given (saft_vrq_mie_pars l)
-  unfolding saft_vrq_mie_pars demand ◌>>=◌ given
+      → held (record { count = l.count; m = y; sheets = x; orders = o }) ≡ saft_vrq_mie_pars l
+  unfolding saft_vrq_mie_pars demand ◌>>=◌
   holds x y o p q r s t d e = rw (p, q, r, s, t, d, e)

@@ -14,13 +14,9 @@ use Rattle.saftvrqmie_parameters.specs.Combine.{sigma_ij, mass_ij}
 use Rattle.saftvrqmie_parameters.specs.declared.FeynmanHibbsOrder.{FeynmanHibbsOrder}
 use Rattle.saftvrqmie_parameters.specs.declared.FeynmanHibbsOrder.TheVariants.{FH0, FH1, FH2}
 use Rattle.saftvrqmie_parameters.specs.declared.OrderRecord.{OrderRecord}
-use Rattle.mie_parameters.specs.declared.ParameterAnswer.TheVariants.{Held, Refused}
 use Rattle.mie_parameters.specs.Places.{in_places}
 use Rattle.saftvrqmie_parameters.specs.declared.PairParameters.{PairParameters}
-use Rattle.saftvrqmie_parameters.specs.declared.PairAnswer.{PairAnswer}
-use Rattle.saftvrqmie_parameters.specs.declared.PairAnswer.TheVariants.{At, Outside}
 use Rattle.saftvrqmie_parameters.specs.declared.SaftVRQMiePars.{SaftVRQMiePars}
-use Rattle.saftvrqmie_parameters.specs.declared.ParameterSet.{ParameterSet}
 
 -- the lists that a caller hands; fh are the order's bytes
 pub record Lists : Type 0 where
@@ -34,12 +30,6 @@ pub record Lists : Type 0 where
   pub fh : List ℕ
   pub k_ij : List Float
   pub l_ij : List Float
-
--- ---- document 01's number or values of each case of the answers
-
-abbrev pub pair_answer : PairAnswer → Ans PairParameters
-pair_answer (At p) = held p
-pair_answer Outside = refused 6
 
 -- ---- 1 to 5
 
@@ -140,7 +130,7 @@ saft_vrq_mie_pars l =
 abbrev pub empty_set : SaftVRQMiePars
 empty_set = record { count = 0; m = replicate side zero64; sheets = replicate (6 * sheet) zero64; orders = replicate sheet unused }
 
--- held or a number, with the set beside it
-unfoldable pub given : Ans SaftVRQMiePars → ParameterSet
-given (held s) = record { answer = Held; set = s }
-given (refused n) = record { answer = Refused n; set = empty_set }
+-- the set beside an answer
+abbrev pub set_of : Ans SaftVRQMiePars → SaftVRQMiePars
+set_of (held s) = s
+set_of (refused n) = empty_set

@@ -1,20 +1,19 @@
 // SAFT-VRQ Mie parameters (saftvrqmie/parameters.rs): from component lists to the set of pair values.
 #![tactic(auto)]
 
-ghost use Rattle.std.specs.Prelude.{◌≡◌, true, ◌*◌, ◌<◌, ◌≤◌, max, length};
-ghost use Rattle.number.specs.Ans.{refused};
+ghost use Rattle.std.specs.Prelude.{Err, ◌≡◌, true, ◌*◌, ◌<◌, ◌≤◌, max, length};
+ghost use Rattle.number.specs.Answer.{answer};
 ghost use Rattle.number.specs.Arith.{floats};
 ghost use Rattle.number.specs.Lists.{at};
 ghost use Rattle.sizes.specs.Sizes.{side, sheet};
 ghost use Rattle.number.specs.Walk.{walk};
 ghost use Rattle.limits.specs.Limits.{square, components};
 ghost use Rattle.saftvrqmie_parameters.specs.Combine.{sigma_ij, mass_ij};
-ghost use Rattle.saftvrqmie_parameters.specs.Parameters.{Lists, pair_answer, right_lengths, within_limits, record_m, pair_orders, order_row, order_walk, pair_parameters, store_pair, sheets_row, order_of, orders_row, orders_of, saft_vrq_mie_pars, given};
+ghost use Rattle.saftvrqmie_parameters.specs.Parameters.{empty_set, set_of, Lists, right_lengths, within_limits, record_m, pair_orders, order_row, order_walk, pair_parameters, store_pair, sheets_row, order_of, orders_row, orders_of, saft_vrq_mie_pars};
 ghost use Rattle.mie_parameters.specs.Answer.{outcome};
 
 use limits::Component;
-use mie_parameters::ParameterAnswer;
-use number::FloatAnswer;
+use number::Refusal;
 use sizes::quantum_set::{C_IJ, EPSILON_K_IJ, LAMBDA_A_IJ, LAMBDA_R_IJ, MASS_IJ};
 use sizes::{SHEET, SHEETS, SIDE};
 
@@ -38,9 +37,10 @@ pub struct SaftVRQMiePars {
     pub orders: [OrderRecord; SHEET],
 }
 
+// Whether a set is held, or the refusal; beside a refusal the empty set.
 #[derive(Clone, Copy)]
 pub struct ParameterSet {
-    pub answer: ParameterAnswer,
+    pub answer: Result<(), Refusal>,
     pub set: SaftVRQMiePars,
 }
 
@@ -54,72 +54,62 @@ pub struct PairParameters {
     pub mass: f64,
 }
 
-#[derive(Clone, Copy)]
-pub enum PairAnswer {
-    At(PairParameters),
-    Outside,
-}
-
 // The set beside a refusal: count 0, all +0, FH0.
-pub fn refused_with(number: u8) -> ParameterSet
-    ensures { result ≡ given (refused number) }
+fn empty_set() -> SaftVRQMiePars
+    ensures { result ≡ empty_set }
 {
-    let m = [0.0; SIDE];
-    let sheets = [0.0; SHEETS];
-    let orders = [OrderRecord {
-        order: FeynmanHibbsOrder::FH0,
-    }; SHEET];
-    let set = SaftVRQMiePars {
+    SaftVRQMiePars {
         count: 0,
-        m,
-        sheets,
-        orders,
-    };
-    ParameterSet {
-        answer: ParameterAnswer::Refused(number),
-        set,
+        m: [0.0; SIDE],
+        sheets: [0.0; SHEETS],
+        orders: [OrderRecord {
+            order: FeynmanHibbsOrder::FH0,
+        }; SHEET],
     }
 }
 
-fn pair_orders(a: u8, b: u8) -> ParameterAnswer
+pub fn refused_with(refusal: Refusal) -> ParameterSet
+    ensures { (result.answer ≡ Err refusal) × (result.set ≡ empty_set) }
+{
+    ParameterSet {
+        answer: Err(refusal),
+        set: empty_set(),
+    }
+}
+
+fn pair_orders(a: u8, b: u8) -> Result<(), Refusal>
     ensures { outcome result true ≡ pair_orders a b }
 {
     if 2 < a {
-        return ParameterAnswer::Refused(4);
+        return Err(Refusal::Order);
     }
     if 2 < b {
-        return ParameterAnswer::Refused(4);
+        return Err(Refusal::Order);
     }
     if a * b == 2 {
-        return ParameterAnswer::Refused(5);
+        return Err(Refusal::MixedOrders);
     }
-    ParameterAnswer::Held
+    Ok(())
 }
 
-fn order_row(n: usize, fh: &[u8], i: usize) -> ParameterAnswer
+fn order_row(n: usize, fh: &[u8], i: usize) -> Result<(), Refusal>
     requires { (i < n) × (length fh.now ≡ n) }
     ensures { outcome result true ≡ order_row n fh.now i }
 {
     for j in 0usize..n {
-        let answer = pair_orders(fh[i], fh[j]);
-        let ParameterAnswer::Held = answer else {
-            return answer;
-        };
+        pair_orders(fh[i], fh[j])?;
     }
-    ParameterAnswer::Held
+    Ok(())
 }
 
-fn order_walk(n: usize, fh: &[u8]) -> ParameterAnswer
+fn order_walk(n: usize, fh: &[u8]) -> Result<(), Refusal>
     requires { length fh.now ≡ n }
     ensures { outcome result true ≡ order_walk n fh.now }
 {
     for i in 0usize..n {
-        let answer = order_row(n, fh, i);
-        let ParameterAnswer::Held = answer else {
-            return answer;
-        };
+        order_row(n, fh, i)?;
     }
-    ParameterAnswer::Held
+    Ok(())
 }
 
 fn sigma_ij(si: f64, sj: f64, l: f64) -> f64
@@ -134,31 +124,30 @@ fn mass_ij(mi: f64, mj: f64) -> f64
     2.0 * mi * mj / (mi + mj)
 }
 
-fn pair_parameters(a: Component, b: Component, ma: f64, mb: f64, k: f64, l: f64) -> PairAnswer
-    ensures { pair_answer result ≡ pair_parameters a b ma mb k l }
+fn pair_parameters(
+    a: Component,
+    b: Component,
+    ma: f64,
+    mb: f64,
+    k: f64,
+    l: f64,
+) -> Result<PairParameters, Refusal>
+    ensures { answer result ≡ pair_parameters a b ma mb k l }
 {
     let sigma = sigma_ij(a.sigma, b.sigma, l);
-    let FloatAnswer::Value(epsilon_k) = mie_parameters::epsilon_k_ij(
+    let epsilon_k = mie_parameters::epsilon_k_ij(
         a.sigma,
         b.sigma,
         a.epsilon_k,
         b.epsilon_k,
         sigma,
         k,
-    ) else {
-        return PairAnswer::Outside;
-    };
-    let FloatAnswer::Value(lr) = mie_parameters::lambda_ij(a.lr, b.lr) else {
-        return PairAnswer::Outside;
-    };
-    let FloatAnswer::Value(la) = mie_parameters::lambda_ij(a.la, b.la) else {
-        return PairAnswer::Outside;
-    };
-    let FloatAnswer::Value(c) = mie_parameters::c_ij(lr, la) else {
-        return PairAnswer::Outside;
-    };
+    )?;
+    let lr = mie_parameters::lambda_ij(a.lr, b.lr)?;
+    let la = mie_parameters::lambda_ij(a.la, b.la)?;
+    let c = mie_parameters::c_ij(lr, la)?;
     let mass = mass_ij(ma, mb);
-    PairAnswer::At(PairParameters {
+    Ok(PairParameters {
         sigma,
         epsilon_k,
         c,
@@ -192,7 +181,7 @@ fn sheets_row(
     l_ij: &[f64],
     i: usize,
     s: &mut [f64; SHEETS],
-) -> ParameterAnswer
+) -> Result<(), Refusal>
     requires { (n ≤ side) × (i < n)
         × (length sigma.now ≡ n) × (length epsilon_k.now ≡ n) × (length lr.now ≡ n) × (length la.now ≡ n)
         × (length mass.now ≡ n) × (length k_ij.now ≡ n * n) × (length l_ij.now ≡ n * n) }
@@ -205,19 +194,10 @@ fn sheets_row(
     let a = limits::component_at(sigma, epsilon_k, lr, la, i);
     for j in 0usize..n {
         let b = limits::component_at(sigma, epsilon_k, lr, la, j);
-        let PairAnswer::At(p) = pair_parameters(
-            a,
-            b,
-            mass[i],
-            mass[j],
-            k_ij[n * i + j],
-            l_ij[n * i + j],
-        ) else {
-            return ParameterAnswer::Refused(6);
-        };
+        let p = pair_parameters(a, b, mass[i], mass[j], k_ij[n * i + j], l_ij[n * i + j])?;
         store_pair(s, SIDE * i + j, p);
     }
-    ParameterAnswer::Held
+    Ok(())
 }
 
 fn fill_sheets(
@@ -230,7 +210,7 @@ fn fill_sheets(
     k_ij: &[f64],
     l_ij: &[f64],
     s: &mut [f64; SHEETS],
-) -> ParameterAnswer
+) -> Result<(), Refusal>
     requires { (n ≤ side)
         × (length sigma.now ≡ n) × (length epsilon_k.now ≡ n) × (length lr.now ≡ n) × (length la.now ≡ n)
         × (length mass.now ≡ n) × (length k_ij.now ≡ n * n) × (length l_ij.now ≡ n * n) }
@@ -241,12 +221,9 @@ fn fill_sheets(
         outcome result s.new ≡ walk n (sheets_row n c mass k l) s.old }
 {
     for i in 0usize..n {
-        let answer = sheets_row(n, sigma, epsilon_k, lr, la, mass, k_ij, l_ij, i, s);
-        let ParameterAnswer::Held = answer else {
-            return answer;
-        };
+        sheets_row(n, sigma, epsilon_k, lr, la, mass, k_ij, l_ij, i, s)?;
     }
-    ParameterAnswer::Held
+    Ok(())
 }
 
 fn larger(a: u8, b: u8) -> u8
@@ -362,18 +339,18 @@ fn within_limits(
 }
 
 // `SaftVRQMieRecord::new`'s test of m.
-pub fn record_m(m: f64) -> ParameterAnswer
+pub fn record_m(m: f64) -> Result<(), Refusal>
     ensures { outcome result true ≡ record_m m }
 {
     if m == 1.0 {
-        ParameterAnswer::Held
+        Ok(())
     } else {
-        ParameterAnswer::Refused(3)
+        Err(Refusal::Segments)
     }
 }
 
 // `SaftVRQMiePars::new`: the set, or the first refusal that applies.
-pub fn parameters(
+pub fn saft_vrq_mie_pars(
     count: usize,
     m: &[f64],
     sigma: &[f64],
@@ -384,7 +361,7 @@ pub fn parameters(
     fh: &[u8],
     k_ij: &[f64],
     l_ij: &[f64],
-) -> ParameterSet
+) -> Result<SaftVRQMiePars, Refusal>
     ensures { let l : Lists = record {
       count = count;
       m = m.now;
@@ -397,23 +374,20 @@ pub fn parameters(
       k_ij = k_ij.now;
       l_ij = l_ij.now;
     } in
-        result ≡ given (saft_vrq_mie_pars l) }
+        answer result ≡ saft_vrq_mie_pars l }
 {
     if !right_lengths(count, m, sigma, epsilon_k, lr, la, mass, fh, k_ij, l_ij) {
-        return refused_with(1);
+        return Err(Refusal::Length);
     }
     if !within_limits(count, sigma, epsilon_k, lr, la, mass, k_ij, l_ij) {
-        return refused_with(2);
+        return Err(Refusal::Limit);
     }
     if !limits::all_one(count, m) {
-        return refused_with(3);
+        return Err(Refusal::Segments);
     }
-    let walked = order_walk(count, fh);
-    let ParameterAnswer::Held = walked else {
-        return refused_with(mie_parameters::number(walked));
-    };
+    order_walk(count, fh)?;
     let mut sheets = [0.0; SHEETS];
-    let filled = fill_sheets(
+    fill_sheets(
         count,
         sigma,
         epsilon_k,
@@ -423,20 +397,62 @@ pub fn parameters(
         k_ij,
         l_ij,
         &mut sheets,
-    );
-    let ParameterAnswer::Held = filled else {
-        return refused_with(mie_parameters::number(filled));
-    };
+    )?;
     let places = mie_parameters::in_places(count, m);
     let orders = orders_of(count, fh);
-    let set = SaftVRQMiePars {
+    Ok(SaftVRQMiePars {
         count,
         m: places,
         sheets,
         orders,
-    };
-    ParameterSet {
-        answer: ParameterAnswer::Held,
-        set,
+    })
+}
+
+// The same with the set beside the answer, as document 01 has it: of a refused call the empty set.
+pub fn parameters(
+    count: usize,
+    m: &[f64],
+    sigma: &[f64],
+    epsilon_k: &[f64],
+    lr: &[f64],
+    la: &[f64],
+    mass: &[f64],
+    fh: &[u8],
+    k_ij: &[f64],
+    l_ij: &[f64],
+) -> ParameterSet
+    ensures answer { let l : Lists = record {
+      count = count;
+      m = m.now;
+      sigma = sigma.now;
+      epsilon_k = epsilon_k.now;
+      lr = lr.now;
+      la = la.now;
+      mass = mass.now;
+      fh = fh.now;
+      k_ij = k_ij.now;
+      l_ij = l_ij.now;
+    } in
+        outcome result.answer result.set ≡ saft_vrq_mie_pars l }
+    ensures set { let l : Lists = record {
+      count = count;
+      m = m.now;
+      sigma = sigma.now;
+      epsilon_k = epsilon_k.now;
+      lr = lr.now;
+      la = la.now;
+      mass = mass.now;
+      fh = fh.now;
+      k_ij = k_ij.now;
+      l_ij = l_ij.now;
+    } in
+        result.set ≡ set_of (saft_vrq_mie_pars l) }
+{
+    match saft_vrq_mie_pars(count, m, sigma, epsilon_k, lr, la, mass, fh, k_ij, l_ij) {
+        Ok(set) => ParameterSet {
+            answer: Ok(()),
+            set,
+        },
+        Err(refusal) => refused_with(refusal),
     }
 }

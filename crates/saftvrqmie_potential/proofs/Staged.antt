@@ -11,7 +11,7 @@ use Rattle.elementary.specs.Port.{port}
 use Rattle.binary_log.specs.declared.Log.{Log}
 use Rattle.binary_log.specs.BinaryLog.{log_of}
 use Rattle.power.specs.Power.{exponent_of, power_of, powf_of}
-use Rattle.saftvrqmie_potential.specs.Potential.{PotentialIn, pair_in, first_order, second_order, q1, q2, u_mie, corrected, scaled, line, mie, add_first, add_second, after_shared, potential, u_quantum}
+use Rattle.saftvrqmie_potential.specs.Potential.{PotentialIn, pair_in, first_order, second_order, u_mie, corrected, scaled, line, mie, add_first, add_second, after_shared, potential, u_quantum}
 use Rattle.saftvrqmie_potential.specs.Staged.{both_inside, both_at, exponents_inside, term_of, shared_values, shared_of, mie_at, first_at, second_at, values_at, potential_at}
 use Rattle.saftvrqmie_parameters.specs.declared.FeynmanHibbsOrder.{FeynmanHibbsOrder}
 use Rattle.saftvrqmie_parameters.specs.declared.FeynmanHibbsOrder.TheVariants.{FH0, FH1, FH2}

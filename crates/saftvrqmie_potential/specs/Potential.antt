@@ -1,6 +1,8 @@
 -- `qmie_potential_ij` of saftvrqmie/eos/hard_sphere.rs: the Mie potential with Feynman-Hibbs corrections and its two derivatives (Aasen et al. 2019), over any arithmetic, in the Rust's order of operations.
-use Rattle.std.specs.Prelude.{ℕ, ◌+◌, ◌*◌, ltb, Float, get_or, List, Bool, false, cond}
-use Rattle.number.specs.Ans.{Ans, held, refused, ◌>>=◌}
+use Rattle.std.specs.Prelude.{ℕ, ◌+◌, ◌*◌, ltb, Float, get_or, List, Bool, false, cond, Result}
+use Rattle.number.specs.declared.refusal.Refusal.{Refusal}
+use Rattle.number.specs.Answer.{answer_by}
+use Rattle.number.specs.Ans.{Ans, held, ◌>>=◌}
 use Rattle.number.specs.Arith.{Arith, decimal, floats, whole}
 use Rattle.number.specs.Functions.{Functions}
 use Rattle.number.specs.Lists.{at}
@@ -11,8 +13,6 @@ use Rattle.saftvrqmie_parameters.specs.declared.FeynmanHibbsOrder.{FeynmanHibbsO
 use Rattle.saftvrqmie_parameters.specs.declared.FeynmanHibbsOrder.TheVariants.{FH0, FH1, FH2}
 use Rattle.saftvrqmie_potential.specs.declared.Pair.{Pair}
 use Rattle.saftvrqmie_potential.specs.declared.QMiePotential.{QMiePotential}
-use Rattle.saftvrqmie_potential.specs.declared.PotentialAnswer.{PotentialAnswer}
-use Rattle.saftvrqmie_potential.specs.declared.PotentialAnswer.TheVariants.{Value, Outside}
 
 -- the parameters of a pair at (i, j), and the temperature, in the numbers N
 pub record PairIn (N : Type 0) : Type 0 where
@@ -65,10 +65,8 @@ pub record PotentialIn (N : Type 0) : Type 0 where
 abbrev pub potential_in : QMiePotential → PotentialIn Float
 potential_in v = record { u = v.u; u_r = v.u_r; u_rr = v.u_rr }
 
--- document 01's number or values of each case of `PotentialAnswer`
-abbrev pub potential_answer : PotentialAnswer → Ans (PotentialIn Float)
-potential_answer (Value v) = held (potential_in v)
-potential_answer Outside = refused 6
+abbrev pub potential_answer : Result QMiePotential Refusal → Ans (PotentialIn Float)
+potential_answer = answer_by potential_in
 
 -- `fh as usize`
 abbrev pub order_number : FeynmanHibbsOrder → ℕ

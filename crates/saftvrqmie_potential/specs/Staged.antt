@@ -1,6 +1,6 @@
 -- What the float code works once for a pair, and the potential from it, with the powers in their stages: the contracts of helpers alone. That this is the potential, bits and refusals, is shown in proofs/Staged (`shared-held`, `shared-refused`).
 use Rattle.std.specs.Prelude.{ℕ, Float, Bool, true, ◌&&◌, cond}
-use Rattle.number.specs.Ans.{Ans, held, refused, ◌>>=◌, demand}
+use Rattle.number.specs.Ans.{Ans, held, ◌>>=◌, demand}
 use Rattle.number.specs.Arith.{floats, whole}
 use Rattle.number.specs.Functions.{calls}
 use Rattle.number.specs.Domain.{base_inside, exponent_inside}
@@ -12,13 +12,6 @@ use Rattle.saftvrqmie_potential.specs.Potential.{PotentialIn, first_order, secon
 use Rattle.saftvrqmie_potential.specs.declared.Pair.{Pair}
 use Rattle.saftvrqmie_potential.specs.declared.Term.{Term}
 use Rattle.saftvrqmie_potential.specs.declared.Shared.{Shared}
-use Rattle.saftvrqmie_potential.specs.declared.SharedAnswer.{SharedAnswer}
-use Rattle.saftvrqmie_potential.specs.declared.SharedAnswer.TheVariants.{At, Outside}
-
--- the number or value of each case of `SharedAnswer`
-abbrev pub shared_answer : SharedAnswer → Ans Shared
-shared_answer (At w) = held w
-shared_answer Outside = refused 6
 
 -- l + k
 abbrev pub plus : Float → Float → Float

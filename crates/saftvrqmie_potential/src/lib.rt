@@ -9,10 +9,10 @@ ghost use Rattle.number.specs.Functions.{calls};
 ghost use Rattle.sizes.specs.Sizes.{sheet};
 ghost use Rattle.elementary.specs.Port.{port};
 ghost use Rattle.saftvrqmie_potential.specs.Potential.{pair_in, pair_at_entry, potential_in, potential_answer, first_order, second_order, quantum_d, q1, q2, potential, scaled};
-ghost use Rattle.saftvrqmie_potential.specs.Staged.{shared_answer, exponents_inside, term_of, shared_of, mie_at, first_at, second_at, values_at, potential_at, u_at, both_inside};
+ghost use Rattle.saftvrqmie_potential.specs.Staged.{exponents_inside, term_of, shared_of, mie_at, first_at, second_at, values_at, potential_at, u_at, both_inside};
 
 use binary_log::Log;
-use number::FloatAnswer;
+use number::Refusal;
 use power::FixedExponent;
 use saftvrqmie_parameters::{FeynmanHibbsOrder, OrderRecord};
 use sizes::quantum_set::{C_IJ, EPSILON_K_IJ, LAMBDA_A_IJ, LAMBDA_R_IJ, MASS_IJ};
@@ -41,12 +41,6 @@ pub struct QMiePotential {
     pub u_rr: f64,
 }
 
-#[derive(Clone, Copy)]
-pub enum PotentialAnswer {
-    Value(QMiePotential),
-    Outside,
-}
-
 // One of the two terms: its exponent, its factors, sigma to its exponent, and the exponents of its lines.
 #[derive(Clone, Copy)]
 pub struct Term {
@@ -73,12 +67,6 @@ pub struct Shared {
     pub ce: f64,
     pub first: bool,
     pub second: bool,
-}
-
-#[derive(Clone, Copy)]
-pub enum SharedAnswer {
-    At(Shared),
-    Outside,
 }
 
 // The pair at entry e of a set's sheets. All that works pairs reads them here; an entry comes from indexes that were tested, or are turns of loops over a count that was.
@@ -185,21 +173,21 @@ fn term_of(s: Log, l: f64) -> Term
 }
 
 // No value where sigma or an exponent is outside: then no radius has a potential.
-pub fn share(p: Pair) -> SharedAnswer
-    ensures { shared_answer result ≡ shared_of p }
+pub fn share(p: Pair) -> Result<Shared, Refusal>
+    ensures { answer result ≡ shared_of p }
 {
     if !binary_log::base_inside(p.sigma) {
-        return SharedAnswer::Outside;
+        return Err(Refusal::Domain);
     }
     let order = p.order;
     let first = first_order(order);
     let second = second_order(order);
     if !exponents_inside(first, second, p.lr, p.la) {
-        return SharedAnswer::Outside;
+        return Err(Refusal::Domain);
     }
     let s = binary_log::log_base(p.sigma);
     let d = quantum_d(p.mass, p.temperature);
-    SharedAnswer::At(Shared {
+    Ok(Shared {
         r: term_of(s, p.lr),
         a: term_of(s, p.la),
         d: d,
@@ -311,13 +299,13 @@ fn values_at(w: Shared, l: Log) -> QMiePotential
     scaled_by(w.ce, add_second(w, l, r4, a4, v1))
 }
 
-pub fn potential_at(w: Shared, r: f64) -> PotentialAnswer
+pub fn potential_at(w: Shared, r: f64) -> Result<QMiePotential, Refusal>
     ensures { potential_answer result ≡ potential_at w r }
 {
     if !binary_log::base_inside(r) {
-        return PotentialAnswer::Outside;
+        return Err(Refusal::Domain);
     }
-    PotentialAnswer::Value(values_at(w, binary_log::log_base(r)))
+    Ok(values_at(w, binary_log::log_base(r)))
 }
 
 // The potential alone, where nothing reads its derivatives. Their powers need not be worked: what they refuse is tested once for the pair.
@@ -343,21 +331,19 @@ fn u_value(w: Shared, l: Log) -> f64
     (u1 + w.d2 * (1.0 / r4 * w.r.q2 * sr - 1.0 / a4 * w.a.q2 * sa)) * w.ce
 }
 
-pub fn u_at(w: Shared, r: f64) -> FloatAnswer
+pub fn u_at(w: Shared, r: f64) -> Result<f64, Refusal>
     ensures { answer result ≡ u_at w r }
 {
     if !binary_log::base_inside(r) {
-        return FloatAnswer::Outside;
+        return Err(Refusal::Domain);
     }
-    FloatAnswer::Value(u_value(w, binary_log::log_base(r)))
+    Ok(u_value(w, binary_log::log_base(r)))
 }
 
 // `qmie_potential_ij`.
-pub fn qmie_potential(pair: Pair, r: f64) -> PotentialAnswer
+pub fn qmie_potential(pair: Pair, r: f64) -> Result<QMiePotential, Refusal>
     ensures { potential_answer result ≡ potential floats (calls floats port) (pair_in pair) r }
 {
-    let SharedAnswer::At(w) = share(pair) else {
-        return PotentialAnswer::Outside;
-    };
+    let w = share(pair)?;
     potential_at(w, r)
 }

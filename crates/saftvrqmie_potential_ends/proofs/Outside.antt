@@ -1,5 +1,6 @@
 -- A pair whose sigma has no power has a potential at no radius. Assumes nothing.
 use lib.Ieee.{Float}
+use Prim.Native.Nat.{ℕ}
 use mathlib.Core.Path.{◌≡◌, refl}
 use mathlib.Core.Bool.{Bool, true, false}
 use Rattle.number.specs.Ans.{Ans, held, refused, ◌>>=◌, demand}
@@ -24,6 +25,17 @@ unfolding answered₂ powf_of
 refuses x y f h =
     six (base_inside x.value) (exponent_inside y.value) (power_of (log_of x.value) (exponent_of y.value)) (λ v. enclosures.after x (enclosures.after y (enclosures.lit v))) f h
 
+-- a power that is refused is refused with 6
+alone : (b e : Bool) (z : Float) (g : Float → Enclosure) (n : ℕ) → ((demand 6 b >>= λ _. demand 6 e >>= λ _. held z) >>= λ v. held (g v)) ≡ refused n → n ≡ 6
+unfolding demand ◌>>=◌
+alone true true z g n h = cc
+alone true false z g n h = cc
+alone false e z g n h = cc
+
+with_6 : (x y : Enclosure) (n : ℕ) → (calls enclosures port).powf x y ≡ refused n → n ≡ 6
+unfolding answered₂ powf_of
+with_6 x y n h = alone (base_inside x.value) (exponent_inside y.value) (power_of (log_of x.value) (exponent_of y.value)) (λ v. enclosures.after x (enclosures.after y (enclosures.lit v))) n h
+
 module _ (p : PairIn Enclosure) (r : Enclosure) where
   abbrev power : Enclosure → Enclosure → Ans Enclosure
   power = (calls enclosures port).powf
@@ -36,10 +48,10 @@ module _ (p : PairIn Enclosure) (r : Enclosure) where
   unfolding line ◌>>=◌
   line_second er ea f h = refuses r er _ (λ v. refuses p.sigma p.lr _ (λ w. refuses r ea _ (λ x. rw h)))
 
-  pub first_outside : power p.sigma p.lr ≡ refused 6 → potential enclosures (calls enclosures port) p r ≡ refused 6
+  pub first_outside : (n : ℕ) → power p.sigma p.lr ≡ refused n → potential enclosures (calls enclosures port) p r ≡ refused n
   unfolding potential mie ◌>>=◌
-  first_outside h = rw (line_first p.lr p.la _ h)
+  first_outside n h = let k = with_6 _ _ n h in rw k (rw (line_first p.lr p.la _ (rw k at h)))
 
-  pub second_outside : power p.sigma p.la ≡ refused 6 → potential enclosures (calls enclosures port) p r ≡ refused 6
+  pub second_outside : (n : ℕ) → power p.sigma p.la ≡ refused n → potential enclosures (calls enclosures port) p r ≡ refused n
   unfolding potential mie ◌>>=◌
-  second_outside h = rw (line_second p.lr p.la _ h)
+  second_outside n h = let k = with_6 _ _ n h in rw k (rw (line_second p.lr p.la _ (rw k at h)))

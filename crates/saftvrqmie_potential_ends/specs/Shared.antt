@@ -1,5 +1,8 @@
 -- What the code works once for a pair, and what that is: the contracts of helpers alone, which say that what they work from it is the formula's.
-use Rattle.std.specs.Prelude.{◌≡◌}
+use Rattle.std.specs.Prelude.{◌≡◌, Err, Ok, Result}
+use Rattle.saftvrqmie_potential_ends.specs.declared.LinePowers.{LinePowers}
+use Rattle.number.specs.declared.refusal.Refusal.{Refusal}
+use Rattle.number.specs.Answer.{code}
 use Rattle.number.specs.Ans.{Ans, held, refused}
 use Rattle.number.specs.Functions.{calls}
 use Rattle.elementary.specs.Port.{port}
@@ -9,10 +12,6 @@ use Rattle.saftvrqmie_potential_ends.specs.declared.PairEnclosures.{PairEnclosur
 use Rattle.saftvrqmie_potential_ends.specs.Pair.{pair_in}
 use Rattle.saftvrqmie_potential.specs.Potential.{quantum_d, q1, q2, potential}
 use Rattle.saftvrqmie_potential_ends.specs.declared.PairShared.{PairShared}
-use Rattle.saftvrqmie_potential_ends.specs.declared.PairSharedAnswer.{PairSharedAnswer}
-use Rattle.saftvrqmie_potential_ends.specs.declared.PairSharedAnswer.TheVariants as SharedCase
-use Rattle.saftvrqmie_potential_ends.specs.declared.LineAnswer.{LineAnswer}
-use Rattle.saftvrqmie_potential_ends.specs.declared.LineAnswer.TheVariants as LineCase
 
 -- sigma's two powers and the factors of a pair, each what the formula works at every radius
 pub record Sharing (w : PairShared) : Type 0 where
@@ -27,11 +26,11 @@ pub record Sharing (w : PairShared) : Type 0 where
   pub ce : w.ce ≡ enclosures.mul w.pair.c w.pair.epsilon_k
 
 -- what is shared, or that no radius has a potential
-abbrev pub Shares : PairEnclosures → PairSharedAnswer → Type 0
-Shares p (SharedCase.At w) = (w.pair ≡ p) × Sharing w
-Shares p SharedCase.Outside = (r : Enclosure) → potential enclosures (calls enclosures port) (pair_in p) r ≡ refused 6
+abbrev pub Shares : PairEnclosures → Result PairShared Refusal → Type 0
+Shares p (Ok w) = (w.pair ≡ p) × Sharing w
+Shares p (Err e) = (r : Enclosure) → potential enclosures (calls enclosures port) (pair_in p) r ≡ refused (code e)
 
 -- a line as a function of what it makes of its four powers
-abbrev pub line_of : PairShared → LineAnswer → (Enclosure → Enclosure → Enclosure → Enclosure → Enclosure) → Ans Enclosure
-line_of w (LineCase.Powers l) f = held (f l.rr w.sr l.ra w.sa)
-line_of w LineCase.Outside f = refused 6
+abbrev pub line_of : PairShared → Result LinePowers Refusal → (Enclosure → Enclosure → Enclosure → Enclosure → Enclosure) → Ans Enclosure
+line_of w (Ok l) f = held (f l.rr w.sr l.ra w.sa)
+line_of w (Err r) f = refused (code r)

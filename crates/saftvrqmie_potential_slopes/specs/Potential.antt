@@ -1,6 +1,8 @@
 -- `qmie_potential_ij` at D: the potential of saftvrqmie_potential read where radius and temperature carry a slope and the pair's numbers are plain, as in the Rust.
-use Rattle.std.specs.Prelude.{Float}
-use Rattle.number.specs.Ans.{Ans, held, refused, ◌>>=◌}
+use Rattle.std.specs.Prelude.{Float, Result}
+use Rattle.number.specs.declared.refusal.Refusal.{Refusal}
+use Rattle.number.specs.Answer.{answer_by}
+use Rattle.number.specs.Ans.{Ans, held, ◌>>=◌}
 use Rattle.number.specs.Functions.{Answers}
 use Rattle.dual.specs.Dual.{DualOf}
 use Rattle.dual.specs.Value.{dual_of}
@@ -9,16 +11,12 @@ use Rattle.slopes.specs.Rules.{mixed_functions}
 use Rattle.saftvrqmie_potential.specs.declared.Pair.{Pair}
 use Rattle.saftvrqmie_potential.specs.Potential.{PairIn, PotentialIn, quantum_d, potential}
 use Rattle.saftvrqmie_potential_slopes.specs.declared.DualPotential.{DualPotential}
-use Rattle.saftvrqmie_potential_slopes.specs.declared.DualPotentialAnswer.{DualPotentialAnswer}
-use Rattle.saftvrqmie_potential_slopes.specs.declared.DualPotentialAnswer.TheVariants.{Value, Outside}
 
 abbrev pub dual_potential_in : DualPotential → PotentialIn (DualOf Float)
 dual_potential_in v = record { u = dual_of v.u; u_r = dual_of v.u_r; u_rr = dual_of v.u_rr }
 
--- document 01's number or values of each case of `DualPotentialAnswer`
-abbrev pub dual_potential_answer : DualPotentialAnswer → Ans (PotentialIn (DualOf Float))
-dual_potential_answer (Value v) = held (dual_potential_in v)
-dual_potential_answer Outside = refused 6
+abbrev pub dual_potential_answer : Result DualPotential Refusal → Ans (PotentialIn (DualOf Float))
+dual_potential_answer = answer_by dual_potential_in
 
 -- a pair's numbers are plain; its temperature is the D beside it
 abbrev pub mixed_pair : Pair → DualOf Float → PairIn Mixed

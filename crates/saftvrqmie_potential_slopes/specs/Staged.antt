@@ -1,6 +1,6 @@
 -- What the code works once for a pair, and the potential with slopes from it, with the powers in their stages: the contracts of helpers alone. That this is the potential, bits and refusals, is shown in proofs/Staged (`shared-held`, `shared-refused`).
 use Rattle.std.specs.Prelude.{ℕ, Float, Bool, true, false, ◌&&◌, cond}
-use Rattle.number.specs.Ans.{Ans, held, refused, ◌>>=◌, demand}
+use Rattle.number.specs.Ans.{Ans, held, ◌>>=◌, demand}
 use Rattle.number.specs.Arith.{floats, decimal, whole}
 use Rattle.number.specs.Domain.{base_inside}
 use Rattle.elementary.specs.Port.{port}
@@ -18,13 +18,6 @@ use Rattle.saftvrqmie_potential.specs.Potential.{PotentialIn, first_order, secon
 use Rattle.saftvrqmie_potential_slopes.specs.Potential.{quantum_d_slope}
 use Rattle.saftvrqmie_potential_slopes.specs.declared.SlopeTerm.{SlopeTerm}
 use Rattle.saftvrqmie_potential_slopes.specs.declared.SlopeShared.{SlopeShared}
-use Rattle.saftvrqmie_potential_slopes.specs.declared.SlopeSharedAnswer.{SlopeSharedAnswer}
-use Rattle.saftvrqmie_potential_slopes.specs.declared.SlopeSharedAnswer.TheVariants.{At, Outside}
-
--- the number or value of each case of `SlopeSharedAnswer`
-abbrev pub shared_answer : SlopeSharedAnswer → Ans SlopeShared
-shared_answer (At w) = held w
-shared_answer Outside = refused 6
 
 -- 1 / p, with one to four plain factors
 abbrev pub over0 : DualOf Float → DualOf Float

@@ -3,6 +3,7 @@
 #![tactic(auto)]
 
 ghost use Rattle.std.specs.Prelude.{◌≡◌, true, cond};
+ghost use Rattle.number.specs.Answer.{answer};
 ghost use Rattle.number.specs.Arith.{floats};
 ghost use Rattle.elementary.specs.Port.{port};
 ghost use Rattle.dual.specs.Dual.{plain_d, duals};
@@ -10,12 +11,13 @@ ghost use Rattle.dual.specs.Value.{dual_of};
 ghost use Rattle.slopes.specs.Answer.{dual_answer};
 ghost use Rattle.saftvrqmie_potential.specs.Potential.{corrected, scaled};
 ghost use Rattle.saftvrqmie_potential_slopes.specs.Potential.{dual_potential_in, dual_potential_answer, quantum_d_slope, potential_slope};
-ghost use Rattle.saftvrqmie_potential_slopes.specs.Staged.{shared_answer, over1, over2, over3, over4, under2, under3, exponents_inside, term_of, shared_of, mie_at, first_at, second_at, values_at, potential_at, u_at, both_inside};
+ghost use Rattle.saftvrqmie_potential_slopes.specs.Staged.{over1, over2, over3, over4, under2, under3, exponents_inside, term_of, shared_of, mie_at, first_at, second_at, values_at, potential_at, u_at, both_inside};
 
 use binary_log::Log;
 use dual::Dual;
+use number::Refusal;
 use saftvrqmie_potential::Pair;
-use slopes::{DualAnswer, SlopeExponent};
+use slopes::SlopeExponent;
 
 const D_QM_PREFACTOR: f64 = 6.712554014896364e-27;
 
@@ -25,12 +27,6 @@ pub struct DualPotential {
     pub u: Dual,
     pub u_r: Dual,
     pub u_rr: Dual,
-}
-
-#[derive(Clone, Copy)]
-pub enum DualPotentialAnswer {
-    Value(DualPotential),
-    Outside,
 }
 
 // One of the two terms: its exponent, its factors, sigma to its exponent, and the exponents of its lines.
@@ -59,12 +55,6 @@ pub struct SlopeShared {
     pub ce: f64,
     pub first: bool,
     pub second: bool,
-}
-
-#[derive(Clone, Copy)]
-pub enum SlopeSharedAnswer {
-    At(SlopeShared),
-    Outside,
 }
 
 // 1 / p times plain factors, from the left.
@@ -205,25 +195,25 @@ fn term_of(s: Log, l: f64) -> SlopeTerm
 }
 
 // No value where sigma or an exponent is outside: then no radius has a potential. The pair's own temperature is not read.
-pub fn share(p: Pair, temperature: Dual) -> SlopeSharedAnswer
-    ensures { shared_answer result ≡ shared_of p (dual_of temperature) }
+pub fn share(p: Pair, temperature: Dual) -> Result<SlopeShared, Refusal>
+    ensures { answer result ≡ shared_of p (dual_of temperature) }
 {
     if !binary_log::base_inside(p.sigma) {
-        return SlopeSharedAnswer::Outside;
+        return Err(Refusal::Domain);
     }
     let order = p.order;
     let first = saftvrqmie_potential::first_order(order);
     let second = saftvrqmie_potential::second_order(order);
     if !exponents_inside(first, second, p.lr, p.la) {
-        return SlopeSharedAnswer::Outside;
+        return Err(Refusal::Domain);
     }
     let s = binary_log::log_base(p.sigma);
     let d = quantum_d(p.mass, temperature);
-    SlopeSharedAnswer::At(SlopeShared {
+    Ok(SlopeShared {
         r: term_of(s, p.lr),
         a: term_of(s, p.la),
         d: d,
-        d2: dual::pow_up(d, 2),
+        d2: d.pow_up(2),
         ce: p.c * p.epsilon_k,
         first: first,
         second: second,
@@ -243,9 +233,9 @@ fn mie(w: SlopeShared, l: Log, s: f64, r2: Dual, a2: Dual) -> DualPotential
     let sr = w.r.power;
     let sa = w.a.power;
     DualPotential {
-        u: dual::sub(over_1(r0, sr), over_1(a0, sa)),
-        u_r: dual::add(under_2(r1, lr, sr), over_2(a1, la, sa)),
-        u_rr: dual::sub(over_3(r2, lr, lr + 1.0, sr), over_3(a2, la, la + 1.0, sa)),
+        u: over_1(r0, sr) - over_1(a0, sa),
+        u_r: under_2(r1, lr, sr) + over_2(a1, la, sa),
+        u_rr: over_3(r2, lr, lr + 1.0, sr) - over_3(a2, la, la + 1.0, sa),
     }
 }
 
@@ -254,9 +244,9 @@ fn corrected_by(d: Dual, v: DualPotential, x: Dual, y: Dual, z: Dual) -> DualPot
     ensures { dual_potential_in result ≡ corrected (duals floats) (dual_of d) (dual_potential_in v) (dual_of x) (dual_of y) (dual_of z) }
 {
     DualPotential {
-        u: dual::add(v.u, dual::mul(d, x)),
-        u_r: dual::add(v.u_r, dual::mul(d, y)),
-        u_rr: dual::add(v.u_rr, dual::mul(d, z)),
+        u: v.u + d * x,
+        u_r: v.u_r + d * y,
+        u_rr: v.u_rr + d * z,
     }
 }
 
@@ -281,12 +271,9 @@ fn add_first(
     let sa = w.a.power;
     let qr = w.r.q1;
     let qa = w.a.q1;
-    let x = dual::sub(over_2(r2, qr, sr), over_2(a2, qa, sa));
-    let y = dual::add(over_3(r3, -qr, lr + 2.0, sr), over_3(a3, qa, la + 2.0, sa));
-    let z = dual::sub(
-        over_4(r4, qr, lr + 2.0, lr + 3.0, sr),
-        over_4(a4, qa, la + 2.0, la + 3.0, sa),
-    );
+    let x = over_2(r2, qr, sr) - over_2(a2, qa, sa);
+    let y = over_3(r3, -qr, lr + 2.0, sr) + over_3(a3, qa, la + 2.0, sa);
+    let z = over_4(r4, qr, lr + 2.0, lr + 3.0, sr) - over_4(a4, qa, la + 2.0, la + 3.0, sa);
     corrected_by(w.d, v, x, y, z)
 }
 
@@ -304,12 +291,9 @@ fn add_second(w: SlopeShared, l: Log, s: f64, r4: Dual, a4: Dual, v: DualPotenti
     let sa = w.a.power;
     let qr = w.r.q2;
     let qa = w.a.q2;
-    let x = dual::sub(over_2(r4, qr, sr), over_2(a4, qa, sa));
-    let y = dual::add(under_3(r5, qr, lr + 4.0, sr), over_3(a5, qa, la + 4.0, sa));
-    let z = dual::sub(
-        over_4(r6, qr, lr + 4.0, lr + 5.0, sr),
-        over_4(a6, qa, la + 4.0, la + 5.0, sa),
-    );
+    let x = over_2(r4, qr, sr) - over_2(a4, qa, sa);
+    let y = under_3(r5, qr, lr + 4.0, sr) + over_3(a5, qa, la + 4.0, sa);
+    let z = over_4(r6, qr, lr + 4.0, lr + 5.0, sr) - over_4(a6, qa, la + 4.0, la + 5.0, sa);
     corrected_by(w.d2, v, x, y, z)
 }
 
@@ -341,13 +325,13 @@ fn values_at(w: SlopeShared, l: Log, s: f64) -> DualPotential
     scaled_by(w.ce, add_second(w, l, s, r4, a4, v1))
 }
 
-pub fn potential_at(w: SlopeShared, r: Dual) -> DualPotentialAnswer
+pub fn potential_at(w: SlopeShared, r: Dual) -> Result<DualPotential, Refusal>
     ensures { dual_potential_answer result ≡ potential_at w (dual_of r) }
 {
     if !binary_log::base_inside(r.re) {
-        return DualPotentialAnswer::Outside;
+        return Err(Refusal::Domain);
     }
-    DualPotentialAnswer::Value(values_at(w, binary_log::log_base(r.re), r.eps))
+    Ok(values_at(w, binary_log::log_base(r.re), r.eps))
 }
 
 // The potential alone, where nothing reads its derivatives. Their powers need not be worked: what they refuse is tested once for the pair.
@@ -358,38 +342,36 @@ fn u_value(w: SlopeShared, l: Log, s: f64) -> Dual
     let sa = w.a.power;
     let r0 = slopes::raise(l, s, w.r.e0);
     let a0 = slopes::raise(l, s, w.a.e0);
-    let u = dual::sub(over_1(r0, sr), over_1(a0, sa));
+    let u = over_1(r0, sr) - over_1(a0, sa);
     if !w.first {
         return slopes::times(u, w.ce);
     }
     let r2 = slopes::raise(l, s, w.r.e2);
     let a2 = slopes::raise(l, s, w.a.e2);
-    let x1 = dual::sub(over_2(r2, w.r.q1, sr), over_2(a2, w.a.q1, sa));
-    let u1 = dual::add(u, dual::mul(w.d, x1));
+    let x1 = over_2(r2, w.r.q1, sr) - over_2(a2, w.a.q1, sa);
+    let u1 = u + w.d * x1;
     if !w.second {
         return slopes::times(u1, w.ce);
     }
     let r4 = slopes::raise(l, s, w.r.e4);
     let a4 = slopes::raise(l, s, w.a.e4);
-    let x2 = dual::sub(over_2(r4, w.r.q2, sr), over_2(a4, w.a.q2, sa));
-    slopes::times(dual::add(u1, dual::mul(w.d2, x2)), w.ce)
+    let x2 = over_2(r4, w.r.q2, sr) - over_2(a4, w.a.q2, sa);
+    slopes::times(u1 + w.d2 * x2, w.ce)
 }
 
-pub fn u_at(w: SlopeShared, r: Dual) -> DualAnswer
+pub fn u_at(w: SlopeShared, r: Dual) -> Result<Dual, Refusal>
     ensures { dual_answer result ≡ u_at w (dual_of r) }
 {
     if !binary_log::base_inside(r.re) {
-        return DualAnswer::Outside;
+        return Err(Refusal::Domain);
     }
-    DualAnswer::Value(u_value(w, binary_log::log_base(r.re), r.eps))
+    Ok(u_value(w, binary_log::log_base(r.re), r.eps))
 }
 
 // `qmie_potential_ij`.
-pub fn qmie_potential(pair: Pair, temperature: Dual, r: Dual) -> DualPotentialAnswer
+pub fn qmie_potential(pair: Pair, temperature: Dual, r: Dual) -> Result<DualPotential, Refusal>
     ensures { dual_potential_answer result ≡ potential_slope port pair (dual_of temperature) (dual_of r) }
 {
-    let SlopeSharedAnswer::At(w) = share(pair, temperature) else {
-        return DualPotentialAnswer::Outside;
-    };
+    let w = share(pair, temperature)?;
     potential_at(w, r)
 }

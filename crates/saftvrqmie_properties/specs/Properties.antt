@@ -1,14 +1,14 @@
 -- `TemperatureDependentProperties::new` of saftvrqmie/eos/mod.rs at one pair: sigma_eff, diameter, well depth and D, with the counts of the three searches.
-use Rattle.std.specs.Prelude.{ℕ, Float}
-use Rattle.number.specs.Ans.{Ans, held, refused, ◌>>=◌}
+use Rattle.std.specs.Prelude.{ℕ, Float, Result}
+use Rattle.number.specs.declared.refusal.Refusal.{Refusal}
+use Rattle.number.specs.Answer.{answer_by}
+use Rattle.number.specs.Ans.{Ans, held, ◌>>=◌}
 use Rattle.number.specs.Arith.{Arith, whole}
 use Rattle.number.specs.Functions.{Functions}
 use Rattle.saftvrqmie_potential.specs.Potential.{PairIn, PotentialIn, quantum_d, potential}
 use Rattle.saftvrqmie_searches.specs.Searches.{SearchIn, found, spent, sigma_search, zero_search, depth_search}
 use Rattle.saftvrqmie_searches.specs.Diameter.{diameter_by}
 use Rattle.saftvrqmie_properties.specs.declared.PairProperties.{PairProperties}
-use Rattle.saftvrqmie_properties.specs.declared.PropertiesAnswer.{PropertiesAnswer}
-use Rattle.saftvrqmie_properties.specs.declared.PropertiesAnswer.TheVariants.{At, Outside}
 
 pub record PairPropertiesIn (N : Type 0) : Type 0 where
   pub sigma_eff : N
@@ -31,10 +31,8 @@ pair_properties_in p =
       depth_count = p.depth_count;
     }
 
--- document 01's number or values of each case of `PropertiesAnswer`
-abbrev pub pair_properties_answer : PropertiesAnswer → Ans (PairPropertiesIn Float)
-pair_properties_answer (At p) = held (pair_properties_in p)
-pair_properties_answer Outside = refused 6
+abbrev pub pair_properties_answer : Result PairProperties Refusal → Ans (PairPropertiesIn Float)
+pair_properties_answer = answer_by pair_properties_in
 
 -- a search's radius is used whether it was found or spent, and so is its last potential; the radius stands `after` each potential, the last one not after the last step
 abbrev pub radius_of : {N : Type 0} → SearchIn N → N

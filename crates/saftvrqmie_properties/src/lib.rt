@@ -9,9 +9,9 @@ ghost use Rattle.saftvrqmie_potential.specs.Potential.{pair_in};
 ghost use Rattle.saftvrqmie_searches.specs.Searches.{search_in};
 ghost use Rattle.saftvrqmie_properties.specs.Properties.{pair_properties_answer, radius_of, last_of, pair_properties};
 
-use number::FloatAnswer;
-use saftvrqmie_potential::{Pair, SharedAnswer};
-use saftvrqmie_searches::{Search, SearchAnswer};
+use number::Refusal;
+use saftvrqmie_potential::Pair;
+use saftvrqmie_searches::Search;
 
 #[derive(Clone, Copy)]
 pub struct PairProperties {
@@ -22,12 +22,6 @@ pub struct PairProperties {
     pub sigma_count: u8,
     pub zero_count: u8,
     pub depth_count: u8,
-}
-
-#[derive(Clone, Copy)]
-pub enum PropertiesAnswer {
-    At(PairProperties),
-    Outside,
 }
 
 pub fn radius(s: Search) -> f64
@@ -48,29 +42,18 @@ pub fn last_potential(s: Search) -> f64
     }
 }
 
-pub fn pair_properties(pair: Pair) -> PropertiesAnswer
+pub fn pair_properties(pair: Pair) -> Result<PairProperties, Refusal>
     ensures { pair_properties_answer result ≡ pair_properties floats (calls floats port) (pair_in pair) }
 {
-    let SharedAnswer::At(w) = saftvrqmie_potential::share(pair) else {
-        return PropertiesAnswer::Outside;
-    };
+    let w = saftvrqmie_potential::share(pair)?;
     let sigma = 1.0 * pair.sigma;
-    let SearchAnswer::Ended(s, sigma_count) = saftvrqmie_searches::sigma_search(w, sigma) else {
-        return PropertiesAnswer::Outside;
-    };
+    let (s, sigma_count) = saftvrqmie_searches::sigma_search(w, sigma)?;
     let t = pair.temperature;
     let sigma_eff = radius(s);
-    let SearchAnswer::Ended(z, zero_count) = saftvrqmie_searches::zero_search(w, t, sigma_eff)
-    else {
-        return PropertiesAnswer::Outside;
-    };
-    let FloatAnswer::Value(d) = saftvrqmie_searches::diameter_by(w, t, sigma_eff, radius(z)) else {
-        return PropertiesAnswer::Outside;
-    };
-    let SearchAnswer::Ended(e, depth_count) = saftvrqmie_searches::depth_search(w, sigma) else {
-        return PropertiesAnswer::Outside;
-    };
-    PropertiesAnswer::At(PairProperties {
+    let (z, zero_count) = saftvrqmie_searches::zero_search(w, t, sigma_eff)?;
+    let d = saftvrqmie_searches::diameter_by(w, t, sigma_eff, radius(z))?;
+    let (e, depth_count) = saftvrqmie_searches::depth_search(w, sigma)?;
+    Ok(PairProperties {
         sigma_eff: sigma_eff,
         hs_diameter: d,
         epsilon_k_eff: -last_potential(e),

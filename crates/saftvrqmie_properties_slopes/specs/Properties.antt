@@ -1,6 +1,8 @@
 -- `TemperatureDependentProperties::new` of saftvrqmie/eos/mod.rs at D, at one pair: the definition of saftvrqmie_properties read where every number is a D, over the potential with slopes.
-use Rattle.std.specs.Prelude.{Float}
-use Rattle.number.specs.Ans.{Ans, held, refused}
+use Rattle.std.specs.Prelude.{Float, Result}
+use Rattle.number.specs.declared.refusal.Refusal.{Refusal}
+use Rattle.number.specs.Answer.{answer_by}
+use Rattle.number.specs.Ans.{Ans}
 use Rattle.number.specs.Arith.{floats}
 use Rattle.number.specs.Functions.{Answers}
 use Rattle.dual.specs.Dual.{DualOf, plain_d, duals}
@@ -11,8 +13,6 @@ use Rattle.saftvrqmie_potential.specs.Potential.{PairIn}
 use Rattle.saftvrqmie_potential_slopes.specs.Potential.{potential_slope}
 use Rattle.saftvrqmie_properties.specs.Properties.{PairPropertiesIn, properties_by}
 use Rattle.saftvrqmie_properties_slopes.specs.declared.DualProperties.{DualProperties}
-use Rattle.saftvrqmie_properties_slopes.specs.declared.DualPropertiesAnswer.{DualPropertiesAnswer}
-use Rattle.saftvrqmie_properties_slopes.specs.declared.DualPropertiesAnswer.TheVariants.{At, Outside}
 
 abbrev pub dual_properties_in : DualProperties → PairPropertiesIn (DualOf Float)
 dual_properties_in p =
@@ -26,10 +26,8 @@ dual_properties_in p =
       depth_count = p.depth_count;
     }
 
--- document 01's number or values of each case of `DualPropertiesAnswer`
-abbrev pub dual_properties_answer : DualPropertiesAnswer → Ans (PairPropertiesIn (DualOf Float))
-dual_properties_answer (At p) = held (dual_properties_in p)
-dual_properties_answer Outside = refused 6
+abbrev pub dual_properties_answer : Result DualProperties Refusal → Ans (PairPropertiesIn (DualOf Float))
+dual_properties_answer = answer_by dual_properties_in
 
 -- a pair where the Rust takes its numbers as D's: D::one() * sigma, and D's divided by the mass
 abbrev pub dual_pair : Pair → DualOf Float → PairIn (DualOf Float)

@@ -9,10 +9,9 @@ ghost use Rattle.saftvrqmie_searches_slopes.specs.Searches.{search_in};
 ghost use Rattle.saftvrqmie_properties_slopes.specs.Properties.{dual_properties_answer, properties_slope};
 
 use dual::Dual;
+use number::Refusal;
 use saftvrqmie_potential::Pair;
-use saftvrqmie_potential_slopes::SlopeSharedAnswer;
-use saftvrqmie_searches_slopes::{DualSearch, DualSearchAnswer};
-use slopes::DualAnswer;
+use saftvrqmie_searches_slopes::DualSearch;
 
 #[derive(Clone, Copy)]
 pub struct DualProperties {
@@ -23,12 +22,6 @@ pub struct DualProperties {
     pub sigma_count: u8,
     pub zero_count: u8,
     pub depth_count: u8,
-}
-
-#[derive(Clone, Copy)]
-pub enum DualPropertiesAnswer {
-    At(DualProperties),
-    Outside,
 }
 
 pub fn radius(s: DualSearch) -> Dual
@@ -50,42 +43,21 @@ pub fn last_potential(s: DualSearch) -> Dual
 }
 
 // The pair's own temperature is not read.
-pub fn pair_properties(pair: Pair, temperature: Dual) -> DualPropertiesAnswer
+pub fn pair_properties(pair: Pair, temperature: Dual) -> Result<DualProperties, Refusal>
     ensures { dual_properties_answer result ≡ properties_slope port pair (dual_of temperature) }
 {
-    let SlopeSharedAnswer::At(w) = saftvrqmie_potential_slopes::share(pair, temperature) else {
-        return DualPropertiesAnswer::Outside;
-    };
-    let sigma = slopes::times(dual::plain(1.0), pair.sigma);
-    let DualSearchAnswer::Ended(s, sigma_count) = saftvrqmie_searches_slopes::sigma_search(w, sigma)
-    else {
-        return DualPropertiesAnswer::Outside;
-    };
+    let w = saftvrqmie_potential_slopes::share(pair, temperature)?;
+    let sigma = slopes::times(Dual::plain(1.0), pair.sigma);
+    let (s, sigma_count) = saftvrqmie_searches_slopes::sigma_search(w, sigma)?;
     let sigma_eff = radius(s);
-    let DualSearchAnswer::Ended(z, zero_count) = saftvrqmie_searches_slopes::zero_search(
-        w,
-        temperature,
-        sigma_eff,
-    ) else {
-        return DualPropertiesAnswer::Outside;
-    };
+    let (z, zero_count) = saftvrqmie_searches_slopes::zero_search(w, temperature, sigma_eff)?;
     let r0 = radius(z);
-    let DualAnswer::Value(d) = saftvrqmie_searches_slopes::diameter_by(
-        w,
-        temperature,
-        sigma_eff,
-        r0,
-    ) else {
-        return DualPropertiesAnswer::Outside;
-    };
-    let DualSearchAnswer::Ended(e, depth_count) = saftvrqmie_searches_slopes::depth_search(w, sigma)
-    else {
-        return DualPropertiesAnswer::Outside;
-    };
-    DualPropertiesAnswer::At(DualProperties {
+    let d = saftvrqmie_searches_slopes::diameter_by(w, temperature, sigma_eff, r0)?;
+    let (e, depth_count) = saftvrqmie_searches_slopes::depth_search(w, sigma)?;
+    Ok(DualProperties {
         sigma_eff: sigma_eff,
         hs_diameter: d,
-        epsilon_k_eff: dual::neg(last_potential(e)),
+        epsilon_k_eff: -last_potential(e),
         quantum_d: saftvrqmie_potential_slopes::quantum_d(pair.mass, temperature),
         sigma_count: sigma_count,
         zero_count: zero_count,

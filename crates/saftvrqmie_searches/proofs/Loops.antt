@@ -1,17 +1,18 @@
 -- Laws of the searches, one for each place of a loop. Assumes nothing.
 use Prim.Native.Nat.{ℕ, suc, ◌+◌, ◌-◌, ◌≤◌, ◌<◌}
 use native.Mathlib.Omega.{arith}
+use lib.Ieee as Ieee
 use lib.Ieee.{Float}
-use mathlib.Core.Path.{◌≡◌, refl, fun_ext}
+use mathlib.Core.Path.{◌≡◌, refl, sym, ◌∙◌, fun_ext}
 use mathlib.Core.Bool.{Bool, true, false}
 use Rattle.number.specs.Ans.{Ans, held, refused, ◌>>=◌}
 use Rattle.number.specs.Arith.{floats, decimal, epsilon64}
 use Rattle.number.specs.Functions.{calls, answered}
 use Rattle.elementary.specs.Port.{port}
+use Rattle.elementary.proofs.Promised.{promised}
 use Rattle.saftvrqmie_potential.specs.Potential.{PotentialIn}
 use Rattle.saftvrqmie_potential.specs.Staged.{potential_at}
 use Rattle.saftvrqmie_potential.specs.declared.Shared.{Shared}
-use Rattle.saftvrqmie_potential.proofs.Staged.{at_either}
 use Rattle.saftvrqmie_searches.specs.declared.SearchKind.TheVariants.{Sigma, Zero, Depth}
 use Rattle.saftvrqmie_searches.specs.Searches.{Counted, found, spent, small, search_from, searched, zero_value, zero_tested, sigma_search, depth_search, zero_search, search_by}
 
@@ -78,6 +79,14 @@ unfolding answered ◌>>=◌
 once (held v) x = refl
 once (refused n) x = refl
 
+-- EPSILON has a logarithm
+log_there : (n : ℕ) → port.ln epsilon64 ≡ refused n → ⊥
+unfolding Ieee.of_bits Ieee.le Ieee.lt Ieee.eq Ieee.is_nan Ieee.fits
+log_there n e = never n ((promised.ln epsilon64 tt).0.inside tt).0 (sym e ∙ ((promised.ln epsilon64 tt).0.inside tt).1)
+  where
+    never : (n : ℕ) (r : Float) → refused n ≡ held r → ⊥
+    never n r p = let z : ◌≡◌ {A = ℕ} 0 1 = cc in omega arith
+
 module _ (w : Shared) (t s : Float) where
   tested_held : (l : Float) → port.ln epsilon64 ≡ held l → zero_tested floats (calls floats port) t ≡ (λ v. held (zero_value floats t l v))
   unfolding zero_tested ◌>>=◌
@@ -87,6 +96,5 @@ module _ (w : Shared) (t s : Float) where
   unfolding zero_search search_by
   log_held l e = rw (tested_held l e)
 
-  pub log_refused : port.ln epsilon64 ≡ refused 6 → refused 6 ≡ zero_search floats (potential_at w) (calls floats port) t s
-  unfolding zero_search searched search_from zero_tested ◌>>=◌
-  log_refused e = at_either w (floats.mul s (decimal false 7 1)) (λ v q. rw (q, once (port.ln epsilon64) epsilon64, e)) (λ q. rw q)
+  pub log_refused : (n : ℕ) → port.ln epsilon64 ≡ refused n → refused n ≡ zero_search floats (potential_at w) (calls floats port) t s
+  log_refused n e = absurd (log_there n e)

@@ -41,14 +41,14 @@ module _ (w : Shared) (t sigma_eff r0 : Float) (k : ℕ) (d-hs x : Float) (is_x 
   unfolding node_turn u_at
   as_u = rw (← is_x) (by_u (potential_at w r) onward)
 
-  pub node_outside : u_at w r ≡ refused 6 → refused 6 ≡ turn
+  pub node_outside : (n : ℕ) → u_at w r ≡ refused n → refused n ≡ turn
   unfolding ◌>>=◌
-  node_outside e = sym (as_u ∙ rw e)
+  node_outside n e = sym (as_u ∙ rw e)
 
   module _ (u : Float) (is-u : u_at w r ≡ held u) where
-    pub node_no_exp : port.exp (floats.div (floats.neg u) t) ≡ refused 6 → refused 6 ≡ turn
+    pub node_no_exp : (n : ℕ) → port.exp (floats.div (floats.neg u) t) ≡ refused n → refused n ≡ turn
     unfolding ◌>>=◌
-    node_no_exp e = sym (as_u ∙ rw (is-u, once (port.exp (floats.div (floats.neg u) t)) (floats.div (floats.neg u) t), e))
+    node_no_exp n e = sym (as_u ∙ rw (is-u, once (port.exp (floats.div (floats.neg u) t)) (floats.div (floats.neg u) t), e))
 
     pub node_value : (e y : Float) → port.exp (floats.div (floats.neg u) t) ≡ held e → y ≡ entry (calls floats port) weights k → held (added e y) ≡ turn
     unfolding ◌>>=◌

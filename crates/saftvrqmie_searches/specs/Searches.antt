@@ -1,9 +1,11 @@
 -- The three radius searches of saftvrqmie/eos/hard_sphere.rs, over any arithmetic. Branches are those of the float run.
-use Rattle.std.specs.Prelude.{ℕ, zero, suc, ◌-◌, Float, Bool, false, cond}
+use Rattle.std.specs.Prelude.{ℕ, zero, suc, ◌-◌, Float, Bool, false, cond, Result}
+use Rattle.number.specs.declared.refusal.Refusal.{Refusal}
+use Rattle.number.specs.Answer.{answer_by}
 use Rattle.std.specs.Float.Ieee as Ieee
 use Rattle.std.specs.Float.{binary64}
 use Rattle.std.specs.Float.Ieee.{lt}
-use Rattle.number.specs.Ans.{Ans, held, refused, ◌>>=◌}
+use Rattle.number.specs.Ans.{Ans, held, ◌>>=◌}
 use Rattle.number.specs.Arith.{Arith, decimal, zero64, epsilon64, whole}
 use Rattle.number.specs.Functions.{Functions}
 use Rattle.number.specs.Neighbour.{absolute}
@@ -12,8 +14,6 @@ use Rattle.saftvrqmie_searches.specs.declared.Search.{Search}
 use Rattle.saftvrqmie_searches.specs.declared.Search.TheVariants.{Found, Spent}
 use Rattle.saftvrqmie_searches.specs.declared.SearchKind.{SearchKind}
 use Rattle.saftvrqmie_searches.specs.declared.SearchKind.TheVariants.{Sigma, Zero, Depth}
-use Rattle.saftvrqmie_searches.specs.declared.SearchAnswer.{SearchAnswer}
-use Rattle.saftvrqmie_searches.specs.declared.SearchAnswer.TheVariants.{Ended, Outside}
 
 -- 'found or spent, each with its radius and last potential'
 pub data SearchIn (N : Type 0) : Type 0 where
@@ -29,10 +29,11 @@ abbrev pub search_in : Search → SearchIn Float
 search_in (Found r u) = found r u
 search_in (Spent r u) = spent r u
 
--- document 01's number or values of each case of `SearchAnswer`
-abbrev pub search_answer : SearchAnswer → Ans (Counted Float)
-search_answer (Ended s n) = held (record { search = search_in s; count = n })
-search_answer Outside = refused 6
+abbrev pub counted_in : Search × ℕ → Counted Float
+counted_in (s, n) = record { search = search_in s; count = n }
+
+abbrev pub search_answer : Result (Search × ℕ) Refusal → Ans (Counted Float)
+search_answer = answer_by counted_in
 
 module _ (A : Arith) where
   open A use {Num, add as ◌⊕◌, mul as ◌⊗◌, div as ◌⊘◌, neg as ⊖◌, lit, val, after}

@@ -11,8 +11,8 @@ ghost use Rattle.saftvrqmie_potential.specs.Staged.{potential_at};
 ghost use Rattle.saftvrqmie_searches.specs.Searches.{search_answer, small, clamped, tested_by, step_by, search_by, sigma_search, zero_search, depth_search, sigma_eff, zero_integrand, epsilon_k_eff};
 ghost use Rattle.saftvrqmie_searches.specs.Diameter.{abscissas, weights, node_turn, diameter_by, diameter};
 
-use number::FloatAnswer;
-use saftvrqmie_potential::{Pair, PotentialAnswer, QMiePotential, Shared, SharedAnswer};
+use number::Refusal;
+use saftvrqmie_potential::{Pair, QMiePotential, Shared};
 
 // f64::EPSILON
 const EPSILON: f64 = 2.220446049250313e-16;
@@ -73,13 +73,6 @@ pub enum Search {
     Spent(f64, f64),
 }
 
-// A search with its count, or that an elementary argument was outside on the way.
-#[derive(Clone, Copy)]
-pub enum SearchAnswer {
-    Ended(Search, u8),
-    Outside,
-}
-
 // Which of the three searches.
 #[derive(Clone, Copy)]
 enum SearchKind {
@@ -129,75 +122,71 @@ fn stepped(kind: SearchKind, temperature: f64, r: f64, v: QMiePotential, f: f64)
 }
 
 // One search. The logarithm of EPSILON is handed in: it is the same at every evaluation.
-fn radius_search(kind: SearchKind, w: Shared, temperature: f64, l: f64, start: f64) -> SearchAnswer
+fn radius_search(
+    kind: SearchKind,
+    w: Shared,
+    temperature: f64,
+    l: f64,
+    start: f64,
+) -> Result<(Search, u8), Refusal>
     ensures { search_answer result ≡ search_by floats kind (potential_at w) temperature l start }
 {
     let mut r = start;
     let mut u = 0.0;
     for k in 0u8..19u8 {
-        let PotentialAnswer::Value(v) = saftvrqmie_potential::potential_at(w, r) else {
-            return SearchAnswer::Outside;
-        };
+        let v = saftvrqmie_potential::potential_at(w, r)?;
         let f = tested(kind, temperature, l, v);
         let count = k + 1;
         if is_small(f) {
-            return SearchAnswer::Ended(Search::Found(r, v.u), count);
+            return Ok((Search::Found(r, v.u), count));
         }
         r = stepped(kind, temperature, r, v, f);
         u = v.u;
     }
-    SearchAnswer::Ended(Search::Spent(r, u), 20)
+    Ok((Search::Spent(r, u), 20))
 }
 
 // The three searches from what a pair's radii share.
-pub fn sigma_search(w: Shared, sigma: f64) -> SearchAnswer
+pub fn sigma_search(w: Shared, sigma: f64) -> Result<(Search, u8), Refusal>
     ensures { search_answer result ≡ sigma_search floats (potential_at w) sigma }
 {
     radius_search(SearchKind::Sigma, w, 0.0, 0.0, sigma)
 }
 
-pub fn zero_search(w: Shared, temperature: f64, sigma_eff: f64) -> SearchAnswer
+pub fn zero_search(w: Shared, temperature: f64, sigma_eff: f64) -> Result<(Search, u8), Refusal>
     ensures { search_answer result ≡ zero_search floats (potential_at w) (calls floats port) temperature sigma_eff }
 {
-    let FloatAnswer::Value(l) = elementary::ln(EPSILON) else {
-        return SearchAnswer::Outside;
-    };
+    let l = elementary::ln(EPSILON)?;
     radius_search(SearchKind::Zero, w, temperature, l, sigma_eff * 0.7)
 }
 
-pub fn depth_search(w: Shared, sigma: f64) -> SearchAnswer
+pub fn depth_search(w: Shared, sigma: f64) -> Result<(Search, u8), Refusal>
     ensures { search_answer result ≡ depth_search floats (potential_at w) sigma }
 {
     radius_search(SearchKind::Depth, w, 0.0, 0.0, sigma)
 }
 
 // `calc_sigma_eff_ij`.
-pub fn calc_sigma_eff(pair: Pair) -> SearchAnswer
+pub fn calc_sigma_eff(pair: Pair) -> Result<(Search, u8), Refusal>
     ensures { search_answer result ≡ sigma_eff floats (calls floats port) (pair_in pair) }
 {
-    let SharedAnswer::At(w) = saftvrqmie_potential::share(pair) else {
-        return SearchAnswer::Outside;
-    };
+    let w = saftvrqmie_potential::share(pair)?;
     sigma_search(w, 1.0 * pair.sigma)
 }
 
 // `zero_integrand`.
-pub fn zero_integrand(pair: Pair, sigma_eff: f64) -> SearchAnswer
+pub fn zero_integrand(pair: Pair, sigma_eff: f64) -> Result<(Search, u8), Refusal>
     ensures { search_answer result ≡ zero_integrand floats (calls floats port) (pair_in pair) sigma_eff }
 {
-    let SharedAnswer::At(w) = saftvrqmie_potential::share(pair) else {
-        return SearchAnswer::Outside;
-    };
+    let w = saftvrqmie_potential::share(pair)?;
     zero_search(w, pair.temperature, sigma_eff)
 }
 
 // `calc_epsilon_k_eff_ij`; epsilon_k_eff is minus the last potential.
-pub fn calc_epsilon_k_eff(pair: Pair) -> SearchAnswer
+pub fn calc_epsilon_k_eff(pair: Pair) -> Result<(Search, u8), Refusal>
     ensures { search_answer result ≡ epsilon_k_eff floats (calls floats port) (pair_in pair) }
 {
-    let SharedAnswer::At(w) = saftvrqmie_potential::share(pair) else {
-        return SearchAnswer::Outside;
-    };
+    let w = saftvrqmie_potential::share(pair)?;
     depth_search(w, 1.0 * pair.sigma)
 }
 
@@ -261,40 +250,39 @@ pub fn weight(k: usize) -> f64
 }
 
 // One node's part, added. Nothing reads the derivatives there.
-fn node(w: Shared, temperature: f64, sigma_eff: f64, r0: f64, k: usize, d_hs: f64) -> FloatAnswer
+fn node(
+    w: Shared,
+    temperature: f64,
+    sigma_eff: f64,
+    r0: f64,
+    k: usize,
+    d_hs: f64,
+) -> Result<f64, Refusal>
     requires { k < 21 }
     ensures { answer result ≡ node_turn floats (calls floats port) (potential_at w) temperature sigma_eff r0 k d_hs }
 {
     let width = (sigma_eff - r0) * 0.5;
     let r = width * abscissa(k) + width + r0;
-    let FloatAnswer::Value(u) = saftvrqmie_potential::u_at(w, r) else {
-        return FloatAnswer::Outside;
-    };
-    let FloatAnswer::Value(e) = elementary::exp(-u / temperature) else {
-        return FloatAnswer::Outside;
-    };
-    FloatAnswer::Value(d_hs + width * (-e + 1.0) * weight(k))
+    let u = saftvrqmie_potential::u_at(w, r)?;
+    let e = elementary::exp(-u / temperature)?;
+    Ok(d_hs + width * (-e + 1.0) * weight(k))
 }
 
-pub fn diameter_by(w: Shared, temperature: f64, sigma_eff: f64, r0: f64) -> FloatAnswer
+pub fn diameter_by(w: Shared, temperature: f64, sigma_eff: f64, r0: f64) -> Result<f64, Refusal>
     ensures { answer result ≡ diameter_by floats (calls floats port) (potential_at w) temperature sigma_eff r0 }
 {
     let mut d_hs = r0;
     for k in 0usize..21usize {
-        let FloatAnswer::Value(next) = node(w, temperature, sigma_eff, r0, k, d_hs) else {
-            return FloatAnswer::Outside;
-        };
+        let next = node(w, temperature, sigma_eff, r0, k, d_hs)?;
         d_hs = next;
     }
-    FloatAnswer::Value(d_hs)
+    Ok(d_hs)
 }
 
 // `hs_diameter_ij`, from the searched radii.
-pub fn hs_diameter(pair: Pair, sigma_eff: f64, r0: f64) -> FloatAnswer
+pub fn hs_diameter(pair: Pair, sigma_eff: f64, r0: f64) -> Result<f64, Refusal>
     ensures { answer result ≡ diameter floats (calls floats port) (pair_in pair) sigma_eff r0 }
 {
-    let SharedAnswer::At(w) = saftvrqmie_potential::share(pair) else {
-        return FloatAnswer::Outside;
-    };
+    let w = saftvrqmie_potential::share(pair)?;
     diameter_by(w, pair.temperature, sigma_eff, r0)
 }

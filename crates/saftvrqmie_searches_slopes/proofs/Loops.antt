@@ -3,18 +3,18 @@ use Prim.Native.Nat.{ℕ, suc, ◌+◌, ◌-◌, ◌≤◌, ◌<◌}
 use native.Mathlib.Omega.{arith}
 use lib.Ieee as Ieee
 use lib.Ieee.{Float}
-use mathlib.Core.Path.{◌≡◌, refl, fun_ext}
+use mathlib.Core.Path.{◌≡◌, refl, sym, ◌∙◌, fun_ext}
 use mathlib.Core.Bool.{Bool, true, false}
 use Rattle.number.specs.Ans.{Ans, held, refused, ◌>>=◌}
 use Rattle.number.specs.Arith.{floats, decimal, epsilon64}
 use Rattle.number.specs.Neighbour.{absolute}
 use Rattle.elementary.specs.Port.{port}
+use Rattle.elementary.proofs.Promised.{promised}
 use Rattle.dual.specs.Dual.{DualOf, plain_d, mul_d, after_d, duals}
 use Rattle.slopes.specs.Rules.{ln_d, dual_functions}
 use Rattle.saftvrqmie_potential.specs.Potential.{PotentialIn}
 use Rattle.saftvrqmie_potential_slopes.specs.Staged.{potential_at}
 use Rattle.saftvrqmie_potential_slopes.specs.declared.SlopeShared.{SlopeShared}
-use Rattle.saftvrqmie_potential_slopes.proofs.Staged.{at_either}
 use Rattle.saftvrqmie_searches.specs.Searches.{Counted, found, spent, small, clamped, evaluated, search_from, searched, zero_value, zero_tested, sigma_search, depth_search, zero_search}
 use Rattle.saftvrqmie_searches_slopes.specs.Searches.{search_by}
 use Rattle.saftvrqmie_searches_slopes.specs.declared.SlopeSearch.TheVariants.{OfSigma, OfZero, OfDepth}
@@ -90,9 +90,13 @@ ln_held : (l : Float) → port.ln epsilon64 ≡ held l → ln_d port (plain_d fl
 unfolding ln_d plain_d ◌>>=◌
 ln_held l e = rw (e, no_slope)
 
-ln_refused : port.ln epsilon64 ≡ refused 6 → ln_d port (plain_d floats epsilon64) ≡ refused 6
-unfolding ln_d plain_d ◌>>=◌
-ln_refused e = rw e
+-- EPSILON has a logarithm
+log_there : (n : ℕ) → port.ln epsilon64 ≡ refused n → ⊥
+unfolding Ieee.of_bits Ieee.le Ieee.lt Ieee.eq Ieee.is_nan Ieee.fits
+log_there n e = never n ((promised.ln epsilon64 tt).0.inside tt).0 (sym e ∙ ((promised.ln epsilon64 tt).0.inside tt).1)
+  where
+    never : (n : ℕ) (r : Float) → refused n ≡ held r → ⊥
+    never n r p = let z : ◌≡◌ {A = ℕ} 0 1 = cc in omega arith
 
 module _ (w : SlopeShared) (t s : D) where
   tested_held : (l : Float) → port.ln epsilon64 ≡ held l → zero_tested (duals floats) (dual_functions port) t ≡ (λ v. held (zero_value (duals floats) t (plain_d floats l) v))
@@ -104,6 +108,5 @@ module _ (w : SlopeShared) (t s : D) where
   unfolding zero_search search_by
   log_held l e = rw (tested_held l e)
 
-  pub log_refused : port.ln epsilon64 ≡ refused 6 → refused 6 ≡ zero_search (duals floats) (potential_at w) (dual_functions port) t s
-  unfolding zero_search searched search_from zero_tested ◌>>=◌
-  log_refused e = at_either w (mul_d floats s (plain_d floats (decimal false 7 1))) (λ v q. rw (q, ln_refused e)) (λ q. rw q)
+  pub log_refused : (n : ℕ) → port.ln epsilon64 ≡ refused n → refused n ≡ zero_search (duals floats) (potential_at w) (dual_functions port) t s
+  log_refused n e = absurd (log_there n e)

@@ -50,14 +50,14 @@ module _ (w : SlopeShared) (t sigma_eff r0 : D) (k : ℕ) (d-hs : D) where
     unfolding node_turn u_at after_d
     as_u = rw (entry_plain abscissas k, entry_plain weights k, ← is_x, ← is-r) (by_u (potential_at w r) onward)
 
-    pub node_outside : u_at w r ≡ refused 6 → refused 6 ≡ turn
+    pub node_outside : (n : ℕ) → u_at w r ≡ refused n → refused n ≡ turn
     unfolding ◌>>=◌
-    node_outside e = sym (as_u ∙ rw e)
+    node_outside n e = sym (as_u ∙ rw e)
 
     module _ (u q : D) (is-u : u_at w r ≡ held u) (is-q : q ≡ div_d floats (neg_d floats u) t) where
-      pub node_no_exp : exp_d port q ≡ refused 6 → refused 6 ≡ turn
+      pub node_no_exp : (n : ℕ) → exp_d port q ≡ refused n → refused n ≡ turn
       unfolding ◌>>=◌
-      node_no_exp e = sym (as_u ∙ rw (is-u, ← is-q, e))
+      node_no_exp n e = sym (as_u ∙ rw (is-u, ← is-q, e))
 
       pub node_value : (e v : D) (y : Float) → exp_d port q ≡ held e → y ≡ entry (calls floats port) weights k → v ≡ added_of e y → held v ≡ turn
       unfolding ◌>>=◌

@@ -1,6 +1,8 @@
 -- The searches and the diameter with slopes: the definitions of saftvrqmie_searches read where every number is a D, over the potential with slopes. What the code's answers stand for.
-use Rattle.std.specs.Prelude.{Float}
-use Rattle.number.specs.Ans.{Ans, held, refused}
+use Rattle.std.specs.Prelude.{Float, Result, ℕ}
+use Rattle.number.specs.declared.refusal.Refusal.{Refusal}
+use Rattle.number.specs.Answer.{answer_by}
+use Rattle.number.specs.Ans.{Ans, held}
 use Rattle.number.specs.Arith.{floats}
 use Rattle.dual.specs.Dual.{DualOf, duals}
 use Rattle.dual.specs.Value.{dual_of}
@@ -8,8 +10,6 @@ use Rattle.saftvrqmie_potential.specs.Potential.{PotentialIn}
 use Rattle.saftvrqmie_searches.specs.Searches.{SearchIn, found, spent, Counted, searched, sigma_step, depth_step, zero_step, zero_value}
 use Rattle.saftvrqmie_searches_slopes.specs.declared.DualSearch.{DualSearch}
 use Rattle.saftvrqmie_searches_slopes.specs.declared.DualSearch.TheVariants.{Found, Spent}
-use Rattle.saftvrqmie_searches_slopes.specs.declared.DualSearchAnswer.{DualSearchAnswer}
-use Rattle.saftvrqmie_searches_slopes.specs.declared.DualSearchAnswer.TheVariants.{Ended, Outside}
 use Rattle.saftvrqmie_searches_slopes.specs.declared.SlopeSearch.{SlopeSearch}
 use Rattle.saftvrqmie_searches_slopes.specs.declared.SlopeSearch.TheVariants.{OfSigma, OfZero, OfDepth}
 
@@ -18,10 +18,11 @@ abbrev pub search_in : DualSearch → SearchIn (DualOf Float)
 search_in (Found r u) = found (dual_of r) (dual_of u)
 search_in (Spent r u) = spent (dual_of r) (dual_of u)
 
--- document 01's number or values of each case of `DualSearchAnswer`
-abbrev pub dual_search_answer : DualSearchAnswer → Ans (Counted (DualOf Float))
-dual_search_answer (Ended s n) = held (record { search = search_in s; count = n })
-dual_search_answer Outside = refused 6
+abbrev pub counted_in : DualSearch × ℕ → Counted (DualOf Float)
+counted_in (s, n) = record { search = search_in s; count = n }
+
+abbrev pub dual_search_answer : Result (DualSearch × ℕ) Refusal → Ans (Counted (DualOf Float))
+dual_search_answer = answer_by counted_in
 
 -- the three searches as one, with the logarithm l of EPSILON at hand, for the contracts of helpers alone: what is tested, and the step
 abbrev pub tested_by : SlopeSearch → DualOf Float → DualOf Float → PotentialIn (DualOf Float) → DualOf Float

@@ -15,9 +15,8 @@ ghost use Rattle.saftvrqmie_searches.specs.Diameter.{node_turn, diameter_by};
 ghost use Rattle.saftvrqmie_searches_slopes.specs.Searches.{dual_search_answer, tested_by, step_by, search_by};
 
 use dual::Dual;
-use number::FloatAnswer;
-use saftvrqmie_potential_slopes::{DualPotential, DualPotentialAnswer, SlopeShared};
-use slopes::DualAnswer;
+use number::Refusal;
+use saftvrqmie_potential_slopes::{DualPotential, SlopeShared};
 
 // f64::EPSILON
 const EPSILON: f64 = 2.220446049250313e-16;
@@ -27,13 +26,6 @@ const EPSILON: f64 = 2.220446049250313e-16;
 pub enum DualSearch {
     Found(Dual, Dual),
     Spent(Dual, Dual),
-}
-
-// A search with its count, or that an elementary argument was outside on the way.
-#[derive(Clone, Copy)]
-pub enum DualSearchAnswer {
-    Ended(DualSearch, u8),
-    Outside,
 }
 
 // Which of the three searches.
@@ -68,7 +60,7 @@ fn tested(kind: SlopeSearch, temperature: Dual, l: f64, v: DualPotential) -> Dua
 {
     match kind {
         SlopeSearch::OfSigma => v.u,
-        SlopeSearch::OfZero => slopes::plus(dual::div(v.u, temperature), l),
+        SlopeSearch::OfZero => slopes::plus(v.u / temperature, l),
         SlopeSearch::OfDepth => v.u_r,
     }
 }
@@ -78,14 +70,9 @@ fn stepped(kind: SlopeSearch, temperature: Dual, r: Dual, v: DualPotential, f: D
     ensures { dual_of result ≡ step_by kind (dual_of temperature) (dual_of r) (dual_potential_in v) (dual_of f) }
 {
     match kind {
-        SlopeSearch::OfSigma => dual::add(r, dual::div(dual::neg(v.u), v.u_r)),
-        SlopeSearch::OfZero => {
-            dual::add(
-                r,
-                clamp(dual::neg(dual::div(f, dual::div(v.u_r, temperature)))),
-            )
-        }
-        SlopeSearch::OfDepth => dual::add(r, dual::div(dual::neg(v.u_r), v.u_rr)),
+        SlopeSearch::OfSigma => r + -v.u / v.u_r,
+        SlopeSearch::OfZero => { r + clamp(-(f / (v.u_r / temperature))) }
+        SlopeSearch::OfDepth => r + -v.u_r / v.u_rr,
     }
 }
 
@@ -96,45 +83,45 @@ fn radius_search(
     temperature: Dual,
     l: f64,
     start: Dual,
-) -> DualSearchAnswer
+) -> Result<(DualSearch, u8), Refusal>
     ensures { dual_search_answer result ≡ search_by kind (potential_at w) (dual_of temperature) (plain_d floats l) (dual_of start) }
 {
     let mut r = start;
     let mut u = Dual { re: 0.0, eps: 0.0 };
     for k in 0u8..19u8 {
-        let DualPotentialAnswer::Value(v) = saftvrqmie_potential_slopes::potential_at(w, r) else {
-            return DualSearchAnswer::Outside;
-        };
+        let v = saftvrqmie_potential_slopes::potential_at(w, r)?;
         let f = tested(kind, temperature, l, v);
         let last = v.u;
         let count = k + 1;
         if is_small(f) {
-            return DualSearchAnswer::Ended(DualSearch::Found(r, last), count);
+            return Ok((DualSearch::Found(r, last), count));
         }
         r = stepped(kind, temperature, r, v, f);
         u = last;
     }
-    DualSearchAnswer::Ended(DualSearch::Spent(r, u), 20)
+    Ok((DualSearch::Spent(r, u), 20))
 }
 
 // The three searches from what a pair's radii share. Two of them read no temperature.
-pub fn sigma_search(w: SlopeShared, sigma: Dual) -> DualSearchAnswer
+pub fn sigma_search(w: SlopeShared, sigma: Dual) -> Result<(DualSearch, u8), Refusal>
     ensures { dual_search_answer result ≡ sigma_search (duals floats) (potential_at w) (dual_of sigma) }
 {
     radius_search(SlopeSearch::OfSigma, w, sigma, 0.0, sigma)
 }
 
-pub fn zero_search(w: SlopeShared, temperature: Dual, sigma_eff: Dual) -> DualSearchAnswer
+pub fn zero_search(
+    w: SlopeShared,
+    temperature: Dual,
+    sigma_eff: Dual,
+) -> Result<(DualSearch, u8), Refusal>
     ensures { dual_search_answer result ≡ zero_search (duals floats) (potential_at w) (dual_functions port) (dual_of temperature) (dual_of sigma_eff) }
 {
-    let FloatAnswer::Value(l) = elementary::ln(EPSILON) else {
-        return DualSearchAnswer::Outside;
-    };
+    let l = elementary::ln(EPSILON)?;
     let start = slopes::times(sigma_eff, 0.7);
     radius_search(SlopeSearch::OfZero, w, temperature, l, start)
 }
 
-pub fn depth_search(w: SlopeShared, sigma: Dual) -> DualSearchAnswer
+pub fn depth_search(w: SlopeShared, sigma: Dual) -> Result<(DualSearch, u8), Refusal>
     ensures { dual_search_answer result ≡ depth_search (duals floats) (potential_at w) (dual_of sigma) }
 {
     radius_search(SlopeSearch::OfDepth, w, sigma, 0.0, sigma)
@@ -148,33 +135,32 @@ fn node(
     r0: Dual,
     k: usize,
     d_hs: Dual,
-) -> DualAnswer
+) -> Result<Dual, Refusal>
     requires { k < 21 }
     ensures { dual_answer result ≡ node_turn (duals floats) (dual_functions port) (potential_at w) (dual_of temperature) (dual_of sigma_eff) (dual_of r0) k (dual_of d_hs) }
 {
-    let width = slopes::times(dual::sub(sigma_eff, r0), 0.5);
+    let width = slopes::times(sigma_eff - r0, 0.5);
     let at = slopes::times(width, saftvrqmie_searches::abscissa(k));
-    let r = dual::add(dual::add(at, width), r0);
-    let DualAnswer::Value(u) = saftvrqmie_potential_slopes::u_at(w, r) else {
-        return DualAnswer::Outside;
-    };
-    let DualAnswer::Value(e) = slopes::exp(dual::div(dual::neg(u), temperature)) else {
-        return DualAnswer::Outside;
-    };
-    let f_u = slopes::plus(dual::neg(e), 1.0);
-    let part = slopes::times(dual::mul(width, f_u), saftvrqmie_searches::weight(k));
-    DualAnswer::Value(dual::add(d_hs, part))
+    let r = at + width + r0;
+    let u = saftvrqmie_potential_slopes::u_at(w, r)?;
+    let e = slopes::exp(-u / temperature)?;
+    let f_u = slopes::plus(-e, 1.0);
+    let part = slopes::times(width * f_u, saftvrqmie_searches::weight(k));
+    Ok(d_hs + part)
 }
 
-pub fn diameter_by(w: SlopeShared, temperature: Dual, sigma_eff: Dual, r0: Dual) -> DualAnswer
+pub fn diameter_by(
+    w: SlopeShared,
+    temperature: Dual,
+    sigma_eff: Dual,
+    r0: Dual,
+) -> Result<Dual, Refusal>
     ensures { dual_answer result ≡ diameter_by (duals floats) (dual_functions port) (potential_at w) (dual_of temperature) (dual_of sigma_eff) (dual_of r0) }
 {
     let mut d_hs = r0;
     for k in 0usize..21usize {
-        let DualAnswer::Value(next) = node(w, temperature, sigma_eff, r0, k, d_hs) else {
-            return DualAnswer::Outside;
-        };
+        let next = node(w, temperature, sigma_eff, r0, k, d_hs)?;
         d_hs = next;
     }
-    DualAnswer::Value(d_hs)
+    Ok(d_hs)
 }

@@ -9,8 +9,8 @@ ghost use Rattle.saftvrqmie_energies_slopes.specs.Energies.{energies_slopes_answ
 ghost use Rattle.saftvrqmie_slopes.specs.Operation.{energies_slopes};
 
 use dual::Dual;
-use mie_parameters::ParameterAnswer;
-use saftvrqmie_energies_slopes::EnergiesSlopesAnswer;
+use number::Refusal;
+use saftvrqmie_energies_slopes::QuantumEnergiesSlopes;
 use saftvrqmie_parameters::{OrderRecord, SaftVRQMiePars};
 use sizes::{SHEET, SHEETS, SIDE, TABLE};
 
@@ -26,7 +26,7 @@ pub fn energies_slopes_of(
     rho: &[f64],
     rho_slopes: &[f64],
     non_additive: bool,
-) -> EnergiesSlopesAnswer
+) -> Result<QuantumEnergiesSlopes, Refusal>
     ensures { let set : SaftVRQMiePars = record { count = n; m = m.now; sheets = sheets.now; orders = orders } in
         let fractions : SlopedList = record { values = x.now; slopes = x_slopes.now } in
         let densities : SlopedList = record { values = rho.now; slopes = rho_slopes.now } in
@@ -34,27 +34,17 @@ pub fn energies_slopes_of(
         energies_slopes_answer result ≡ energies_slopes set q non_additive }
 {
     if !slopes_lists::sloped_lengths(n, t, x, x_slopes, rho, rho_slopes) {
-        return EnergiesSlopesAnswer::Refused(1);
+        return Err(Refusal::Length);
     }
     if !limits::state_within(n, t.re, x, rho) {
-        return EnergiesSlopesAnswer::Refused(2);
+        return Err(Refusal::Limit);
     }
     if !slopes_lists::supplied_finite(n, t, x, x_slopes, rho, rho_slopes) {
-        return EnergiesSlopesAnswer::Refused(7);
+        return Err(Refusal::NotFinite);
     }
     let mut table = [0.0; TABLE];
     let mut slopes = [0.0; TABLE];
-    let worked = saftvrqmie_table_slopes::table_slopes(
-        n,
-        sheets,
-        orders,
-        t,
-        &mut table,
-        &mut slopes,
-    );
-    let ParameterAnswer::Held = worked else {
-        return EnergiesSlopesAnswer::Refused(mie_parameters::number(worked));
-    };
+    saftvrqmie_table_slopes::table_slopes(n, sheets, orders, t, &mut table, &mut slopes)?;
     saftvrqmie_energies_slopes::energies_of(
         n,
         m,
@@ -79,7 +69,7 @@ pub fn energies_slopes(
     rho: &[f64],
     rho_slopes: &[f64],
     non_additive: bool,
-) -> EnergiesSlopesAnswer
+) -> Result<QuantumEnergiesSlopes, Refusal>
     ensures { let fractions : SlopedList = record { values = x.now; slopes = x_slopes.now } in
         let densities : SlopedList = record { values = rho.now; slopes = rho_slopes.now } in
         let q : SlopedState = record { temperature = dual_of t; fractions = fractions; densities = densities } in

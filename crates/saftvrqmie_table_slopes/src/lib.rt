@@ -12,9 +12,9 @@ ghost use Rattle.saftvrqmie_properties_slopes.specs.Properties.{dual_properties_
 ghost use Rattle.saftvrqmie_table_slopes.specs.Table.{store_slopes, slopes_row, slopes_pairs, table_slopes_into};
 
 use dual::Dual;
-use mie_parameters::ParameterAnswer;
+use number::Refusal;
 use saftvrqmie_parameters::OrderRecord;
-use saftvrqmie_properties_slopes::{DualProperties, DualPropertiesAnswer};
+use saftvrqmie_properties_slopes::DualProperties;
 use sizes::table::{EPSILON_K_EFF, HS_DIAMETER, QUANTUM_D};
 use sizes::{SHEET, SHEETS, SIDE, TABLE};
 
@@ -42,7 +42,7 @@ fn work_row(
     i: usize,
     values: &mut [f64; TABLE],
     slopes: &mut [f64; TABLE],
-) -> ParameterAnswer
+) -> Result<(), Refusal>
     requires { (n ≤ side) × (i < n) }
     ensures { let old : SlopedList = record { values = values.entry.now; slopes = slopes.old } in
         let new : SlopedList = record { values = values.exit.now; slopes = slopes.new } in
@@ -50,13 +50,10 @@ fn work_row(
 {
     for j in 0usize..n {
         let pair = saftvrqmie_potential::pair_at(s, orders, t.re, SIDE * i + j);
-        let DualPropertiesAnswer::At(p) = saftvrqmie_properties_slopes::pair_properties(pair, t)
-        else {
-            return ParameterAnswer::Refused(6);
-        };
+        let p = saftvrqmie_properties_slopes::pair_properties(pair, t)?;
         store(values, slopes, SIDE * i + j, p);
     }
-    ParameterAnswer::Held
+    Ok(())
 }
 
 fn work_pairs(
@@ -66,19 +63,16 @@ fn work_pairs(
     t: Dual,
     values: &mut [f64; TABLE],
     slopes: &mut [f64; TABLE],
-) -> ParameterAnswer
+) -> Result<(), Refusal>
     requires { n ≤ side }
     ensures { let old : SlopedList = record { values = values.entry.now; slopes = slopes.old } in
         let new : SlopedList = record { values = values.exit.now; slopes = slopes.new } in
         outcome result new ≡ slopes_pairs port s.now orders (dual_of t) n old }
 {
     for i in 0usize..n {
-        let answer = work_row(n, s, orders, t, i, values, slopes);
-        let ParameterAnswer::Held = answer else {
-            return answer;
-        };
+        work_row(n, s, orders, t, i, values, slopes)?;
     }
-    ParameterAnswer::Held
+    Ok(())
 }
 
 fn all_finite(values: &[f64; TABLE]) -> bool
@@ -99,18 +93,15 @@ pub fn table_slopes(
     t: Dual,
     values: &mut [f64; TABLE],
     slopes: &mut [f64; TABLE],
-) -> ParameterAnswer
+) -> Result<(), Refusal>
     requires { n ≤ side }
     ensures { let old : SlopedList = record { values = values.entry.now; slopes = slopes.old } in
         let new : SlopedList = record { values = values.exit.now; slopes = slopes.new } in
         outcome result new ≡ table_slopes_into port n s.now orders (dual_of t) old }
 {
-    let worked = work_pairs(n, s, orders, t, values, slopes);
-    let ParameterAnswer::Held = worked else {
-        return worked;
-    };
+    work_pairs(n, s, orders, t, values, slopes)?;
     if !(all_finite(values) & all_finite(slopes)) {
-        return ParameterAnswer::Refused(7);
+        return Err(Refusal::NotFinite);
     }
-    ParameterAnswer::Held
+    Ok(())
 }

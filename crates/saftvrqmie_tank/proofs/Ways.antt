@@ -1,5 +1,7 @@
 -- The tank, test by test and layer by layer, over plain values. Assumes nothing.
 use Prim.Native.Nat.{ℕ, ◌+◌, ◌*◌, ◌-◌, ◌≤◌, ◌<◌}
+use Rattle.std.specs.Prelude.{Err, Ok, Result}
+use Rattle.number.specs.declared.refusal.Refusal.{Refusal}
 use native.Mathlib.Nat.{mul-le-mul_left, mul-le-mul, mul-add}
 use native.Mathlib.Omega.{arith}
 use lib.Dec.{eqb, leb}
@@ -10,6 +12,7 @@ use mathlib.Core.List.{List}
 use mathlib.Core.Path.{◌≡◌, refl, sym, ap, ◌∙◌}
 use mathlib.Core.Bool.{Bool, true, false, ◌&&◌}
 use borrow.Author.Tests.{eqb-true, leb-true}
+use Rattle.number.specs.Answer.{code}
 use Rattle.number.specs.Ans.{Ans, held, refused, ◌>>=◌, demand}
 use Rattle.number.specs.Arith.{Arith}
 use Rattle.number.specs.Lists.{at}
@@ -17,10 +20,8 @@ use Rattle.number.specs.Walk.{walk}
 use Rattle.number.proofs.Walk.{walk_next, walk_stop}
 use Rattle.sizes.specs.Sizes.{side}
 use Rattle.limits.specs.Limits.{count_within}
-use Rattle.mie_parameters.proofs.Laws.{and_left, and_right, count_high}
-use Rattle.mie_parameters.specs.declared.ParameterAnswer.{ParameterAnswer}
-use Rattle.mie_parameters.specs.declared.ParameterAnswer.TheVariants.{Held, Refused}
-use Rattle.mie_parameters.specs.Answer.{verdict, stored}
+use Rattle.mie_parameters.proofs.Laws.{and_left, and_right, count_high, held_at, refused_at}
+use Rattle.mie_parameters.specs.Answer.{outcome, verdict, stored}
 use Rattle.saftvrqmie_parameters.specs.declared.SaftVRQMiePars.{SaftVRQMiePars}
 use Rattle.saftvrqmie.specs.Table.{Lent, blank, temperature_table, pairs_of}
 use Rattle.saftvrqmie_energies.specs.Energies.{EnergiesIn, energies_finite, energies_by, energies}
@@ -81,25 +82,27 @@ part_length n l k d p b =
     rw (part_is n l d) (length-take-le n (drop (n * l) d) h)
 
 -- what an operation's answer, and what it was lent, say of it
-abbrev is_held : ParameterAnswer → Bool
-is_held Held = true
-is_held (Refused n) = false
-
-was : {S : Type 0} (a : Ans S) (l : S) → verdict a ≡ Held → a ≡ held (stored l a)
+was : {S : Type 0} (a : Ans S) (l : S) → verdict a ≡ held true → a ≡ held (stored l a)
 unfolding verdict stored
 was (held x) l e = refl
-was (refused n) l e = absurd (mathlib.Core.Bool.false≢true (ap is_held e))
+was (refused n) l e = absurd (apart e)
+  where
+    apart : refused n ≡ held true → ⊥
+    apart p = let z : ◌≡◌ {A = ℕ} 0 1 = cc in omega arith
 
-pub verdict_held : {S : Type 0} (a : Ans S) (l : S) (r : ParameterAnswer) → r ≡ verdict a → r ≡ Held → a ≡ held (stored l a)
-verdict_held a l r p e = was a l (sym p ∙ e)
+pub verdict_held : {S : Type 0} (a : Ans S) (l : S) (r : Result (Unit {0}) Refusal) → outcome r true ≡ verdict a → r ≡ Ok tt → a ≡ held (stored l a)
+verdict_held a l r p e = was a l (held_at r true (verdict a) p e)
 
-was_not : {S : Type 0} (a : Ans S) (n : ℕ) → verdict a ≡ Refused n → a ≡ refused n
+was_not : {S : Type 0} (a : Ans S) (n : ℕ) → verdict a ≡ refused n → a ≡ refused n
 unfolding verdict
-was_not (held x) n e = absurd (mathlib.Core.Bool.true≢false (ap is_held e))
+was_not (held x) n e = absurd (apart e)
+  where
+    apart : held true ≡ refused n → ⊥
+    apart p = let z : ◌≡◌ {A = ℕ} 0 1 = cc in omega arith
 was_not (refused k) n e = cc
 
-pub verdict_refused : {S : Type 0} (a : Ans S) (r : ParameterAnswer) (n : ℕ) → r ≡ verdict a → r ≡ Refused n → a ≡ refused n
-verdict_refused a r n p e = was_not a n (sym p ∙ e)
+pub verdict_refused : {S : Type 0} (a : Ans S) (r : Result (Unit {0}) Refusal) (k : Refusal) → outcome r true ≡ verdict a → r ≡ Err k → a ≡ refused (code k)
+verdict_refused a r k p e = was_not a (code k) (refused_at r true (verdict a) k p e)
 
 -- ---- a layer
 module _ (s : SaftVRQMiePars) (y : Layer) (wanted : Bool) where

@@ -9,8 +9,8 @@ ghost use Rattle.saftvrqmie_parameters.specs.declared.SaftVRQMiePars.{SaftVRQMie
 ghost use Rattle.saftvrqmie_energies.specs.Energies.{energies_in, energies_answer, energies_finite};
 ghost use Rattle.saftvrqmie_tank.specs.Tank.{TankLists, Layer, most_layers, layers_within, tank_lengths, volume_within, layer_within, piled, layer_piled, layer_of, layers_of, tank};
 
-use mie_parameters::ParameterAnswer;
-use saftvrqmie_energies::{EnergiesAnswer, QuantumEnergies};
+use number::Refusal;
+use saftvrqmie_energies::QuantumEnergies;
 use saftvrqmie_parameters::{OrderRecord, SaftVRQMiePars};
 use sizes::{COUNTS, SHEET, SHEETS, SIDE, TABLE};
 
@@ -80,21 +80,18 @@ fn layer_of(
     densities: &[f64],
     volume: f64,
     non_additive: bool,
-) -> EnergiesAnswer
+) -> Result<QuantumEnergies, Refusal>
     requires { (length fractions.now ≡ n) × (length densities.now ≡ n) }
     ensures { let set : SaftVRQMiePars = record { count = n; m = m.now; sheets = sheets.now; orders = orders } in
         let y : Layer = record { temperature = temperature; fractions = fractions.now; densities = densities.now; volume = volume } in
         energies_answer result ≡ layer_of set y non_additive }
 {
     if !layer_within(n, temperature, fractions, densities, volume) {
-        return EnergiesAnswer::Refused(2);
+        return Err(Refusal::Limit);
     }
     let mut table = [0.0; TABLE];
     let mut counts = [0u8; COUNTS];
-    let worked = saftvrqmie::table_of(n, sheets, orders, temperature, &mut table, &mut counts);
-    let ParameterAnswer::Held = worked else {
-        return EnergiesAnswer::Refused(mie_parameters::number(worked));
-    };
+    saftvrqmie::table_of(n, sheets, orders, temperature, &mut table, &mut counts)?;
     saftvrqmie_energies::energies_of(
         n,
         m,
@@ -162,7 +159,7 @@ fn layers_of(
     densities: &[f64],
     volumes: &[f64],
     non_additive: bool,
-) -> EnergiesAnswer
+) -> Result<QuantumEnergies, Refusal>
     requires { let q : TankLists = record { layers = layers; temperatures = temperatures.now; fractions = fractions.now; densities = densities.now; volumes = volumes.now } in
         (layers ≤ most_layers) × (tank_lengths n q ≡ true) }
     ensures { let set : SaftVRQMiePars = record { count = n; m = m.now; sheets = sheets.now; orders = orders } in
@@ -186,7 +183,7 @@ fn layers_of(
         let to = from + n;
         let t = temperatures[l];
         let v = volumes[l];
-        let answer = layer_of(
+        let e = layer_of(
             n,
             m,
             sheets,
@@ -196,14 +193,11 @@ fn layers_of(
             &densities[from..to],
             v,
             non_additive,
-        );
-        let EnergiesAnswer::Energies(e) = answer else {
-            return answer;
-        };
+        )?;
         let next = layer_piled(non_additive, v, t, e, below);
         below = next;
     }
-    EnergiesAnswer::Energies(below)
+    Ok(below)
 }
 
 fn all_finite(e: QuantumEnergies) -> bool
@@ -226,7 +220,7 @@ pub fn tank_of(
     densities: &[f64],
     volumes: &[f64],
     non_additive: bool,
-) -> EnergiesAnswer
+) -> Result<QuantumEnergies, Refusal>
     ensures { let set : SaftVRQMiePars = record { count = n; m = m.now; sheets = sheets.now; orders = orders } in
         let q : TankLists =
         record {
@@ -239,12 +233,12 @@ pub fn tank_of(
         energies_answer result ≡ tank set q non_additive }
 {
     if !layers_within(layers) {
-        return EnergiesAnswer::Refused(14);
+        return Err(Refusal::Layers);
     }
     if !tank_lengths(n, layers, temperatures, fractions, densities, volumes) {
-        return EnergiesAnswer::Refused(1);
+        return Err(Refusal::Length);
     }
-    let answer = layers_of(
+    let e = layers_of(
         n,
         m,
         sheets,
@@ -255,14 +249,11 @@ pub fn tank_of(
         densities,
         volumes,
         non_additive,
-    );
-    let EnergiesAnswer::Energies(e) = answer else {
-        return answer;
-    };
+    )?;
     if !all_finite(e) {
-        return EnergiesAnswer::Refused(7);
+        return Err(Refusal::NotFinite);
     }
-    answer
+    Ok(e)
 }
 
 pub fn tank(
@@ -273,7 +264,7 @@ pub fn tank(
     densities: &[f64],
     volumes: &[f64],
     non_additive: bool,
-) -> EnergiesAnswer
+) -> Result<QuantumEnergies, Refusal>
     ensures { let q : TankLists =
         record {
           layers = layers;

@@ -11,8 +11,8 @@ ghost use Rattle.saftvrqmie_tank.specs.Tank.{TankLists, Layer, most_layers, tank
 ghost use Rattle.saftvrqmie_tank_ends.specs.TankEnds.{layer_enclosed, layers_enclosed, tank_ends};
 
 use enclosure::Enclosure;
-use mie_parameters::ParameterAnswer;
-use saftvrqmie_energies_ends::{EnclosuresAnswer, EnergiesEnclosures, EnergiesEndsAnswer};
+use number::Refusal;
+use saftvrqmie_energies_ends::{EnergiesEnclosures, EnergiesEnds};
 use saftvrqmie_parameters::{OrderRecord, SaftVRQMiePars};
 use sizes::{COUNTS, SHEET, SHEETS, SIDE, TABLE};
 
@@ -27,21 +27,18 @@ fn layer_of(
     densities: &[f64],
     volume: f64,
     non_additive: bool,
-) -> EnclosuresAnswer
+) -> Result<EnergiesEnclosures, Refusal>
     requires { (length fractions.now ≡ n) × (length densities.now ≡ n) }
     ensures { let set : SaftVRQMiePars = record { count = n; m = m.now; sheets = sheets.now; orders = orders } in
         let y : Layer = record { temperature = temperature; fractions = fractions.now; densities = densities.now; volume = volume } in
         enclosures_answer result ≡ layer_enclosed set y non_additive }
 {
     if !saftvrqmie_tank::layer_within(n, temperature, fractions, densities, volume) {
-        return EnclosuresAnswer::Refused(2);
+        return Err(Refusal::Limit);
     }
     let mut table = [0.0; TABLE];
     let mut counts = [0u8; COUNTS];
-    let worked = saftvrqmie::table_of(n, sheets, orders, temperature, &mut table, &mut counts);
-    let ParameterAnswer::Held = worked else {
-        return EnclosuresAnswer::Refused(mie_parameters::number(worked));
-    };
+    saftvrqmie::table_of(n, sheets, orders, temperature, &mut table, &mut counts)?;
     saftvrqmie_energies_ends::enclosures_of(
         n,
         m,
@@ -58,9 +55,9 @@ fn layer_of(
 fn piled(volume: f64, temperature: f64, energy: Enclosure, below: Enclosure) -> Enclosure
     ensures { result ≡ piled enclosures volume temperature energy below }
 {
-    let v = enclosure::point(volume);
-    let t = enclosure::point(temperature);
-    enclosure::add(below, enclosure::mul(enclosure::mul(energy, v), t))
+    let v = Enclosure::point(volume);
+    let t = Enclosure::point(temperature);
+    below + energy * v * t
 }
 
 // Not wanted: +0, and nothing of it is worked.
@@ -74,7 +71,7 @@ fn wanted_pile(
     ensures { result ≡ cond wanted (piled enclosures volume temperature energy below) (point zero64) }
 {
     if !wanted {
-        return enclosure::point(0.0);
+        return Enclosure::point(0.0);
     }
     piled(volume, temperature, energy, below)
 }
@@ -117,7 +114,7 @@ fn layers_of(
     densities: &[f64],
     volumes: &[f64],
     non_additive: bool,
-) -> EnclosuresAnswer
+) -> Result<EnergiesEnclosures, Refusal>
     requires { let q : TankLists = record { layers = layers; temperatures = temperatures.now; fractions = fractions.now; densities = densities.now; volumes = volumes.now } in
         (layers ≤ most_layers) × (tank_lengths n q ≡ true) }
     ensures { let set : SaftVRQMiePars = record { count = n; m = m.now; sheets = sheets.now; orders = orders } in
@@ -131,7 +128,7 @@ fn layers_of(
         } in
         enclosures_answer result ≡ layers_enclosed set q non_additive }
 {
-    let zero = enclosure::point(0.0);
+    let zero = Enclosure::point(0.0);
     let mut below = EnergiesEnclosures {
         hard_sphere: zero,
         dispersion: zero,
@@ -142,7 +139,7 @@ fn layers_of(
         let to = from + n;
         let t = temperatures[l];
         let v = volumes[l];
-        let answer = layer_of(
+        let e = layer_of(
             n,
             m,
             sheets,
@@ -152,14 +149,11 @@ fn layers_of(
             &densities[from..to],
             v,
             non_additive,
-        );
-        let EnclosuresAnswer::Held(e) = answer else {
-            return answer;
-        };
+        )?;
         let next = layer_piled(non_additive, v, t, e, below);
         below = next;
     }
-    EnclosuresAnswer::Held(below)
+    Ok(below)
 }
 
 fn all_finite(e: EnergiesEnclosures) -> bool
@@ -183,7 +177,7 @@ pub fn tank_ends_of(
     densities: &[f64],
     volumes: &[f64],
     non_additive: bool,
-) -> EnergiesEndsAnswer
+) -> Result<EnergiesEnds, Refusal>
     ensures { let set : SaftVRQMiePars = record { count = n; m = m.now; sheets = sheets.now; orders = orders } in
         let q : TankLists =
         record {
@@ -196,12 +190,12 @@ pub fn tank_ends_of(
         energies_ends_answer result ≡ tank_ends set q non_additive }
 {
     if !saftvrqmie_tank::layers_within(layers) {
-        return EnergiesEndsAnswer::Refused(14);
+        return Err(Refusal::Layers);
     }
     if !saftvrqmie_tank::tank_lengths(n, layers, temperatures, fractions, densities, volumes) {
-        return EnergiesEndsAnswer::Refused(1);
+        return Err(Refusal::Length);
     }
-    let answer = layers_of(
+    let e = layers_of(
         n,
         m,
         sheets,
@@ -212,16 +206,11 @@ pub fn tank_ends_of(
         densities,
         volumes,
         non_additive,
-    );
-    match answer {
-        EnclosuresAnswer::Refused(k) => EnergiesEndsAnswer::Refused(k),
-        EnclosuresAnswer::Held(e) => {
-            if !all_finite(e) {
-                return EnergiesEndsAnswer::Refused(7);
-            }
-            saftvrqmie_energies_ends::sound_ends(e)
-        }
+    )?;
+    if !all_finite(e) {
+        return Err(Refusal::NotFinite);
     }
+    saftvrqmie_energies_ends::sound_ends(e)
 }
 
 pub fn tank_ends(
@@ -232,7 +221,7 @@ pub fn tank_ends(
     densities: &[f64],
     volumes: &[f64],
     non_additive: bool,
-) -> EnergiesEndsAnswer
+) -> Result<EnergiesEnds, Refusal>
     ensures { let q : TankLists =
         record {
           layers = layers;

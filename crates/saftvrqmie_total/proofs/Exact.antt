@@ -1,19 +1,19 @@
 -- The total of a call is exact: the last sum and all remainders are the contributions added. Assumes nothing.
 use mathlib.Core.Path.{◌≡◌, refl, sym, ap, ◌∙◌, subst}
 use mathlib.Core.List.{List}
-use mathlib.Core.Bool.{Bool, true, false, cond, true≢false}
+use mathlib.Core.Bool.{Bool, true, false, cond}
 use native.Mathlib.Nat.{zero-lt-suc}
 use Prim.Native.Nat.{ℕ}
 use native.Mathlib.Omega.{arith}
 use lib.Dec.{T}
-use lib.Ieee.{Float, binary64, fits, add, of_bits}
-use lib.Ieee.Bits.{is_true, of_bits-fits}
+use lib.Ieee.{Float, binary64, fits}
+use lib.Ieee.Bits.{of_bits-fits}
 use lib.Ieee.Fits.{add-fits, mul-fits, div-fits}
 use lib.Ieee.Scale.{finite}
 use Rattle.number.specs.Ans.{Ans, held, refused, ◌>>=◌, demand}
 use Rattle.number.specs.Arith.{floats, zero64}
 use Rattle.number.specs.Functions.{Functions, calls}
-use Rattle.number.specs.Frac.{Frac, frac, Pos, le_f, add_f, zero_f, val_f}
+use Rattle.number.specs.Frac.{Frac, frac, Pos, add_f, zero_f, val_f}
 use Rattle.number.proofs.Frac.{ring, val_f_pos, add_f_pos}
 use Rattle.number.proofs.Walk.{then_held, held_inj}
 use Rattle.elementary.specs.Port.{port}
@@ -26,9 +26,9 @@ use Rattle.saftvrqmie_energies.specs.State.{SheetsIn, sheets_of_state, points, d
 use Rattle.saftvrqmie_energies.specs.HardSphere.{hard_sphere, hard_sphere_of}
 use Rattle.saftvrqmie_energies.specs.NonAdditive.{non_additive}
 use Rattle.saftvrqmie_energies.specs.Dispersion.{dispersion, alphas}
-use Rattle.saftvrqmie_energies.specs.Energies.{EnergiesIn, energies, energies_by, contributions, contributions_of, energies_finite}
+use Rattle.saftvrqmie_energies.specs.Energies.{EnergiesIn, energies, energies_by, contributions, contributions_of}
 use Rattle.saftvrqmie_total.specs.declared.QuantumTotal.{QuantumTotal}
-use Rattle.saftvrqmie_total.specs.Total.{finite_sum, contributions_total, total, contributed, TotalsExactly, Totalled}
+use Rattle.saftvrqmie_total.specs.Total.{finite_sum, contributions_total, total, TotalsExactly, Totalled}
 
 -- ---- a demand that was met
 met : {S : Type 0} (n : ℕ) (b : Bool) (a : Ans S) (y : S) → (demand n b >>= λ _. a) ≡ held y → (b ≡ true) × (a ≡ held y)

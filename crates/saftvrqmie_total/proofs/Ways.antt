@@ -1,11 +1,11 @@
 -- The total, test by test, over plain values. Assumes nothing.
-use mathlib.Core.Path.{◌≡◌, sym}
+use mathlib.Core.Path.{◌≡◌}
 use mathlib.Core.List.{List}
 use mathlib.Core.Bool.{Bool, true, false}
 use Prim.Native.Nat.{ℕ}
 use lib.Ieee.{Float}
 use lib.Ieee.Scale.{finite}
-use Rattle.number.specs.Ans.{Ans, held, refused, ◌>>=◌, demand}
+use Rattle.number.specs.Ans.{held, refused, ◌>>=◌, demand}
 use Rattle.number.specs.Arith.{zero64}
 use Rattle.rounded_sum.specs.declared.RoundedSum.{RoundedSum}
 use Rattle.rounded_sum.specs.RoundedSum.{rounded_sum}

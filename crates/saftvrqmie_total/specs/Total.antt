@@ -1,7 +1,7 @@
 -- Slip 5: the energies of a quantum set as one number, with what each rounded sum left.
 use Rattle.std.specs.Prelude.{◌≡◌, List, Bool, cond, T, Float}
 use Rattle.std.specs.Float.Ieee.Scale.{finite}
-use Rattle.number.specs.Ans.{Ans, held, refused, ◌>>=◌, demand}
+use Rattle.number.specs.Ans.{Ans, held, ◌>>=◌, demand}
 use Rattle.number.specs.Arith.{zero64}
 use Rattle.number.specs.Frac.{Frac, add_f, zero_f, val_f}
 use Rattle.rounded_sum.specs.declared.RoundedSum.{RoundedSum}
@@ -9,13 +9,6 @@ use Rattle.rounded_sum.specs.RoundedSum.{Same, rounded_sum}
 use Rattle.saftvrqmie_parameters.specs.declared.SaftVRQMiePars.{SaftVRQMiePars}
 use Rattle.saftvrqmie_energies.specs.Energies.{EnergiesIn, energies}
 use Rattle.saftvrqmie_total.specs.declared.QuantumTotal.{QuantumTotal}
-use Rattle.saftvrqmie_total.specs.declared.TotalAnswer.{TotalAnswer}
-use Rattle.saftvrqmie_total.specs.declared.TotalAnswer.TheVariants.{Total, Refused}
-
--- the number or the sums of each case of `TotalAnswer`
-abbrev pub total_answer : TotalAnswer → Ans QuantumTotal
-total_answer (Total w) = held w
-total_answer (Refused n) = refused n
 
 -- 'If a rounded sum is not finite, refuse with 7.'
 unfoldable pub finite_sum : Float → Float → Ans RoundedSum

@@ -2,12 +2,14 @@
 #![tactic(auto)]
 
 ghost use Rattle.std.specs.Prelude.{◌≡◌};
+ghost use Rattle.number.specs.Answer.{answer};
 ghost use Rattle.saftvrqmie_parameters.specs.declared.SaftVRQMiePars.{SaftVRQMiePars};
 ghost use Rattle.saftvrqmie_energies.specs.Energies.{energies_in};
-ghost use Rattle.saftvrqmie_total.specs.Total.{total_answer, contributions_total, total};
+ghost use Rattle.saftvrqmie_total.specs.Total.{contributions_total, total};
 
+use number::Refusal;
 use rounded_sum::RoundedSum;
-use saftvrqmie_energies::{EnergiesAnswer, QuantumEnergies};
+use saftvrqmie_energies::QuantumEnergies;
 use saftvrqmie_parameters::{OrderRecord, SaftVRQMiePars};
 use sizes::{SHEET, SHEETS, SIDE};
 
@@ -17,32 +19,26 @@ pub struct QuantumTotal {
     pub last: RoundedSum,
 }
 
-#[derive(Clone, Copy)]
-pub enum TotalAnswer {
-    Total(QuantumTotal),
-    Refused(u8),
-}
-
 // Hard sphere and dispersion, then that and the non-additive part if wanted. 7.
-pub fn contributions_total(e: QuantumEnergies, non_additive: bool) -> TotalAnswer
-    ensures { total_answer result ≡ contributions_total (energies_in e) non_additive }
+pub fn contributions_total(e: QuantumEnergies, non_additive: bool) -> Result<QuantumTotal, Refusal>
+    ensures { answer result ≡ contributions_total (energies_in e) non_additive }
 {
     let first = rounded_sum::rounded_sum(e.hard_sphere, e.dispersion);
     if !number::is_finite(first.sum) {
-        return TotalAnswer::Refused(7);
+        return Err(Refusal::NotFinite);
     }
     if !non_additive {
         let alone = RoundedSum {
             sum: first.sum,
             remainder: 0.0,
         };
-        return TotalAnswer::Total(QuantumTotal { first, last: alone });
+        return Ok(QuantumTotal { first, last: alone });
     }
     let last = rounded_sum::rounded_sum(first.sum, e.non_additive);
     if !number::is_finite(last.sum) {
-        return TotalAnswer::Refused(7);
+        return Err(Refusal::NotFinite);
     }
-    TotalAnswer::Total(QuantumTotal { first, last })
+    Ok(QuantumTotal { first, last })
 }
 
 // Over a set's parts. 1, 2, 6, 7.
@@ -56,11 +52,11 @@ pub fn total_of(
     densities: &[f64],
     table: &[f64],
     non_additive: bool,
-) -> TotalAnswer
+) -> Result<QuantumTotal, Refusal>
     ensures { let set : SaftVRQMiePars = record { count = n; m = m.now; sheets = sheets.now; orders = orders } in
-        total_answer result ≡ total set temperature fractions.now densities.now table.now non_additive }
+        answer result ≡ total set temperature fractions.now densities.now table.now non_additive }
 {
-    let worked = saftvrqmie_energies::energies_of(
+    let e = saftvrqmie_energies::energies_of(
         n,
         m,
         sheets,
@@ -70,11 +66,8 @@ pub fn total_of(
         densities,
         table,
         non_additive,
-    );
-    match worked {
-        EnergiesAnswer::Refused(k) => TotalAnswer::Refused(k),
-        EnergiesAnswer::Energies(e) => contributions_total(e, non_additive),
-    }
+    )?;
+    contributions_total(e, non_additive)
 }
 
 pub fn total(
@@ -84,8 +77,8 @@ pub fn total(
     densities: &[f64],
     table: &[f64],
     non_additive: bool,
-) -> TotalAnswer
-    ensures { total_answer result ≡ total set temperature fractions.now densities.now table.now non_additive }
+) -> Result<QuantumTotal, Refusal>
+    ensures { answer result ≡ total set temperature fractions.now densities.now table.now non_additive }
 {
     let m = set.m;
     let sheets = set.sheets;

@@ -1,18 +1,19 @@
 -- Sets taken apart at the boundary, test by test, over plain values. Assumes nothing.
 use Prim.Native.Nat.{ℕ, ◌*◌, ◌≤◌}
+use Rattle.std.specs.Prelude.{Err, Ok, Result}
+use Rattle.number.specs.declared.refusal.Refusal.{Refusal}
 use lib.Dec.{eqb, leb}
 use lib.Ieee.{Float}
 use lib.ListN.{length}
 use mathlib.Core.List.{List}
-use mathlib.Core.Path.{◌≡◌, refl, sym, ap, ◌∙◌}
+use mathlib.Core.Path.{◌≡◌, refl, sym, ap}
 use mathlib.Core.Bool.{Bool, true, false, ◌&&◌}
 use borrow.Author.Tests.{eqb-true, leb-true}
 use Rattle.number.specs.Ans.{Ans, held, refused, ◌>>=◌, demand}
 use Rattle.sizes.specs.Sizes.{side, sheet}
 use Rattle.limits.specs.Limits.{count_within}
-use Rattle.mie_parameters.specs.declared.ParameterAnswer.{ParameterAnswer}
-use Rattle.mie_parameters.specs.declared.ParameterAnswer.TheVariants.{Held, Refused}
-use Rattle.mie_parameters.specs.Answer.{verdict}
+use Rattle.mie_parameters.specs.Answer.{outcome, verdict}
+use Rattle.number.specs.Answer.{code}
 use Rattle.mie_parameters.proofs.Laws.{and_left, and_right}
 use Rattle.saftvrqmie_parameters.specs.declared.OrderRecord.{OrderRecord}
 use Rattle.saftvrqmie_parameters.specs.declared.SaftVRQMiePars.{SaftVRQMiePars}
@@ -55,37 +56,37 @@ mie_lengths_told lists sheets p =
 
 -- the returns of `quantum_answer`
 module _ (right : Bool) (l : QuantumLists) where
-  pub count_1 : count_within l.count ≡ false → Refused 1 ≡ verdict (quantum_set right l)
+  pub count_1 : count_within l.count ≡ false → refused 1 ≡ verdict (quantum_set right l)
   unfolding quantum_set demand ◌>>=◌ verdict
   count_1 p = rw p
 
   module _ (p : count_within l.count ≡ true) where
-    pub lengths_1 : quantum_lengths l.m l.sheets l.orders ≡ false → Refused 1 ≡ verdict (quantum_set right l)
+    pub lengths_1 : quantum_lengths l.m l.sheets l.orders ≡ false → refused 1 ≡ verdict (quantum_set right l)
     unfolding quantum_set demand ◌>>=◌ verdict
     lengths_1 q = rw (p, q)
 
     module _ (q : quantum_lengths l.m l.sheets l.orders ≡ true) where
-      pub right_1 : right ≡ false → Refused 1 ≡ verdict (quantum_set right l)
+      pub right_1 : right ≡ false → refused 1 ≡ verdict (quantum_set right l)
       unfolding quantum_set demand ◌>>=◌ verdict
       right_1 e = rw (p, q, e)
 
-      pub orders_4 : right ≡ true → orders_within l.count l.orders ≡ false → Refused 4 ≡ verdict (quantum_set right l)
+      pub orders_4 : right ≡ true → orders_within l.count l.orders ≡ false → refused 4 ≡ verdict (quantum_set right l)
       unfolding quantum_set demand ◌>>=◌ verdict
       orders_4 e o = rw (p, q, e, o)
 
-      pub holds : right ≡ true → orders_within l.count l.orders ≡ true → Held ≡ verdict (quantum_set right l)
+      pub holds : right ≡ true → orders_within l.count l.orders ≡ true → held true ≡ verdict (quantum_set right l)
       unfolding quantum_set demand ◌>>=◌ verdict
       holds e o = rw (p, q, e, o)
 
 -- what the answer says to a caller
-abbrev is_held : ParameterAnswer → Bool
-is_held Held = true
-is_held (Refused n) = false
+abbrev is_held : Ans Bool → Bool
+is_held (held t) = true
+is_held (refused n) = false
 
 chain : Bool → Bool → Bool → Bool → SaftVRQMiePars → Ans SaftVRQMiePars
 chain a b r o x = demand 1 (a && b && r) >>= λ _. demand 4 o >>= λ _. held x
 
-chain_passed : (a b r o : Bool) (x : SaftVRQMiePars) → verdict (chain a b r o x) ≡ Held → (b ≡ true) × (chain a b r o x ≡ held x)
+chain_passed : (a b r o : Bool) (x : SaftVRQMiePars) → verdict (chain a b r o x) ≡ held true → (b ≡ true) × (chain a b r o x ≡ held x)
 unfolding chain demand ◌>>=◌ verdict
 chain_passed false b r o x e = absurd (mathlib.Core.Bool.false≢true (ap is_held e))
 chain_passed true false r o x e = absurd (mathlib.Core.Bool.false≢true (ap is_held e))
@@ -93,7 +94,7 @@ chain_passed true true false o x e = absurd (mathlib.Core.Bool.false≢true (ap 
 chain_passed true true true false x e = absurd (mathlib.Core.Bool.false≢true (ap is_held e))
 chain_passed true true true true x e = (refl, refl)
 
-chain_refused : (a b r o : Bool) (x : SaftVRQMiePars) (n : ℕ) → verdict (chain a b r o x) ≡ Refused n → chain a b r o x ≡ refused n
+chain_refused : (a b r o : Bool) (x : SaftVRQMiePars) (n : ℕ) → verdict (chain a b r o x) ≡ refused n → chain a b r o x ≡ refused n
 unfolding chain demand ◌>>=◌ verdict
 chain_refused false b r o x n e = cc
 chain_refused true false r o x n e = cc
@@ -101,18 +102,18 @@ chain_refused true true false o x n e = cc
 chain_refused true true true false x n e = cc
 chain_refused true true true true x n e = absurd (mathlib.Core.Bool.true≢false (ap is_held e))
 
-module _ (l : QuantumLists) (b right : Bool) (is : b ≡ right) (r : ParameterAnswer) (p : r ≡ verdict (quantum_set b l)) where
-  pub passed_lengths : r ≡ Held → quantum_lengths l.m l.sheets l.orders ≡ true
+module _ (l : QuantumLists) (b right : Bool) (is : b ≡ right) (r : Result (Unit {0}) Refusal) (p : outcome r true ≡ verdict (quantum_set b l)) where
+  pub passed_lengths : {u : Unit {0}} → r ≡ Ok u → quantum_lengths l.m l.sheets l.orders ≡ true
   unfolding quantum_set chain
-  passed_lengths e = (chain_passed (count_within l.count) (quantum_lengths l.m l.sheets l.orders) b (orders_within l.count l.orders) (quantum_read l) (sym p ∙ e)).0
+  passed_lengths e = (chain_passed (count_within l.count) (quantum_lengths l.m l.sheets l.orders) b (orders_within l.count l.orders) (quantum_read l) (sym (rw e at p))).0
 
-  pub passed : r ≡ Held → quantum_set right l ≡ held (quantum_read l)
+  pub passed : {u : Unit {0}} → r ≡ Ok u → quantum_set right l ≡ held (quantum_read l)
   unfolding quantum_set chain
-  passed e = rw (← is) (chain_passed (count_within l.count) (quantum_lengths l.m l.sheets l.orders) b (orders_within l.count l.orders) (quantum_read l) (sym p ∙ e)).1
+  passed e = rw (← is) (chain_passed (count_within l.count) (quantum_lengths l.m l.sheets l.orders) b (orders_within l.count l.orders) (quantum_read l) (sym (rw e at p))).1
 
-  pub not_passed : (n : ℕ) → r ≡ Refused n → quantum_set right l ≡ refused n
+  pub not_passed : {n : Refusal} → r ≡ Err n → quantum_set right l ≡ refused (code n)
   unfolding quantum_set chain
-  not_passed n e = rw (← is) (chain_refused (count_within l.count) (quantum_lengths l.m l.sheets l.orders) b (orders_within l.count l.orders) (quantum_read l) n (sym p ∙ e))
+  not_passed e = rw (← is) (chain_refused (count_within l.count) (quantum_lengths l.m l.sheets l.orders) b (orders_within l.count l.orders) (quantum_read l) _ (sym (rw e at p)))
 
 -- the set whole, and by its parts
 pub set_is : {S : Type 0} (q : Ans S) (x y : S) → q ≡ held x → y ≡ x → q ≡ held y

@@ -5,11 +5,11 @@ mod written;
 
 ghost use Rattle.std.specs.Prelude.{◌≡◌, true, ◌+◌, ◌*◌, ◌<◌, ◌≤◌, length};
 ghost use Rattle.sizes.specs.Sizes.{side, sheet};
-ghost use Rattle.mie_parameters.specs.Answer.{verdict};
+ghost use Rattle.mie_parameters.specs.Answer.{outcome, verdict};
 ghost use Rattle.set_lists.specs.Sets.{QuantumLists, copied, taken, row_within, orders_within, orders_read, quantum_lengths, quantum_read, quantum_set, mie_lengths, mie_read};
 
 pub use crate::written::{write_mie, write_quantum};
-use mie_parameters::ParameterAnswer;
+use number::Refusal;
 use saftvrmie_parameters::SaftVRMiePars;
 use saftvrqmie_parameters::{FeynmanHibbsOrder, OrderRecord, SaftVRQMiePars};
 use sizes::{LISTS, SHEET, SHEETS, SIDE};
@@ -95,23 +95,23 @@ pub fn quantum_answer(
     sheets: &[f64],
     orders: &[u8],
     right: bool,
-) -> ParameterAnswer
+) -> Result<(), Refusal>
     ensures { let l : QuantumLists = record { count = count; m = m.now; sheets = sheets.now; orders = orders.now } in
-        result ≡ verdict (quantum_set right l) }
+        outcome result true ≡ verdict (quantum_set right l) }
 {
     if !limits::count_within(count) {
-        return ParameterAnswer::Refused(1);
+        return Err(Refusal::Length);
     }
     if !quantum_lengths(m, sheets, orders) {
-        return ParameterAnswer::Refused(1);
+        return Err(Refusal::Length);
     }
     if !right {
-        return ParameterAnswer::Refused(1);
+        return Err(Refusal::Length);
     }
     if !orders_within(count, orders) {
-        return ParameterAnswer::Refused(4);
+        return Err(Refusal::Order);
     }
-    ParameterAnswer::Held
+    Ok(())
 }
 
 // The quantum set of lists whose lengths were tested.

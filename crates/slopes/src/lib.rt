@@ -12,14 +12,8 @@ ghost use Rattle.slopes.specs.Answer.{dual_answer};
 
 use binary_log::Log;
 use dual::Dual;
-use number::FloatAnswer;
+use number::Refusal;
 use power::FixedExponent;
-
-#[derive(Clone, Copy)]
-pub enum DualAnswer {
-    Value(Dual),
-    Outside,
-}
 
 // An exponent, and in fixed point it and the exponent of its slope, which is one less.
 #[derive(Clone, Copy)]
@@ -105,49 +99,43 @@ pub fn raise(log: Log, slope: f64, exponent: SlopeExponent) -> Dual
 }
 
 // x.powf(e); no value where one of the two powers is outside its domain.
-pub fn powf(x: Dual, e: f64) -> DualAnswer
+pub fn powf(x: Dual, e: f64) -> Result<Dual, Refusal>
     ensures { dual_answer result ≡ real_power port (dual_of x) e }
 {
     if !binary_log::base_inside(x.re) {
-        return DualAnswer::Outside;
+        return Err(Refusal::Domain);
     }
     if !exponent_inside(e) {
-        return DualAnswer::Outside;
+        return Err(Refusal::Domain);
     }
-    DualAnswer::Value(raise(binary_log::log_base(x.re), x.eps, exponent(e)))
+    Ok(raise(binary_log::log_base(x.re), x.eps, exponent(e)))
 }
 
-pub fn exp(x: Dual) -> DualAnswer
+pub fn exp(x: Dual) -> Result<Dual, Refusal>
     ensures { dual_answer result ≡ exp_d port (dual_of x) }
 {
-    let FloatAnswer::Value(v) = elementary::exp(x.re) else {
-        return DualAnswer::Outside;
-    };
-    DualAnswer::Value(Dual {
+    let v = elementary::exp(x.re)?;
+    Ok(Dual {
         re: v,
         eps: v * x.eps,
     })
 }
 
-pub fn ln_1p(x: Dual) -> DualAnswer
+pub fn ln_1p(x: Dual) -> Result<Dual, Refusal>
     ensures { dual_answer result ≡ ln1p_d port (dual_of x) }
 {
-    let FloatAnswer::Value(v) = elementary::ln_1p(x.re) else {
-        return DualAnswer::Outside;
-    };
-    DualAnswer::Value(Dual {
+    let v = elementary::ln_1p(x.re)?;
+    Ok(Dual {
         re: v,
         eps: x.eps / (1.0 + x.re),
     })
 }
 
-pub fn ln(x: Dual) -> DualAnswer
+pub fn ln(x: Dual) -> Result<Dual, Refusal>
     ensures { dual_answer result ≡ ln_d port (dual_of x) }
 {
-    let FloatAnswer::Value(v) = elementary::ln(x.re) else {
-        return DualAnswer::Outside;
-    };
-    DualAnswer::Value(Dual {
+    let v = elementary::ln(x.re)?;
+    Ok(Dual {
         re: v,
         eps: x.eps / x.re,
     })

@@ -9,8 +9,7 @@ ghost use Rattle.saftvrqmie_energies_slopes.specs.Energies.{energies_slopes_in};
 ghost use Rattle.slopes_calls.specs.Calls.{slopes_written, vrq_energies_slopes};
 
 use dual::Dual;
-use mie_parameters::ParameterAnswer;
-use saftvrqmie_energies_slopes::{EnergiesSlopesAnswer, QuantumEnergiesSlopes};
+use saftvrqmie_energies_slopes::QuantumEnergiesSlopes;
 
 fn write_slopes(e: QuantumEnergiesSlopes, out: &mut [f64])
     requires { length out.old ≡ 6 }
@@ -65,7 +64,7 @@ pub fn vrq_energies_slopes(
         density_slopes,
     );
     let read = set_lists::quantum_answer(count, m, sheets, orders, right);
-    let ParameterAnswer::Held = read else {
+    let Ok(()) = read else {
         return mie_parameters::number(read);
     };
     let places = set_lists::places(m, 0);
@@ -84,8 +83,8 @@ pub fn vrq_energies_slopes(
         non_additive,
     );
     match worked {
-        EnergiesSlopesAnswer::Refused(n) => n,
-        EnergiesSlopesAnswer::Energies(e) => {
+        Err(r) => r.code(),
+        Ok(e) => {
             write_slopes(e, out);
             0
         }

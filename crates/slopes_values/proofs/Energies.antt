@@ -16,7 +16,7 @@ use Rattle.slopes.specs.Mixed.{Mixed, plain, sloped, as_dual, value_of, mixed_on
 use Rattle.saftvrqmie_parameters.specs.declared.SaftVRQMiePars.{SaftVRQMiePars}
 use Rattle.saftvrqmie_energies.specs.State.{points}
 use Rattle.saftvrqmie_energies.specs.Energies.{EnergiesIn, contributions_of, energies_finite, state_lengths, energies_by}
-use Rattle.saftvrqmie_hard_sphere_slopes_one.specs.Parts.{sloped_at}
+use Rattle.saftvrqmie_hard_sphere_slopes.specs.Parts.{sloped_at}
 use Rattle.saftvrqmie_dispersion_sums_slopes.specs.State.{sloped_sheets}
 use Rattle.saftvrqmie_energies_slopes.specs.Energies.{as_duals, finite_dual, slopes_finite, contributions_slope, energies_slope}
 use Rattle.slopes_values.specs.Values.{energies_values}

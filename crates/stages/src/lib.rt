@@ -3,15 +3,14 @@
 
 ghost use Rattle.std.specs.Prelude.{◌≡◌};
 ghost use Rattle.saftvrqmie_energies.specs.Energies.{energies_answer};
-ghost use Rattle.saftvrmie_energies.specs.Energies.{energy_answer};
+ghost use Rattle.number.specs.Answer.{answer};
 ghost use Rattle.saftvrqmie_parameters.specs.Parameters as Quantum;
 ghost use Rattle.saftvrmie_parameters.specs.Parameters as Mie;
 ghost use Rattle.stages.specs.Stages.{quantum_stage, mie_energy, mie_stage};
 
-use mie_parameters::ParameterAnswer;
-use saftvrmie_energies::EnergyAnswer;
+use number::Refusal;
 use saftvrmie_parameters::SaftVRMiePars;
-use saftvrqmie_energies::EnergiesAnswer;
+use saftvrqmie_energies::QuantumEnergies;
 use sizes::{COUNTS, SIDE, TABLE};
 
 // Quantum: parameters (1 to 6), a table of its own (2, 6, 7), energies (1, 2, 6, 7); the first refusal on the way.
@@ -30,7 +29,7 @@ pub fn quantum_stage(
     fractions: &[f64],
     densities: &[f64],
     non_additive: bool,
-) -> EnergiesAnswer
+) -> Result<QuantumEnergies, Refusal>
     ensures { let l : Quantum.Lists = record {
       count = count;
       m = m.now;
@@ -48,22 +47,13 @@ pub fn quantum_stage(
     let given = saftvrqmie_parameters::parameters(
         count, m, sigma, epsilon_k, lr, la, mass, order, k_ij, l_ij,
     );
-    let answer = given.answer;
-    let ParameterAnswer::Held = answer else {
-        return EnergiesAnswer::Refused(mie_parameters::number(answer));
+    let Ok(()) = given.answer else {
+        return Err(given.answer.unwrap_err());
     };
     let set = given.set;
     let mut table = [0.0; TABLE];
     let mut counts = [0u8; COUNTS];
-    let worked = saftvrqmie::temperature_dependent_properties(
-        set,
-        temperature,
-        &mut table,
-        &mut counts,
-    );
-    let ParameterAnswer::Held = worked else {
-        return EnergiesAnswer::Refused(mie_parameters::number(worked));
-    };
+    saftvrqmie::temperature_dependent_properties(set, temperature, &mut table, &mut counts)?;
     saftvrqmie_energies::helmholtz_energy_densities(
         set,
         temperature,
@@ -82,13 +72,10 @@ fn mie_energy(
     densities: &[f64],
     own: &mut [f64],
     chain: bool,
-) -> EnergyAnswer
-    ensures { energy_answer result ≡ mie_energy set temperature fractions.now densities.now own.old chain }
+) -> Result<f64, Refusal>
+    ensures { answer result ≡ mie_energy set temperature fractions.now densities.now own.old chain }
 {
-    let worked = saftvrmie::hs_diameter(set, temperature, own);
-    let ParameterAnswer::Held = worked else {
-        return EnergyAnswer::Refused(mie_parameters::number(worked));
-    };
+    saftvrmie::hs_diameter(set, temperature, own)?;
     saftvrmie_energies::dispersion(set, temperature, fractions, densities, own, chain)
 }
 
@@ -106,7 +93,7 @@ pub fn mie_stage(
     fractions: &[f64],
     densities: &[f64],
     chain: bool,
-) -> EnergyAnswer
+) -> Result<f64, Refusal>
     ensures { let l : Mie.Lists = record {
       count = count;
       m = m.now;
@@ -117,14 +104,13 @@ pub fn mie_stage(
       k_ij = k_ij.now;
       gamma_ij = gamma_ij.now;
     } in
-        energy_answer result ≡ mie_stage l temperature fractions.now densities.now chain }
+        answer result ≡ mie_stage l temperature fractions.now densities.now chain }
 {
     let given = saftvrmie_parameters::parameters(
         count, m, sigma, epsilon_k, lr, la, k_ij, gamma_ij,
     );
-    let answer = given.answer;
-    let ParameterAnswer::Held = answer else {
-        return EnergyAnswer::Refused(mie_parameters::number(answer));
+    let Ok(()) = given.answer else {
+        return Err(given.answer.unwrap_err());
     };
     let set = given.set;
     let mut own = [0.0; SIDE];

@@ -8,9 +8,9 @@ ghost use Rattle.saftvrqmie_tank.specs.Tank.{TankLists, most_layers};
 ghost use Rattle.set_lists.specs.Sets.{QuantumLists};
 ghost use Rattle.tank_lists.specs.Lists.{tank_right, listed_tank, listed_tank_ends};
 
-use mie_parameters::ParameterAnswer;
-use saftvrqmie_energies::EnergiesAnswer;
-use saftvrqmie_energies_ends::EnergiesEndsAnswer;
+use number::Refusal;
+use saftvrqmie_energies::QuantumEnergies;
+use saftvrqmie_energies_ends::EnergiesEnds;
 
 // 1 of the tank's lists, and of the list that the answer is written into.
 fn tank_right(
@@ -49,7 +49,7 @@ pub fn listed_tank(
     volumes: &[f64],
     non_additive: bool,
     right: bool,
-) -> EnergiesAnswer
+) -> Result<QuantumEnergies, Refusal>
     ensures { let s : QuantumLists = record { count = count; m = m.now; sheets = sheets.now; orders = orders.now } in
         let q : TankLists =
         record {
@@ -62,7 +62,7 @@ pub fn listed_tank(
         energies_answer result ≡ listed_tank s q non_additive right }
 {
     if !saftvrqmie_tank::layers_within(layers) {
-        return EnergiesAnswer::Refused(14);
+        return Err(Refusal::Layers);
     }
     let right = tank_right(
         count,
@@ -73,10 +73,7 @@ pub fn listed_tank(
         volumes,
         right,
     );
-    let read = set_lists::quantum_answer(count, m, sheets, orders, right);
-    let ParameterAnswer::Held = read else {
-        return EnergiesAnswer::Refused(mie_parameters::number(read));
-    };
+    set_lists::quantum_answer(count, m, sheets, orders, right)?;
     let places = set_lists::places(m, 0);
     let flat = set_lists::flat(sheets);
     let records = set_lists::order_records(orders);
@@ -107,7 +104,7 @@ pub fn listed_tank_ends(
     volumes: &[f64],
     non_additive: bool,
     right: bool,
-) -> EnergiesEndsAnswer
+) -> Result<EnergiesEnds, Refusal>
     ensures { let s : QuantumLists = record { count = count; m = m.now; sheets = sheets.now; orders = orders.now } in
         let q : TankLists =
         record {
@@ -120,7 +117,7 @@ pub fn listed_tank_ends(
         energies_ends_answer result ≡ listed_tank_ends s q non_additive right }
 {
     if !saftvrqmie_tank::layers_within(layers) {
-        return EnergiesEndsAnswer::Refused(14);
+        return Err(Refusal::Layers);
     }
     let right = tank_right(
         count,
@@ -131,10 +128,7 @@ pub fn listed_tank_ends(
         volumes,
         right,
     );
-    let read = set_lists::quantum_answer(count, m, sheets, orders, right);
-    let ParameterAnswer::Held = read else {
-        return EnergiesEndsAnswer::Refused(mie_parameters::number(read));
-    };
+    set_lists::quantum_answer(count, m, sheets, orders, right)?;
     let places = set_lists::places(m, 0);
     let flat = set_lists::flat(sheets);
     let records = set_lists::order_records(orders);

@@ -3,9 +3,8 @@
 
 ghost use Rattle.std.specs.Prelude.{◌<◌, ◌≤◌};
 
-use saftvrmie_energies::EnergyAnswer;
+use number::Refusal;
 use saftvrmie_parameters::SaftVRMiePars;
-use saftvrqmie_energies::EnergiesAnswer;
 use saftvrqmie_parameters::{FeynmanHibbsOrder, OrderRecord, SaftVRQMiePars};
 use sizes::{COUNTS, SHEET, SHEETS, SIDE, TABLE};
 use std::fs::File;
@@ -339,7 +338,7 @@ fn quantum_parameters(
     head: &[u8; HEAD],
     bytes: &[u8; BYTES],
     l: &[f64; WORDS],
-) -> saftvrqmie_parameters::ParameterSet {
+) -> Result<SaftVRQMiePars, Refusal> {
     let b = length_at(head, 6);
     let c = b + length_at(head, 7);
     let d = c + length_at(head, 8);
@@ -349,7 +348,7 @@ fn quantum_parameters(
     let h = g + length_at(head, 12);
     let i = h + length_at(head, 13);
     let orders = orders_from(bytes, i);
-    saftvrqmie_parameters::parameters(
+    saftvrqmie_parameters::saft_vrq_mie_pars(
         word(head, 2) as usize,
         part(l, 0, b),
         part(l, b, length_at(head, 7)),
@@ -363,10 +362,23 @@ fn quantum_parameters(
     )
 }
 
-fn quantum_set_told(head: &[u8; HEAD], given: saftvrqmie_parameters::ParameterSet) -> bool {
-    let answer = given.answer;
-    let number = mie_parameters::number(answer);
-    as_told(head, number, 15, hash_of_quantum(given.set))
+// The set beside a refusal: count 0, all +0, FH0.
+fn no_quantum_set() -> SaftVRQMiePars {
+    SaftVRQMiePars {
+        count: 0,
+        m: [0.0; SIDE],
+        sheets: [0.0; SHEETS],
+        orders: [OrderRecord {
+            order: FeynmanHibbsOrder::FH0,
+        }; SHEET],
+    }
+}
+
+fn quantum_set_told(head: &[u8; HEAD], given: Result<SaftVRQMiePars, Refusal>) -> bool {
+    match given {
+        Err(r) => as_told(head, r.code(), 15, hash_of_quantum(no_quantum_set())),
+        Ok(set) => as_told(head, 0, 15, hash_of_quantum(set)),
+    }
 }
 
 // The table worked into so many places of what is lent; 9 where there are fewer.
@@ -428,8 +440,8 @@ fn quantum_energies(
         word(head, 4) == 1,
     );
     match answer {
-        EnergiesAnswer::Refused(number) => word(head, 1) == wide(number),
-        EnergiesAnswer::Energies(e) => {
+        Err(r) => word(head, 1) == wide(r.code()),
+        Ok(e) => {
             as_told(head, 0, 15, number::bits_of(e.hard_sphere))
                 & as_told(head, 0, 16, number::bits_of(e.dispersion))
                 & as_told(head, 0, 17, number::bits_of(e.non_additive))
@@ -498,14 +510,14 @@ fn diameters_by_hand(head: &[u8; HEAD], bytes: &[u8; BYTES], d: &mut [f64; SIDE]
 
 // ---- SAFT-VR Mie
 
-fn mie_parameters_of(head: &[u8; HEAD], l: &[f64; WORDS]) -> saftvrmie_parameters::ParameterSet {
+fn mie_parameters_of(head: &[u8; HEAD], l: &[f64; WORDS]) -> Result<SaftVRMiePars, Refusal> {
     let b = length_at(head, 6);
     let c = b + length_at(head, 7);
     let d = c + length_at(head, 8);
     let e = d + length_at(head, 9);
     let f = e + length_at(head, 10);
     let g = f + length_at(head, 11);
-    saftvrmie_parameters::parameters(
+    saftvrmie_parameters::saft_vr_mie_pars(
         word(head, 2) as usize,
         part(l, 0, b),
         part(l, b, length_at(head, 7)),
@@ -517,10 +529,24 @@ fn mie_parameters_of(head: &[u8; HEAD], l: &[f64; WORDS]) -> saftvrmie_parameter
     )
 }
 
-fn mie_set_told(head: &[u8; HEAD], given: saftvrmie_parameters::ParameterSet) -> bool {
-    let answer = given.answer;
-    let number = mie_parameters::number(answer);
-    as_told(head, number, 15, hash_of_mie(given.set))
+// The set beside a refusal: count 0, all +0.
+fn no_mie_set() -> SaftVRMiePars {
+    SaftVRMiePars {
+        count: 0,
+        m: [0.0; SIDE],
+        sigma: [0.0; SIDE],
+        epsilon_k: [0.0; SIDE],
+        lr: [0.0; SIDE],
+        la: [0.0; SIDE],
+        sheets: [0.0; SHEETS],
+    }
+}
+
+fn mie_set_told(head: &[u8; HEAD], given: Result<SaftVRMiePars, Refusal>) -> bool {
+    match given {
+        Err(r) => as_told(head, r.code(), 15, hash_of_mie(no_mie_set())),
+        Ok(set) => as_told(head, 0, 15, hash_of_mie(set)),
+    }
 }
 
 fn diameters_into(set: SaftVRMiePars, t: f64, d: &mut [f64], n: usize) -> u8 {
@@ -553,8 +579,8 @@ fn mie_dispersion(
         word(head, 4) == 1,
     );
     match answer {
-        EnergyAnswer::Refused(number) => word(head, 1) == wide(number),
-        EnergyAnswer::Value(x) => as_told(head, 0, 15, number::bits_of(x)),
+        Err(r) => word(head, 1) == wide(r.code()),
+        Ok(x) => as_told(head, 0, 15, number::bits_of(x)),
     }
 }
 
@@ -630,8 +656,7 @@ fn quantum_file(file: &mut impl Read, tally: Tally) -> io::Result<Tally> {
     let mut bytes = [0u8; BYTES];
     let mut table = [0.0; TABLE];
     let mut counts = [0u8; COUNTS];
-    let none = saftvrqmie_parameters::refused_with(1);
-    let mut set = none.set;
+    let mut set = no_quantum_set();
     for turn in 0usize..1000000 {
         if !next_record(file, &mut head, &mut bytes)? {
             return Ok(t);
@@ -641,7 +666,7 @@ fn quantum_file(file: &mut impl Read, tally: Tally) -> io::Result<Tally> {
         match head_word(&head, 0) {
             1 => {
                 let given = quantum_parameters(&head, &bytes, &l);
-                set = given.set;
+                set = given.unwrap_or(no_quantum_set());
                 t = noted(t, 0, told, quantum_set_told(&head, given));
             }
             2 => {
@@ -669,8 +694,7 @@ fn mie_file(file: &mut impl Read, tally: Tally) -> io::Result<Tally> {
     let mut head = [0u8; HEAD];
     let mut bytes = [0u8; BYTES];
     let mut d = [0.0; SIDE];
-    let none = saftvrmie_parameters::refused_with(1);
-    let mut set = none.set;
+    let mut set = no_mie_set();
     for turn in 0usize..1000000 {
         if !next_record(file, &mut head, &mut bytes)? {
             return Ok(t);
@@ -680,7 +704,7 @@ fn mie_file(file: &mut impl Read, tally: Tally) -> io::Result<Tally> {
         match head_word(&head, 0) {
             4 => {
                 let given = mie_parameters_of(&head, &l);
-                set = given.set;
+                set = given.unwrap_or(no_mie_set());
                 t = noted(t, 3, told, mie_set_told(&head, given));
             }
             5 => {

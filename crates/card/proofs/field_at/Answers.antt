@@ -2,8 +2,6 @@ use mathlib.Core.Path.{refl}
 use Rattle.card.proofs.Fields.{order_field, quantum_field, mie_field, pair_field}
 use borrow.Author.Tests.{ne_eqb}
 use borrow.Author.Rules.{rules}
-use Rattle.card.proofs.field_at.Reads as reads
-use Rattle.card.proofs.field_at.Lts as lts
 use Rattle.card.proofs.field_at.Goals as goal
 
 -- src/lib.rt:109:17

@@ -2,9 +2,6 @@ use Prim.Native.Nat.{◌+◌, ◌/◌}
 use native.Mathlib.Omega.{arith}
 use lib.ListN.{length}
 use Rattle.card.proofs.Reading.{filling_over, filling_none, filling_last}
-use Rattle.card.proofs.filling.Reads as reads
-use Rattle.card.proofs.filling.Lts as lts
-use Rattle.bit_fields.proofs.field.Reads as field-reads
 use mathlib.Core.Path.{◌≡◌}
 use Rattle.card.proofs.filling.Goals as goal
 

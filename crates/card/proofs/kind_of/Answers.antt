@@ -1,8 +1,6 @@
 use Prim.Native.Nat.{◌≤◌}
 use native.Mathlib.Omega.{arith}
 use mathlib.Core.Path.{refl}
-use Rattle.card.proofs.kind_of.Reads as reads
-use Rattle.card.proofs.kind_of.Lts as lts
 use Rattle.card.proofs.kind_of.Goals as goal
 
 -- src/lib.rt:211:16

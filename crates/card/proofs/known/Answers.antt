@@ -1,6 +1,4 @@
 use Rattle.card.proofs.Reading.{known_newer, known_older}
-use Rattle.card.proofs.known.Reads as reads
-use Rattle.card.proofs.known.Lts as lts
 use Rattle.card.proofs.known.Goals as goal
 
 -- src/lib.rt:175:9

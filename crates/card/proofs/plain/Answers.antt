@@ -3,9 +3,6 @@ use native.Mathlib.Omega.{arith}
 use lib.ListN.{length}
 use Rattle.card.proofs.Reading.{plain_short, plain_held}
 use borrow.Author.Rules.{rules}
-use Rattle.card.proofs.plain.Reads as reads
-use Rattle.card.proofs.plain.Lts as lts
-use Rattle.bit_fields.proofs.field.Reads as field-reads
 use Rattle.card.proofs.plain.Goals as goal
 
 -- src/lib.rt:53:9

@@ -1,10 +1,6 @@
 use native.Mathlib.Omega.{arith}
 use mathlib.Core.Path.{◌∙◌}
 use Rattle.card.proofs.Reading.{field_spared, field_plain}
-use Rattle.card.proofs.read_field.Reads as reads
-use Rattle.card.proofs.read_field.Lts as lts
-use Rattle.card.proofs.plain.Reads as plain-reads
-use Rattle.card.proofs.spared.Reads as spared-reads
 use Rattle.card.proofs.read_field.Goals as goal
 
 -- src/lib.rt:96:9

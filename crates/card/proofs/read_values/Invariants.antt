@@ -4,12 +4,6 @@ use lib.ListN.{length, drop}
 use Rattle.card.proofs.Reading.{On}
 use Rattle.card.specs.Card.{form_of, layout}
 use Rattle.bit_fields.specs.Bits.{bits_of}
-use Rattle.card.proofs.read_values.Reads as reads
-use Rattle.card.proofs.read_values.Lts as lts
-use Rattle.card.proofs.field_at.Reads as field-at-reads
-use Rattle.card.proofs.read_field.Reads as read-field-reads
-use Rattle.card.proofs.refusal.Reads as refusal-reads
-use Rattle.card.proofs.value_count.Reads as value-count-reads
 use Rattle.card.proofs.read_values.Given as goal
 
 abbrev pub invariant-loop-k : goal.invariant-loop-k

@@ -2,8 +2,6 @@ use native.Mathlib.Omega.{arith}
 use mathlib.Core.Path.{refl}
 use borrow.Author.Tests.{ne_eqb}
 use Rattle.card.proofs.Reading.{pairs_small}
-use Rattle.card.proofs.value_count.Reads as reads
-use Rattle.card.proofs.value_count.Lts as lts
 use Rattle.card.proofs.value_count.Goals as goal
 
 -- src/lib.rt:138:28

@@ -3,7 +3,7 @@ use native.Mathlib.Omega.{arith}
 use mathlib.Core.Path.{refl, ap, ◌∙◌}
 use Rattle.card_parameters.specs.Parameters.{CardLent}
 use Rattle.card.specs.Card.{form_of}
-use Rattle.number.proofs.Walk.{told}
+use Rattle.number.proofs.Walk.{told, handed_on}
 use borrow.Author.Tests.{ne_eqb}
 use Rattle.set_lists.specs.Written.{QuantumLent, MieLent}
 use Rattle.card.proofs.Whole.{twelve}
@@ -14,32 +14,32 @@ use Rattle.card_parameters.proofs.parameters.Goals as goal
 pub returns-then-not-card_lengths : goal.returns-then-not-card_lengths
 returns-then-not-card_lengths c = let q = lengths_1 (form_of c.args.newer) c.args.card.now (record { model = c.args.model.now; count = c.args.count.now; m = c.args.m.now; lists = c.args.lists.now; sheets = c.args.sheets.now; orders = c.args.orders.now }) (told c.card_lengths.ensures c.if-not-card_lengths.true) in (stored_verdict _ _ q, ap (λ (l : CardLent). l.model) (kept (record { model = c.args.model.now; count = c.args.count.now; m = c.args.m.now; lists = c.args.lists.now; sheets = c.args.sheets.now; orders = c.args.orders.now }) _ _ q), ap (λ (l : CardLent). l.count) (kept (record { model = c.args.model.now; count = c.args.count.now; m = c.args.m.now; lists = c.args.lists.now; sheets = c.args.sheets.now; orders = c.args.orders.now }) _ _ q), ap (λ (l : CardLent). l.m) (kept (record { model = c.args.model.now; count = c.args.count.now; m = c.args.m.now; lists = c.args.lists.now; sheets = c.args.sheets.now; orders = c.args.orders.now }) _ _ q), ap (λ (l : CardLent). l.lists) (kept (record { model = c.args.model.now; count = c.args.count.now; m = c.args.m.now; lists = c.args.lists.now; sheets = c.args.sheets.now; orders = c.args.orders.now }) _ _ q), ap (λ (l : CardLent). l.sheets) (kept (record { model = c.args.model.now; count = c.args.count.now; m = c.args.m.now; lists = c.args.lists.now; sheets = c.args.sheets.now; orders = c.args.orders.now }) _ _ q), ap (λ (l : CardLent). l.orders) (kept (record { model = c.args.model.now; count = c.args.count.now; m = c.args.m.now; lists = c.args.lists.now; sheets = c.args.sheets.now; orders = c.args.orders.now }) _ _ q))
 
-pub returns-in_default : goal.returns-in_default
-returns-in_default c = let q = card_refused (form_of c.args.newer) c.args.card.now (record { model = c.args.model.now; count = c.args.count.now; m = c.args.m.now; lists = c.args.lists.now; sheets = c.args.sheets.now; orders = c.args.orders.now }) (told c.card_lengths.ensures c.if-not-card_lengths.false) _ _ _ _ c.read-read.ensures.0 c.in_default.is c.card_refusal.ensures in (stored_verdict _ _ q, ap (λ (l : CardLent). l.model) (kept (record { model = c.args.model.now; count = c.args.count.now; m = c.args.m.now; lists = c.args.lists.now; sheets = c.args.sheets.now; orders = c.args.orders.now }) _ _ q), ap (λ (l : CardLent). l.count) (kept (record { model = c.args.model.now; count = c.args.count.now; m = c.args.m.now; lists = c.args.lists.now; sheets = c.args.sheets.now; orders = c.args.orders.now }) _ _ q), ap (λ (l : CardLent). l.m) (kept (record { model = c.args.model.now; count = c.args.count.now; m = c.args.m.now; lists = c.args.lists.now; sheets = c.args.sheets.now; orders = c.args.orders.now }) _ _ q), ap (λ (l : CardLent). l.lists) (kept (record { model = c.args.model.now; count = c.args.count.now; m = c.args.m.now; lists = c.args.lists.now; sheets = c.args.sheets.now; orders = c.args.orders.now }) _ _ q), ap (λ (l : CardLent). l.sheets) (kept (record { model = c.args.model.now; count = c.args.count.now; m = c.args.m.now; lists = c.args.lists.now; sheets = c.args.sheets.now; orders = c.args.orders.now }) _ _ q), ap (λ (l : CardLent). l.orders) (kept (record { model = c.args.model.now; count = c.args.count.now; m = c.args.m.now; lists = c.args.lists.now; sheets = c.args.sheets.now; orders = c.args.orders.now }) _ _ q))
+pub returns-in_err-head : goal.returns-in_err-head
+returns-in_err-head c = let q = card_refused (form_of c.args.newer) c.args.card.now (record { model = c.args.model.now; count = c.args.count.now; m = c.args.m.now; lists = c.args.lists.now; sheets = c.args.sheets.now; orders = c.args.orders.now }) (told c.card_lengths.ensures c.if-not-card_lengths.false) _ _ c.read.ensures.0 c.in_err-head.was in rw (handed_on _ c.from_residual.ensures) (stored_verdict _ _ q, ap (λ (l : CardLent). l.model) (kept (record { model = c.args.model.now; count = c.args.count.now; m = c.args.m.now; lists = c.args.lists.now; sheets = c.args.sheets.now; orders = c.args.orders.now }) _ _ q), ap (λ (l : CardLent). l.count) (kept (record { model = c.args.model.now; count = c.args.count.now; m = c.args.m.now; lists = c.args.lists.now; sheets = c.args.sheets.now; orders = c.args.orders.now }) _ _ q), ap (λ (l : CardLent). l.m) (kept (record { model = c.args.model.now; count = c.args.count.now; m = c.args.m.now; lists = c.args.lists.now; sheets = c.args.sheets.now; orders = c.args.orders.now }) _ _ q), ap (λ (l : CardLent). l.lists) (kept (record { model = c.args.model.now; count = c.args.count.now; m = c.args.m.now; lists = c.args.lists.now; sheets = c.args.sheets.now; orders = c.args.orders.now }) _ _ q), ap (λ (l : CardLent). l.sheets) (kept (record { model = c.args.model.now; count = c.args.count.now; m = c.args.m.now; lists = c.args.lists.now; sheets = c.args.sheets.now; orders = c.args.orders.now }) _ _ q), ap (λ (l : CardLent). l.orders) (kept (record { model = c.args.model.now; count = c.args.count.now; m = c.args.m.now; lists = c.args.lists.now; sheets = c.args.sheets.now; orders = c.args.orders.now }) _ _ q))
 
 pub value_count-total-requires : goal.value_count-total-requires
-value_count-total-requires c = ((within (form_of c.args.newer) c.args.card.now (record { model = c.args.model.now; count = c.args.count.now; m = c.args.m.now; lists = c.args.lists.now; sheets = c.args.sheets.now; orders = c.args.orders.now }) (told c.card_lengths.ensures c.if-not-card_lengths.false) _ _ _ c.read-read.ensures.0 c.in-Card.is).0, twelve c.args.newer _ (within (form_of c.args.newer) c.args.card.now (record { model = c.args.model.now; count = c.args.count.now; m = c.args.m.now; lists = c.args.lists.now; sheets = c.args.sheets.now; orders = c.args.orders.now }) (told c.card_lengths.ensures c.if-not-card_lengths.false) _ _ _ c.read-read.ensures.0 c.in-Card.is).1)
+value_count-total-requires c = ((within (form_of c.args.newer) c.args.card.now (record { model = c.args.model.now; count = c.args.count.now; m = c.args.m.now; lists = c.args.lists.now; sheets = c.args.sheets.now; orders = c.args.orders.now }) (told c.card_lengths.ensures c.if-not-card_lengths.false) _ _ _ c.read.ensures.0 c.in_ok-head.was).0, twelve c.args.newer _ (within (form_of c.args.newer) c.args.card.now (record { model = c.args.model.now; count = c.args.count.now; m = c.args.m.now; lists = c.args.lists.now; sheets = c.args.sheets.now; orders = c.args.orders.now }) (told c.card_lengths.ensures c.if-not-card_lengths.false) _ _ _ c.read.ensures.0 c.in_ok-head.was).1)
 
 pub slice_bounds-quantum_stored-end : goal.slice_bounds-quantum_stored-end
-slice_bounds-quantum_stored-end c = omega (arith, total_small c.in-Card.head.kind c.in-Card.head.count c.value_count-total.result (twelve c.args.newer _ (within (form_of c.args.newer) c.args.card.now (record { model = c.args.model.now; count = c.args.count.now; m = c.args.m.now; lists = c.args.lists.now; sheets = c.args.sheets.now; orders = c.args.orders.now }) (told c.card_lengths.ensures c.if-not-card_lengths.false) _ _ _ c.read-read.ensures.0 c.in-Card.is).1) c.value_count-total.ensures, c.read-read.ensures.1)
+slice_bounds-quantum_stored-end c = omega (arith, total_small c.in_ok-head.head.kind c.in_ok-head.head.count c.value_count-total.result (twelve c.args.newer _ (within (form_of c.args.newer) c.args.card.now (record { model = c.args.model.now; count = c.args.count.now; m = c.args.m.now; lists = c.args.lists.now; sheets = c.args.sheets.now; orders = c.args.orders.now }) (told c.card_lengths.ensures c.if-not-card_lengths.false) _ _ _ c.read.ensures.0 c.in_ok-head.was).1) c.value_count-total.ensures, c.read.ensures.1)
 
-pub quantum_stored-answer-requires : goal.quantum_stored-answer-requires
-quantum_stored-answer-requires c = (twelve c.args.newer _ (within (form_of c.args.newer) c.args.card.now (record { model = c.args.model.now; count = c.args.count.now; m = c.args.m.now; lists = c.args.lists.now; sheets = c.args.sheets.now; orders = c.args.orders.now }) (told c.card_lengths.ensures c.if-not-card_lengths.false) _ _ _ c.read-read.ensures.0 c.in-Card.is).1, part_length c.in-Card.head.kind c.in-Card.head.count c.value_count-total.result 6 _ c.value_count-total.ensures (omega (arith, total_small c.in-Card.head.kind c.in-Card.head.count c.value_count-total.result (twelve c.args.newer _ (within (form_of c.args.newer) c.args.card.now (record { model = c.args.model.now; count = c.args.count.now; m = c.args.m.now; lists = c.args.lists.now; sheets = c.args.sheets.now; orders = c.args.orders.now }) (told c.card_lengths.ensures c.if-not-card_lengths.false) _ _ _ c.read-read.ensures.0 c.in-Card.is).1) c.value_count-total.ensures, c.read-read.ensures.1)) (rw c.if-kind-eq0.true refl), quantum_right _ _ _ _ (told c.card_lengths.ensures c.if-not-card_lengths.false))
+pub quantum_stored-requires : goal.quantum_stored-requires
+quantum_stored-requires c = (twelve c.args.newer _ (within (form_of c.args.newer) c.args.card.now (record { model = c.args.model.now; count = c.args.count.now; m = c.args.m.now; lists = c.args.lists.now; sheets = c.args.sheets.now; orders = c.args.orders.now }) (told c.card_lengths.ensures c.if-not-card_lengths.false) _ _ _ c.read.ensures.0 c.in_ok-head.was).1, part_length c.in_ok-head.head.kind c.in_ok-head.head.count c.value_count-total.result 6 _ c.value_count-total.ensures (omega (arith, total_small c.in_ok-head.head.kind c.in_ok-head.head.count c.value_count-total.result (twelve c.args.newer _ (within (form_of c.args.newer) c.args.card.now (record { model = c.args.model.now; count = c.args.count.now; m = c.args.m.now; lists = c.args.lists.now; sheets = c.args.sheets.now; orders = c.args.orders.now }) (told c.card_lengths.ensures c.if-not-card_lengths.false) _ _ _ c.read.ensures.0 c.in_ok-head.was).1) c.value_count-total.ensures, c.read.ensures.1)) (rw c.if-kind-eq0.true refl), quantum_right _ _ _ _ (told c.card_lengths.ensures c.if-not-card_lengths.false))
 
-pub returns-in_default-answer : goal.returns-in_default-answer
-returns-in_default-answer c = let q = quantum_stops (form_of c.args.newer) c.args.card.now (record { model = c.args.model.now; count = c.args.count.now; m = c.args.m.now; lists = c.args.lists.now; sheets = c.args.sheets.now; orders = c.args.orders.now }) (told c.card_lengths.ensures c.if-not-card_lengths.false) _ _ _ c.read-read.ensures.0 c.in-Card.is _ (whole_part c.value_count-total.result _ _ c.value_count-total.ensures) c.if-kind-eq0.true _ c.quantum_stored-answer.ensures.0 _ c.in_default-answer.is in (c.in_default-answer.is ∙ stored_verdict _ _ q, ap (λ (l : CardLent). l.model) (kept (record { model = c.args.model.now; count = c.args.count.now; m = c.args.m.now; lists = c.args.lists.now; sheets = c.args.sheets.now; orders = c.args.orders.now }) _ _ q), ap (λ (l : CardLent). l.count) (kept (record { model = c.args.model.now; count = c.args.count.now; m = c.args.m.now; lists = c.args.lists.now; sheets = c.args.sheets.now; orders = c.args.orders.now }) _ _ q), c.quantum_stored-answer.ensures.1 ∙ ap (λ (l : QuantumLent). l.m) (unchanged _ _ _ _ c.quantum_stored-answer.ensures.0 c.in_default-answer.is) ∙ ap (λ (l : CardLent). l.m) (kept (record { model = c.args.model.now; count = c.args.count.now; m = c.args.m.now; lists = c.args.lists.now; sheets = c.args.sheets.now; orders = c.args.orders.now }) _ _ q), ap (λ (l : CardLent). l.lists) (kept (record { model = c.args.model.now; count = c.args.count.now; m = c.args.m.now; lists = c.args.lists.now; sheets = c.args.sheets.now; orders = c.args.orders.now }) _ _ q), c.quantum_stored-answer.ensures.2 ∙ ap (λ (l : QuantumLent). l.sheets) (unchanged _ _ _ _ c.quantum_stored-answer.ensures.0 c.in_default-answer.is) ∙ ap (λ (l : CardLent). l.sheets) (kept (record { model = c.args.model.now; count = c.args.count.now; m = c.args.m.now; lists = c.args.lists.now; sheets = c.args.sheets.now; orders = c.args.orders.now }) _ _ q), c.quantum_stored-answer.ensures.3 ∙ ap (λ (l : QuantumLent). l.orders) (unchanged _ _ _ _ c.quantum_stored-answer.ensures.0 c.in_default-answer.is) ∙ ap (λ (l : CardLent). l.orders) (kept (record { model = c.args.model.now; count = c.args.count.now; m = c.args.m.now; lists = c.args.lists.now; sheets = c.args.sheets.now; orders = c.args.orders.now }) _ _ q))
+pub returns-in_err-quantum_stored : goal.returns-in_err-quantum_stored
+returns-in_err-quantum_stored c = let q = quantum_stops (form_of c.args.newer) c.args.card.now (record { model = c.args.model.now; count = c.args.count.now; m = c.args.m.now; lists = c.args.lists.now; sheets = c.args.sheets.now; orders = c.args.orders.now }) (told c.card_lengths.ensures c.if-not-card_lengths.false) _ _ _ c.read.ensures.0 c.in_ok-head.was _ (whole_part c.value_count-total.result _ _ c.value_count-total.ensures) c.if-kind-eq0.true _ c.quantum_stored.ensures.0 c.in_err-quantum_stored.was in rw (handed_on _ c.from_residual-in_err-quantum_stored.ensures) (stored_verdict _ _ q, ap (λ (l : CardLent). l.model) (kept (record { model = c.args.model.now; count = c.args.count.now; m = c.args.m.now; lists = c.args.lists.now; sheets = c.args.sheets.now; orders = c.args.orders.now }) _ _ q), ap (λ (l : CardLent). l.count) (kept (record { model = c.args.model.now; count = c.args.count.now; m = c.args.m.now; lists = c.args.lists.now; sheets = c.args.sheets.now; orders = c.args.orders.now }) _ _ q), c.quantum_stored.ensures.1 ∙ ap (λ (l : QuantumLent). l.m) (unchanged _ _ _ c.quantum_stored.ensures.0 c.in_err-quantum_stored.was) ∙ ap (λ (l : CardLent). l.m) (kept (record { model = c.args.model.now; count = c.args.count.now; m = c.args.m.now; lists = c.args.lists.now; sheets = c.args.sheets.now; orders = c.args.orders.now }) _ _ q), ap (λ (l : CardLent). l.lists) (kept (record { model = c.args.model.now; count = c.args.count.now; m = c.args.m.now; lists = c.args.lists.now; sheets = c.args.sheets.now; orders = c.args.orders.now }) _ _ q), c.quantum_stored.ensures.2 ∙ ap (λ (l : QuantumLent). l.sheets) (unchanged _ _ _ c.quantum_stored.ensures.0 c.in_err-quantum_stored.was) ∙ ap (λ (l : CardLent). l.sheets) (kept (record { model = c.args.model.now; count = c.args.count.now; m = c.args.m.now; lists = c.args.lists.now; sheets = c.args.sheets.now; orders = c.args.orders.now }) _ _ q), c.quantum_stored.ensures.3 ∙ ap (λ (l : QuantumLent). l.orders) (unchanged _ _ _ c.quantum_stored.ensures.0 c.in_err-quantum_stored.was) ∙ ap (λ (l : CardLent). l.orders) (kept (record { model = c.args.model.now; count = c.args.count.now; m = c.args.m.now; lists = c.args.lists.now; sheets = c.args.sheets.now; orders = c.args.orders.now }) _ _ q))
 
 pub returns-then-kind-eq0 : goal.returns-then-kind-eq0
-returns-then-kind-eq0 c = let q = quantum_goes (form_of c.args.newer) c.args.card.now (record { model = c.args.model.now; count = c.args.count.now; m = c.args.m.now; lists = c.args.lists.now; sheets = c.args.sheets.now; orders = c.args.orders.now }) (told c.card_lengths.ensures c.if-not-card_lengths.false) _ _ _ c.read-read.ensures.0 c.in-Card.is _ (whole_part c.value_count-total.result _ _ c.value_count-total.ensures) c.if-kind-eq0.true _ c.quantum_stored-answer.ensures.0 _ _ _ c.in-Held.is c.quantum_stored-answer.ensures.1 c.quantum_stored-answer.ensures.2 c.quantum_stored-answer.ensures.3 in (held_verdict _ _ q, ap (λ (l : CardLent). l.model) (held_stored (record { model = c.args.model.now; count = c.args.count.now; m = c.args.m.now; lists = c.args.lists.now; sheets = c.args.sheets.now; orders = c.args.orders.now }) _ _ q), ap (λ (l : CardLent). l.count) (held_stored (record { model = c.args.model.now; count = c.args.count.now; m = c.args.m.now; lists = c.args.lists.now; sheets = c.args.sheets.now; orders = c.args.orders.now }) _ _ q), ap (λ (l : CardLent). l.m) (held_stored (record { model = c.args.model.now; count = c.args.count.now; m = c.args.m.now; lists = c.args.lists.now; sheets = c.args.sheets.now; orders = c.args.orders.now }) _ _ q), ap (λ (l : CardLent). l.lists) (held_stored (record { model = c.args.model.now; count = c.args.count.now; m = c.args.m.now; lists = c.args.lists.now; sheets = c.args.sheets.now; orders = c.args.orders.now }) _ _ q), ap (λ (l : CardLent). l.sheets) (held_stored (record { model = c.args.model.now; count = c.args.count.now; m = c.args.m.now; lists = c.args.lists.now; sheets = c.args.sheets.now; orders = c.args.orders.now }) _ _ q), ap (λ (l : CardLent). l.orders) (held_stored (record { model = c.args.model.now; count = c.args.count.now; m = c.args.m.now; lists = c.args.lists.now; sheets = c.args.sheets.now; orders = c.args.orders.now }) _ _ q))
+returns-then-kind-eq0 c = let q = quantum_goes (form_of c.args.newer) c.args.card.now (record { model = c.args.model.now; count = c.args.count.now; m = c.args.m.now; lists = c.args.lists.now; sheets = c.args.sheets.now; orders = c.args.orders.now }) (told c.card_lengths.ensures c.if-not-card_lengths.false) _ _ _ c.read.ensures.0 c.in_ok-head.was _ (whole_part c.value_count-total.result _ _ c.value_count-total.ensures) c.if-kind-eq0.true _ c.quantum_stored.ensures.0 _ _ _ c.in_ok-quantum_stored.was c.quantum_stored.ensures.1 c.quantum_stored.ensures.2 c.quantum_stored.ensures.3 in (held_verdict _ _ q, ap (λ (l : CardLent). l.model) (held_stored (record { model = c.args.model.now; count = c.args.count.now; m = c.args.m.now; lists = c.args.lists.now; sheets = c.args.sheets.now; orders = c.args.orders.now }) _ _ q), ap (λ (l : CardLent). l.count) (held_stored (record { model = c.args.model.now; count = c.args.count.now; m = c.args.m.now; lists = c.args.lists.now; sheets = c.args.sheets.now; orders = c.args.orders.now }) _ _ q), ap (λ (l : CardLent). l.m) (held_stored (record { model = c.args.model.now; count = c.args.count.now; m = c.args.m.now; lists = c.args.lists.now; sheets = c.args.sheets.now; orders = c.args.orders.now }) _ _ q), ap (λ (l : CardLent). l.lists) (held_stored (record { model = c.args.model.now; count = c.args.count.now; m = c.args.m.now; lists = c.args.lists.now; sheets = c.args.sheets.now; orders = c.args.orders.now }) _ _ q), ap (λ (l : CardLent). l.sheets) (held_stored (record { model = c.args.model.now; count = c.args.count.now; m = c.args.m.now; lists = c.args.lists.now; sheets = c.args.sheets.now; orders = c.args.orders.now }) _ _ q), ap (λ (l : CardLent). l.orders) (held_stored (record { model = c.args.model.now; count = c.args.count.now; m = c.args.m.now; lists = c.args.lists.now; sheets = c.args.sheets.now; orders = c.args.orders.now }) _ _ q))
 
 pub slice_bounds-mie_stored-end : goal.slice_bounds-mie_stored-end
-slice_bounds-mie_stored-end c = omega (arith, total_small c.in-Card.head.kind c.in-Card.head.count c.value_count-total.result (twelve c.args.newer _ (within (form_of c.args.newer) c.args.card.now (record { model = c.args.model.now; count = c.args.count.now; m = c.args.m.now; lists = c.args.lists.now; sheets = c.args.sheets.now; orders = c.args.orders.now }) (told c.card_lengths.ensures c.if-not-card_lengths.false) _ _ _ c.read-read.ensures.0 c.in-Card.is).1) c.value_count-total.ensures, c.read-read.ensures.1)
+slice_bounds-mie_stored-end c = omega (arith, total_small c.in_ok-head.head.kind c.in_ok-head.head.count c.value_count-total.result (twelve c.args.newer _ (within (form_of c.args.newer) c.args.card.now (record { model = c.args.model.now; count = c.args.count.now; m = c.args.m.now; lists = c.args.lists.now; sheets = c.args.sheets.now; orders = c.args.orders.now }) (told c.card_lengths.ensures c.if-not-card_lengths.false) _ _ _ c.read.ensures.0 c.in_ok-head.was).1) c.value_count-total.ensures, c.read.ensures.1)
 
-pub mie_stored-answer-requires : goal.mie_stored-answer-requires
-mie_stored-answer-requires c = (twelve c.args.newer _ (within (form_of c.args.newer) c.args.card.now (record { model = c.args.model.now; count = c.args.count.now; m = c.args.m.now; lists = c.args.lists.now; sheets = c.args.sheets.now; orders = c.args.orders.now }) (told c.card_lengths.ensures c.if-not-card_lengths.false) _ _ _ c.read-read.ensures.0 c.in-Card.is).1, part_length c.in-Card.head.kind c.in-Card.head.count c.value_count-total.result 5 _ c.value_count-total.ensures (omega (arith, total_small c.in-Card.head.kind c.in-Card.head.count c.value_count-total.result (twelve c.args.newer _ (within (form_of c.args.newer) c.args.card.now (record { model = c.args.model.now; count = c.args.count.now; m = c.args.m.now; lists = c.args.lists.now; sheets = c.args.sheets.now; orders = c.args.orders.now }) (told c.card_lengths.ensures c.if-not-card_lengths.false) _ _ _ c.read-read.ensures.0 c.in-Card.is).1) c.value_count-total.ensures, c.read-read.ensures.1)) (rw (ne_eqb _ _ c.if-kind-eq0.false) refl), mie_right _ _ _ _ (told c.card_lengths.ensures c.if-not-card_lengths.false))
+pub mie_stored-requires : goal.mie_stored-requires
+mie_stored-requires c = (twelve c.args.newer _ (within (form_of c.args.newer) c.args.card.now (record { model = c.args.model.now; count = c.args.count.now; m = c.args.m.now; lists = c.args.lists.now; sheets = c.args.sheets.now; orders = c.args.orders.now }) (told c.card_lengths.ensures c.if-not-card_lengths.false) _ _ _ c.read.ensures.0 c.in_ok-head.was).1, part_length c.in_ok-head.head.kind c.in_ok-head.head.count c.value_count-total.result 5 _ c.value_count-total.ensures (omega (arith, total_small c.in_ok-head.head.kind c.in_ok-head.head.count c.value_count-total.result (twelve c.args.newer _ (within (form_of c.args.newer) c.args.card.now (record { model = c.args.model.now; count = c.args.count.now; m = c.args.m.now; lists = c.args.lists.now; sheets = c.args.sheets.now; orders = c.args.orders.now }) (told c.card_lengths.ensures c.if-not-card_lengths.false) _ _ _ c.read.ensures.0 c.in_ok-head.was).1) c.value_count-total.ensures, c.read.ensures.1)) (rw (ne_eqb _ _ c.if-kind-eq0.false) refl), mie_right _ _ _ _ (told c.card_lengths.ensures c.if-not-card_lengths.false))
 
-pub returns-in_default-answer-2 : goal.returns-in_default-answer-2
-returns-in_default-answer-2 c = let q = mie_stops (form_of c.args.newer) c.args.card.now (record { model = c.args.model.now; count = c.args.count.now; m = c.args.m.now; lists = c.args.lists.now; sheets = c.args.sheets.now; orders = c.args.orders.now }) (told c.card_lengths.ensures c.if-not-card_lengths.false) _ _ _ c.read-read.ensures.0 c.in-Card.is _ (whole_part c.value_count-total.result _ _ c.value_count-total.ensures) c.if-kind-eq0.false _ c.mie_stored-answer.ensures.0 _ c.in_default-answer-2.is in (c.in_default-answer-2.is ∙ stored_verdict _ _ q, ap (λ (l : CardLent). l.model) (kept (record { model = c.args.model.now; count = c.args.count.now; m = c.args.m.now; lists = c.args.lists.now; sheets = c.args.sheets.now; orders = c.args.orders.now }) _ _ q), ap (λ (l : CardLent). l.count) (kept (record { model = c.args.model.now; count = c.args.count.now; m = c.args.m.now; lists = c.args.lists.now; sheets = c.args.sheets.now; orders = c.args.orders.now }) _ _ q), ap (λ (l : CardLent). l.m) (kept (record { model = c.args.model.now; count = c.args.count.now; m = c.args.m.now; lists = c.args.lists.now; sheets = c.args.sheets.now; orders = c.args.orders.now }) _ _ q), c.mie_stored-answer.ensures.1 ∙ ap (λ (l : MieLent). l.lists) (unchanged _ _ _ _ c.mie_stored-answer.ensures.0 c.in_default-answer-2.is) ∙ ap (λ (l : CardLent). l.lists) (kept (record { model = c.args.model.now; count = c.args.count.now; m = c.args.m.now; lists = c.args.lists.now; sheets = c.args.sheets.now; orders = c.args.orders.now }) _ _ q), c.mie_stored-answer.ensures.2 ∙ ap (λ (l : MieLent). l.sheets) (unchanged _ _ _ _ c.mie_stored-answer.ensures.0 c.in_default-answer-2.is) ∙ ap (λ (l : CardLent). l.sheets) (kept (record { model = c.args.model.now; count = c.args.count.now; m = c.args.m.now; lists = c.args.lists.now; sheets = c.args.sheets.now; orders = c.args.orders.now }) _ _ q), ap (λ (l : CardLent). l.orders) (kept (record { model = c.args.model.now; count = c.args.count.now; m = c.args.m.now; lists = c.args.lists.now; sheets = c.args.sheets.now; orders = c.args.orders.now }) _ _ q))
+pub returns-in_err-mie_stored : goal.returns-in_err-mie_stored
+returns-in_err-mie_stored c = let q = mie_stops (form_of c.args.newer) c.args.card.now (record { model = c.args.model.now; count = c.args.count.now; m = c.args.m.now; lists = c.args.lists.now; sheets = c.args.sheets.now; orders = c.args.orders.now }) (told c.card_lengths.ensures c.if-not-card_lengths.false) _ _ _ c.read.ensures.0 c.in_ok-head.was _ (whole_part c.value_count-total.result _ _ c.value_count-total.ensures) c.if-kind-eq0.false _ c.mie_stored.ensures.0 c.in_err-mie_stored.was in rw (handed_on _ c.from_residual-in_err-mie_stored.ensures) (stored_verdict _ _ q, ap (λ (l : CardLent). l.model) (kept (record { model = c.args.model.now; count = c.args.count.now; m = c.args.m.now; lists = c.args.lists.now; sheets = c.args.sheets.now; orders = c.args.orders.now }) _ _ q), ap (λ (l : CardLent). l.count) (kept (record { model = c.args.model.now; count = c.args.count.now; m = c.args.m.now; lists = c.args.lists.now; sheets = c.args.sheets.now; orders = c.args.orders.now }) _ _ q), ap (λ (l : CardLent). l.m) (kept (record { model = c.args.model.now; count = c.args.count.now; m = c.args.m.now; lists = c.args.lists.now; sheets = c.args.sheets.now; orders = c.args.orders.now }) _ _ q), c.mie_stored.ensures.1 ∙ ap (λ (l : MieLent). l.lists) (unchanged _ _ _ c.mie_stored.ensures.0 c.in_err-mie_stored.was) ∙ ap (λ (l : CardLent). l.lists) (kept (record { model = c.args.model.now; count = c.args.count.now; m = c.args.m.now; lists = c.args.lists.now; sheets = c.args.sheets.now; orders = c.args.orders.now }) _ _ q), c.mie_stored.ensures.2 ∙ ap (λ (l : MieLent). l.sheets) (unchanged _ _ _ c.mie_stored.ensures.0 c.in_err-mie_stored.was) ∙ ap (λ (l : CardLent). l.sheets) (kept (record { model = c.args.model.now; count = c.args.count.now; m = c.args.m.now; lists = c.args.lists.now; sheets = c.args.sheets.now; orders = c.args.orders.now }) _ _ q), ap (λ (l : CardLent). l.orders) (kept (record { model = c.args.model.now; count = c.args.count.now; m = c.args.m.now; lists = c.args.lists.now; sheets = c.args.sheets.now; orders = c.args.orders.now }) _ _ q))
 
 pub returns : goal.returns
-returns c = let q = mie_goes (form_of c.args.newer) c.args.card.now (record { model = c.args.model.now; count = c.args.count.now; m = c.args.m.now; lists = c.args.lists.now; sheets = c.args.sheets.now; orders = c.args.orders.now }) (told c.card_lengths.ensures c.if-not-card_lengths.false) _ _ _ c.read-read.ensures.0 c.in-Card.is _ (whole_part c.value_count-total.result _ _ c.value_count-total.ensures) c.if-kind-eq0.false _ c.mie_stored-answer.ensures.0 _ _ c.in-Held-answer.is c.mie_stored-answer.ensures.1 c.mie_stored-answer.ensures.2 in (held_verdict _ _ q, ap (λ (l : CardLent). l.model) (held_stored (record { model = c.args.model.now; count = c.args.count.now; m = c.args.m.now; lists = c.args.lists.now; sheets = c.args.sheets.now; orders = c.args.orders.now }) _ _ q), ap (λ (l : CardLent). l.count) (held_stored (record { model = c.args.model.now; count = c.args.count.now; m = c.args.m.now; lists = c.args.lists.now; sheets = c.args.sheets.now; orders = c.args.orders.now }) _ _ q), ap (λ (l : CardLent). l.m) (held_stored (record { model = c.args.model.now; count = c.args.count.now; m = c.args.m.now; lists = c.args.lists.now; sheets = c.args.sheets.now; orders = c.args.orders.now }) _ _ q), ap (λ (l : CardLent). l.lists) (held_stored (record { model = c.args.model.now; count = c.args.count.now; m = c.args.m.now; lists = c.args.lists.now; sheets = c.args.sheets.now; orders = c.args.orders.now }) _ _ q), ap (λ (l : CardLent). l.sheets) (held_stored (record { model = c.args.model.now; count = c.args.count.now; m = c.args.m.now; lists = c.args.lists.now; sheets = c.args.sheets.now; orders = c.args.orders.now }) _ _ q), ap (λ (l : CardLent). l.orders) (held_stored (record { model = c.args.model.now; count = c.args.count.now; m = c.args.m.now; lists = c.args.lists.now; sheets = c.args.sheets.now; orders = c.args.orders.now }) _ _ q))
+returns c = let q = mie_goes (form_of c.args.newer) c.args.card.now (record { model = c.args.model.now; count = c.args.count.now; m = c.args.m.now; lists = c.args.lists.now; sheets = c.args.sheets.now; orders = c.args.orders.now }) (told c.card_lengths.ensures c.if-not-card_lengths.false) _ _ _ c.read.ensures.0 c.in_ok-head.was _ (whole_part c.value_count-total.result _ _ c.value_count-total.ensures) c.if-kind-eq0.false _ c.mie_stored.ensures.0 _ _ c.in_ok-mie_stored.was c.mie_stored.ensures.1 c.mie_stored.ensures.2 in (held_verdict _ _ q, ap (λ (l : CardLent). l.model) (held_stored (record { model = c.args.model.now; count = c.args.count.now; m = c.args.m.now; lists = c.args.lists.now; sheets = c.args.sheets.now; orders = c.args.orders.now }) _ _ q), ap (λ (l : CardLent). l.count) (held_stored (record { model = c.args.model.now; count = c.args.count.now; m = c.args.m.now; lists = c.args.lists.now; sheets = c.args.sheets.now; orders = c.args.orders.now }) _ _ q), ap (λ (l : CardLent). l.m) (held_stored (record { model = c.args.model.now; count = c.args.count.now; m = c.args.m.now; lists = c.args.lists.now; sheets = c.args.sheets.now; orders = c.args.orders.now }) _ _ q), ap (λ (l : CardLent). l.lists) (held_stored (record { model = c.args.model.now; count = c.args.count.now; m = c.args.m.now; lists = c.args.lists.now; sheets = c.args.sheets.now; orders = c.args.orders.now }) _ _ q), ap (λ (l : CardLent). l.sheets) (held_stored (record { model = c.args.model.now; count = c.args.count.now; m = c.args.m.now; lists = c.args.lists.now; sheets = c.args.sheets.now; orders = c.args.orders.now }) _ _ q), ap (λ (l : CardLent). l.orders) (held_stored (record { model = c.args.model.now; count = c.args.count.now; m = c.args.m.now; lists = c.args.lists.now; sheets = c.args.sheets.now; orders = c.args.orders.now }) _ _ q))

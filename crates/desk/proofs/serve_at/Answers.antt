@@ -8,8 +8,8 @@ use Rattle.desk.proofs.serve_at.Goals as goal
 pub unit-worked-requires : goal.unit-worked-requires
 unit-worked-requires c = (floats_long (record { floats = c.args.floats.now; bytes = c.args.bytes.now }) c.args.k (record { floats = c.requires.0; bytes = c.requires.1 }) c.requires.2, bytes_long (record { floats = c.args.floats.now; bytes = c.args.bytes.now }) c.args.k (record { floats = c.requires.0; bytes = c.requires.1 }) c.requires.2, waits_lent (record { floats = c.args.floats.now; bytes = c.args.bytes.now }) c.args.k (record { floats = c.requires.0; bytes = c.requires.1 }) c.requires.2 c.requires.3)
 
-pub returns-in-Going : goal.returns-in-Going
-returns-in-Going c = (here_on (record { floats = c.args.floats.now; bytes = c.args.bytes.now }) c.args.k (record { floats = c.requires.0; bytes = c.requires.1 }) c.requires.2 (sym (via unit_answer c.unit-worked.ensures.0 c.in-Going.is)), serve_here (record { floats = c.args.floats.now; bytes = c.args.bytes.now }) c.args.k (record { floats = c.requires.0; bytes = c.requires.1 }) c.requires.2 _ _ c.unit-worked.ensures.1)
+pub returns-in-None : goal.returns-in-None
+returns-in-None c = (here_on (record { floats = c.args.floats.now; bytes = c.args.bytes.now }) c.args.k (record { floats = c.requires.0; bytes = c.requires.1 }) c.requires.2 (sym (via unit_answer c.unit-worked.ensures.0 c.in-None.is)), serve_here (record { floats = c.args.floats.now; bytes = c.args.bytes.now }) c.args.k (record { floats = c.requires.0; bytes = c.requires.1 }) c.requires.2 _ _ c.unit-worked.ensures.1)
 
-pub returns-in-Done : goal.returns-in-Done
-returns-in-Done c = (here_done (record { floats = c.args.floats.now; bytes = c.args.bytes.now }) c.args.k (record { floats = c.requires.0; bytes = c.requires.1 }) c.requires.2 _ (sym (via unit_answer c.unit-worked.ensures.0 c.in-Done.is)), serve_here (record { floats = c.args.floats.now; bytes = c.args.bytes.now }) c.args.k (record { floats = c.requires.0; bytes = c.requires.1 }) c.requires.2 _ _ c.unit-worked.ensures.1)
+pub returns-in-Some : goal.returns-in-Some
+returns-in-Some c = (here_done (record { floats = c.args.floats.now; bytes = c.args.bytes.now }) c.args.k (record { floats = c.requires.0; bytes = c.requires.1 }) c.requires.2 _ (sym (via unit_answer c.unit-worked.ensures.0 c.in-Some.is)), serve_here (record { floats = c.args.floats.now; bytes = c.args.bytes.now }) c.args.k (record { floats = c.requires.0; bytes = c.requires.1 }) c.requires.2 _ _ c.unit-worked.ensures.1)

@@ -4,8 +4,8 @@ use mathlib.Core.Path.{ap}
 use Rattle.saftvrqmie_energies.specs.Energies.{energies_answer}
 use Rattle.desk_calls.proofs.hand_out.Goals as goal
 
-pub returns-in-Refused : goal.returns-in-Refused
-returns-in-Refused c = number_out _ _ _ (ap energies_answer c.in-Refused.is)
+pub returns-in-Err : goal.returns-in-Err
+returns-in-Err c = rw c.code.ensures (number_out _ _ _ (ap energies_answer c.in-Err.is))
 
-pub returns-in-Energies : goal.returns-in-Energies
-returns-in-Energies c = energies_out _ _ _ (ap energies_answer c.in-Energies.is) c.requires
+pub returns-in-Ok : goal.returns-in-Ok
+returns-in-Ok c = energies_out _ _ _ (ap energies_answer c.in-Ok.is) c.requires

@@ -14,8 +14,8 @@ overflow_add-e c = let h = waits_inside c.args.bytes.now c.requires.2 in let a =
 pub pair_here-pair-requires : goal.pair_here-pair-requires
 pair_here-pair-requires c = (c.requires.0, c.requires.1, let h = waits_inside c.args.bytes.now c.requires.2 in let a = h.high in let b = h.row in let d = h.column in omega (arith, a, b, d, c.byte_at-i.ensures, c.byte_at-j.ensures))
 
-pub returns-in_default : goal.returns-in_default
-returns-in_default c = unit_6 (record { floats = c.args.floats.now; bytes = c.args.bytes.now }) 6 (worked_6 (record { floats = c.args.floats.now; bytes = c.args.bytes.now }) _ _ _ _ c.byte_at-i.ensures c.byte_at-j.ensures c.pair_here-pair.ensures c.pair_properties.ensures c.in_default.is)
+pub returns-in-Err : goal.returns-in-Err
+returns-in-Err c = unit_6 (record { floats = c.args.floats.now; bytes = c.args.bytes.now }) _ (worked_6 (record { floats = c.args.floats.now; bytes = c.args.bytes.now }) _ _ _ _ c.byte_at-i.ensures c.byte_at-j.ensures c.pair_here-pair.ensures c.pair_properties.ensures c.in-Err.is)
 
 pub store-requires : goal.store-requires
 store-requires c = (part_length 901 576 c.args.floats.now (omega (arith, c.requires.0)), let h = waits_inside c.args.bytes.now c.requires.2 in let a = h.high in let b = h.row in let d = h.column in omega (arith, a, b, d, c.byte_at-i.ensures, c.byte_at-j.ensures))
@@ -23,5 +23,5 @@ store-requires c = (part_length 901 576 c.args.floats.now (omega (arith, c.requi
 pub settle-requires : goal.settle-requires
 settle-requires c = (search rules, c.requires.1, c.requires.2)
 
-pub returns : goal.returns
-returns c = unit_on (record { floats = c.args.floats.now; bytes = c.args.bytes.now }) _ _ _ _ (worked_held (record { floats = c.args.floats.now; bytes = c.args.bytes.now }) _ _ _ _ _ c.byte_at-i.ensures c.byte_at-j.ensures c.pair_here-pair.ensures c.pair_properties.ensures c.in-At.is) (tabled_at (record { floats = c.args.floats.now; bytes = c.args.bytes.now }) _ _ _ c.requires.0 c.store.ensures) c.settle.ensures.0 c.settle.ensures.1
+pub returns-in-Ok : goal.returns-in-Ok
+returns-in-Ok c = unit_on (record { floats = c.args.floats.now; bytes = c.args.bytes.now }) _ _ _ _ (worked_held (record { floats = c.args.floats.now; bytes = c.args.bytes.now }) _ _ _ _ _ c.byte_at-i.ensures c.byte_at-j.ensures c.pair_here-pair.ensures c.pair_properties.ensures c.in-Ok.is) (tabled_at (record { floats = c.args.floats.now; bytes = c.args.bytes.now }) _ _ _ c.requires.0 c.store.ensures) c.settle.ensures.0 c.settle.ensures.1

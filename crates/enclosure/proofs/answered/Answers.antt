@@ -1,12 +1,13 @@
 -- `enclosure::answered` meets its contract. Assumes nothing.
+use Rattle.std.proofs.Common.{rules}
 use Rattle.number.specs.Functions.{answered}
 use Rattle.number.specs.Ans.{◌>>=◌}
 use Rattle.enclosure.proofs.answered.Goals as goal
 
-pub returns-in_default : goal.returns-in_default
+pub returns-in_err-v : goal.returns-in_err-v
 unfolding answered ◌>>=◌
-returns-in_default c = rw c.in_default.is
+returns-in_err-v c = search rules
 
 pub returns : goal.returns
 unfolding answered ◌>>=◌
-returns c = rw (c.in-Value.is, c.after.ensures, c.point.ensures)
+returns c = search rules

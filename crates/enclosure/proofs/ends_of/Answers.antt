@@ -1,21 +1,25 @@
 -- `enclosure::ends_of` meets its contract. Assumes nothing.
+use Rattle.enclosure.specs.Ends.{ends_alone, ends_of}
+use Rattle.number.specs.Ans.{◌>>=◌}
+use Rattle.std.proofs.Common.{rules}
 use mathlib.Core.Path.{sym, ◌∙◌}
 use borrow.Author.Tests.{not-true, not-false}
-use Rattle.enclosure.proofs.TwoEnds.{alone_6, alone_7, alone_8, alone_held}
+use Rattle.enclosure.proofs.TwoEnds.{alone_7, alone_8, alone_held}
 use Rattle.enclosure.proofs.ends_of.Goals as goal
 
-pub returns-in_default : goal.returns-in_default
-returns-in_default c = rw c.in_default.is alone_6
+pub returns-in_err-b : goal.returns-in_err-b
+unfolding ends_alone ends_of ◌>>=◌
+returns-in_err-b c = search rules
 
 pub returns-then-not-is_finite : goal.returns-then-not-is_finite
-returns-then-not-is_finite c = rw c.in-Value.is (alone_7 _ (sym c.is_finite.ensures ∙ c.if-not-is_finite.true))
+returns-then-not-is_finite c = rw c.in_ok-b.was (alone_7 _ (sym c.is_finite.ensures ∙ c.if-not-is_finite.true))
 
 pub returns-then-not-ends : goal.returns-then-not-ends
 returns-then-not-ends c =
-    rw c.in-Value.is
+    rw c.in_ok-b.was
     (alone_8 _ (sym c.is_finite.ensures ∙ c.if-not-is_finite.false) (not-true _ c.if-not-ends.true))
 
 pub returns : goal.returns
 returns c =
-    rw c.in-Value.is
+    rw c.in_ok-b.was
     (alone_held _ (sym c.is_finite.ensures ∙ c.if-not-is_finite.false) (not-false _ c.if-not-ends.false))

@@ -1,4 +1,5 @@
 -- `mie_parameters::c_ij` meets its contract. Assumes nothing.
+use Rattle.std.proofs.Common.{rules}
 use Rattle.mie_parameters.specs.Combine.{c_ij}
 use lib.Ieee.{of_bits}
 use Rattle.number.specs.Arith.{decimal}
@@ -8,10 +9,10 @@ use Rattle.number.proofs.Walk.{via}
 use Rattle.number.specs.Ans.{◌>>=◌}
 use Rattle.mie_parameters.proofs.c_ij.Goals as goal
 
-pub returns-in_default : goal.returns-in_default
+pub returns-in_err-p : goal.returns-in_err-p
 unfolding c_ij answered₂ ◌>>=◌ decimal of_bits
-returns-in_default c = rw (via answer c.powf.ensures c.in_default.is)
+returns-in_err-p c = search rules
 
 pub returns : goal.returns
 unfolding c_ij answered₂ ◌>>=◌ decimal of_bits
-returns c = rw (via answer c.powf.ensures c.in-Value.is)
+returns c = rw (via answer c.powf.ensures c.in_ok-p.was)

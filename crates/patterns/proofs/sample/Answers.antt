@@ -1,14 +1,15 @@
 -- `patterns::sample` meets its contract. Assumes nothing.
+use Rattle.std.proofs.Common.{rules}
 use Rattle.patterns.specs.Formulas.{sample}
 use Rattle.number.proofs.Walk.{via}
 use Rattle.number.specs.Answer.{answer}
 use Rattle.number.specs.Ans.{◌>>=◌}
 use Rattle.patterns.proofs.sample.Goals as goal
 
-pub returns-in_default : goal.returns-in_default
+pub returns-in_err-b : goal.returns-in_err-b
 unfolding sample ◌>>=◌
-returns-in_default c = rw (← c.squares.ensures, via answer c.blend.ensures c.in_default.is)
+returns-in_err-b c = search rules
 
 pub returns : goal.returns
 unfolding sample ◌>>=◌
-returns c = rw (← c.squares.ensures, via answer c.blend.ensures c.in-Value.is, c.slope.ensures)
+returns c = rw (← c.squares.ensures, via answer c.blend.ensures c.in_ok-b.was, c.slope.ensures)

@@ -2,7 +2,6 @@
 use borrow.Author.Rules.{rules}
 use Rattle.patterns.specs.Formulas.{squares}
 use Rattle.number.proofs.Walk.{turns_none, turns_next, turns_end}
-use Rattle.number.specs.Lists.{at}
 use Rattle.patterns_ends.proofs.squares.Goals as goal
 
 pub loop-i-init : goal.loop-i-init

@@ -1,10 +1,8 @@
 -- `saftvrmie::radius_ij` meets its contract. Assumes nothing.
 use Rattle.saftvrmie.proofs.Pairs.{radius_1, radius_2, radius_is}
-use Rattle.number.proofs.Walk.{told, via}
+use Rattle.number.proofs.Walk.{told}
 use native.Mathlib.Omega.{arith}
 use Rattle.mie_parameters.proofs.Laws.{inside}
-use mathlib.Core.Path.{sym}
-use Rattle.number.specs.Answer.{answer}
 use Rattle.saftvrmie.proofs.radius_ij.Goals as goal
 
 pub returns-then-not-index_within : goal.returns-then-not-index_within
@@ -28,8 +26,5 @@ entry-lr-requires c = let h = inside _ _ _ (told c.index_within.ensures c.if-not
 pub c_eps_at-c_eps_t-requires : goal.c_eps_at-c_eps_t-requires
 c_eps_at-c_eps_t-requires c = let h = inside _ _ _ (told c.index_within.ensures c.if-not-index_within.false) in omega (arith, h.high, h.row, h.column)
 
-pub returns-in_default : goal.returns-in_default
-returns-in_default c = radius_is _ _ _ _ (told c.index_within.ensures c.if-not-index_within.false) (told c.temperature_within.ensures c.if-not-temperature_within.false) _ _ _ c.entry-la.ensures c.entry-lr.ensures c.c_eps_at-c_eps_t.ensures _ (sym (via answer c.lower_integratal_limit.ensures c.in_default.is))
-
 pub returns : goal.returns
-returns c = radius_is _ _ _ _ (told c.index_within.ensures c.if-not-index_within.false) (told c.temperature_within.ensures c.if-not-temperature_within.false) _ _ _ c.entry-la.ensures c.entry-lr.ensures c.c_eps_at-c_eps_t.ensures _ (sym (via answer c.lower_integratal_limit.ensures c.in-Value.is))
+returns c = radius_is _ _ _ _ (told c.index_within.ensures c.if-not-index_within.false) (told c.temperature_within.ensures c.if-not-temperature_within.false) _ _ _ c.entry-la.ensures c.entry-lr.ensures c.c_eps_at-c_eps_t.ensures _ c.lower_integratal_limit.ensures

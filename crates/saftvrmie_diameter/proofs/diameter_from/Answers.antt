@@ -2,7 +2,7 @@
 use Rattle.saftvrmie_diameter.specs.Diameter.{diameter_from}
 use Rattle.saftvrmie_diameter.proofs.Staged.{node_turn_is, from_refused}
 use Rattle.number.specs.Answer.{answer}
-use Rattle.number.proofs.Walk.{via, told, walk_none, walk_next, walk_stop, walk_end}
+use Rattle.number.proofs.Walk.{via, told, walk_none, walk_next, walk_stop, walk_end, handed_on}
 use borrow.Author.Rules.{rules}
 use Rattle.number.specs.Ans.{◌>>=◌}
 use Rattle.saftvrmie_diameter.proofs.diameter_from.Goals as goal
@@ -13,12 +13,12 @@ returns-then-not-exponents_inside c = from_refused _ _ _ _ _ (told c.exponents_i
 pub loop-k-init : goal.loop-k-init
 loop-k-init c = (search rules, walk_none _ _)
 
-pub returns-in_default : goal.returns-in_default
+pub returns-in_err-d : goal.returns-in_err-d
 unfolding diameter_from ◌>>=◌
-returns-in_default c = rw (← walk_stop _ _ 10 _ _ _ c.loop-k-test.true c.loop-k.invariant.1 (node_turn_is _ _ _ _ _ _ _ (told c.exponents_inside.ensures c.if-not-exponents_inside.false) c.exponents_of.ensures c.logs_of-logs.ensures c.betas_of-betas.ensures _ _ _ c.loop-k-test.true (via answer c.node.ensures c.in_default.is)))
+returns-in_err-d c = rw (handed_on _ c.from_residual.ensures, ← walk_stop _ _ 10 _ _ _ c.loop-k-test.true c.loop-k.invariant.1 (node_turn_is _ _ _ _ _ _ _ (told c.exponents_inside.ensures c.if-not-exponents_inside.false) c.exponents_of.ensures c.logs_of-logs.ensures c.betas_of-betas.ensures _ _ _ c.loop-k-test.true (via answer c.node.ensures c.in_err-d.was)))
 
 pub loop-k-preserved : goal.loop-k-preserved
-loop-k-preserved c = (search rules, walk_next _ _ _ _ _ c.loop-k.invariant.1 (node_turn_is _ _ _ _ _ _ _ (told c.exponents_inside.ensures c.if-not-exponents_inside.false) c.exponents_of.ensures c.logs_of-logs.ensures c.betas_of-betas.ensures _ _ _ c.loop-k-test.true (via answer c.node.ensures c.in-Value.is)))
+loop-k-preserved c = (search rules, walk_next _ _ _ _ _ c.loop-k.invariant.1 (node_turn_is _ _ _ _ _ _ _ (told c.exponents_inside.ensures c.if-not-exponents_inside.false) c.exponents_of.ensures c.logs_of-logs.ensures c.betas_of-betas.ensures _ _ _ c.loop-k-test.true (via answer c.node.ensures c.in_ok-d.was)))
 
 pub returns : goal.returns
 unfolding diameter_from ◌>>=◌

@@ -1,6 +1,6 @@
 -- `saftvrmie_diameter::logs_of` meets its contract. Assumes nothing.
 use Rattle.number.proofs.Walk.{turns_none, turns_next, turns_end}
-use Rattle.saftvrmie_diameter.specs.Staged.{inverse_at, logs_of}
+use Rattle.saftvrmie_diameter.specs.Staged.{logs_of}
 use borrow.Author.Rules.{rules}
 use Rattle.saftvrmie_diameter.proofs.logs_of.Goals as goal
 

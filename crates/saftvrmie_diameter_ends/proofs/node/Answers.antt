@@ -1,47 +1,20 @@
 -- `saftvrmie_diameter_ends::node` meets its contract. Assumes nothing.
+use Rattle.std.proofs.Common.{rules}
 use Rattle.saftvrmie_diameter.specs.Diameter.{node_turn}
-use Rattle.enclosure.specs.Answer.{answer}
+use Rattle.number.specs.Answer.{answer}
 use Rattle.number.proofs.Walk.{via}
 use Rattle.number.specs.Arith.{decimal}
 use lib.Ieee.{of_bits, neg}
 use Rattle.number.specs.Ans.{◌>>=◌}
 use Rattle.saftvrmie_diameter_ends.proofs.node.Goals as goal
 
-pub returns-in_default : goal.returns-in_default
+pub returns-in_err-u : goal.returns-in_err-u
 unfolding node_turn ◌>>=◌ decimal of_bits neg
-returns-in_default c =
-    rw (
-      ← c.point-one.ensures,
-      ← c.point-half.ensures,
-      ← c.neg.ensures,
-      ← c.add.ensures,
-      ← c.mul-width.ensures,
-      ← c.position-x.ensures,
-      ← c.weight-w.ensures,
-      ← c.mul.ensures,
-      ← c.add-2.ensures,
-      ← c.add-r.ensures,
-      via answer c.beta_u_mie.ensures c.in_default.is,
-    )
+returns-in_err-u c = search rules
 
-pub returns-in_default-exp_m1 : goal.returns-in_default-exp_m1
+pub returns-in_err-e : goal.returns-in_err-e
 unfolding node_turn ◌>>=◌ decimal of_bits neg
-returns-in_default-exp_m1 c =
-    rw (
-      ← c.point-one.ensures,
-      ← c.point-half.ensures,
-      ← c.neg.ensures,
-      ← c.add.ensures,
-      ← c.mul-width.ensures,
-      ← c.position-x.ensures,
-      ← c.weight-w.ensures,
-      ← c.mul.ensures,
-      ← c.add-2.ensures,
-      ← c.add-r.ensures,
-      via answer c.beta_u_mie.ensures c.in-Value.is,
-      ← c.neg-2.ensures,
-      via answer c.exp_m1.ensures c.in_default-exp_m1.is,
-    )
+returns-in_err-e c = search rules
 
 pub returns : goal.returns
 unfolding node_turn ◌>>=◌ decimal of_bits neg
@@ -57,9 +30,9 @@ returns c =
       ← c.mul.ensures,
       ← c.add-2.ensures,
       ← c.add-r.ensures,
-      via answer c.beta_u_mie.ensures c.in-Value.is,
+      via answer c.beta_u_mie.ensures c.in_ok-u.was,
       ← c.neg-2.ensures,
-      via answer c.exp_m1.ensures c.in-Value-exp_m1.is,
+      via answer c.exp_m1.ensures c.in_ok-e.was,
       ← c.neg-3.ensures,
       ← c.mul-2.ensures,
       ← c.mul-part.ensures,

@@ -1,20 +1,19 @@
 -- `saftvrmie_energies::disp_rows` meets its contract. Assumes nothing.
 use borrow.Author.Rules.{rules}
-use Rattle.number.proofs.Walk.{via, walk_none, walk_next, walk_stop, walk_end}
-use Rattle.number.specs.Lists.{at}
+use Rattle.number.proofs.Walk.{via, walk_none, walk_next, walk_stop, walk_end, handed_on}
 use Rattle.saftvrmie_dispersion.specs.Answer.{sums_answer}
-use Rattle.saftvrmie_energies.specs.Dispersion.{disp_row, disp_rows}
+use Rattle.saftvrmie_energies.specs.Dispersion.{disp_rows}
 use Rattle.saftvrmie_energies.proofs.disp_rows.Goals as goal
 
 pub loop-i-init : goal.loop-i-init
 loop-i-init c = (search rules, walk_none _ _)
 
-pub returns-in_default : goal.returns-in_default
+pub returns-in_err-s : goal.returns-in_err-s
 unfolding disp_rows
-returns-in_default c = walk_stop _ _ _ _ _ _ c.loop-i-test.true c.loop-i.invariant.1 (via sums_answer (rw c.pure_at-p.ensures at c.disp_row.ensures) c.in_default.is)
+returns-in_err-s c = rw (handed_on _ c.from_residual.ensures) (walk_stop _ _ _ _ _ _ c.loop-i-test.true c.loop-i.invariant.1 (via sums_answer (rw c.pure_at-p.ensures at c.disp_row.ensures) c.in_err-s.was))
 
 pub loop-i-preserved : goal.loop-i-preserved
-loop-i-preserved c = (search rules, walk_next _ _ _ _ _ c.loop-i.invariant.1 (via sums_answer (rw c.pure_at-p.ensures at c.disp_row.ensures) c.in-At.is))
+loop-i-preserved c = (search rules, walk_next _ _ _ _ _ c.loop-i.invariant.1 (via sums_answer (rw c.pure_at-p.ensures at c.disp_row.ensures) c.in_ok-s.was))
 
 pub returns : goal.returns
 unfolding disp_rows

@@ -1,6 +1,6 @@
 -- `saftvrmie_energies::dispersion_of` meets its contract. Assumes nothing.
 use Rattle.saftvrmie_energies.proofs.Laws.{right_high, right_x, right_rho, right_d, refuses_1, refuses_2, refuses_6, refuses_7, holds}
-use Rattle.number.proofs.Walk.{via, told}
+use Rattle.number.proofs.Walk.{via, told, handed_on}
 use Rattle.number.specs.Answer.{answer}
 use Rattle.saftvrmie_energies.proofs.dispersion_of.Goals as goal
 
@@ -16,11 +16,11 @@ returns-then-not-state_within c = refuses_2 _ _ _ _ _ _ (told c.right_lists.ensu
 pub work-requires : goal.work-requires
 work-requires c = (right_high _ _ _ _ (told c.right_lists.ensures c.if-not-right_lists.false), right_x _ _ _ _ (told c.right_lists.ensures c.if-not-right_lists.false), right_rho _ _ _ _ (told c.right_lists.ensures c.if-not-right_lists.false), right_d _ _ _ _ (told c.right_lists.ensures c.if-not-right_lists.false))
 
-pub returns-in_default : goal.returns-in_default
-returns-in_default c = refuses_6 _ _ _ _ _ _ (told c.right_lists.ensures c.if-not-right_lists.false) (told c.state_within.ensures c.if-not-state_within.false) (via answer c.work.ensures c.in_default.is)
+pub returns-in_err-v : goal.returns-in_err-v
+returns-in_err-v c = rw (handed_on _ c.from_residual.ensures) (refuses_6 _ _ _ _ _ _ (told c.right_lists.ensures c.if-not-right_lists.false) (told c.state_within.ensures c.if-not-state_within.false) _ (via answer c.work.ensures c.in_err-v.was))
 
 pub returns-then-not-is_finite : goal.returns-then-not-is_finite
-returns-then-not-is_finite c = refuses_7 _ _ _ _ _ _ (told c.right_lists.ensures c.if-not-right_lists.false) (told c.state_within.ensures c.if-not-state_within.false) _ (via answer c.work.ensures c.in-Value.is) (told c.is_finite.ensures c.if-not-is_finite.true)
+returns-then-not-is_finite c = refuses_7 _ _ _ _ _ _ (told c.right_lists.ensures c.if-not-right_lists.false) (told c.state_within.ensures c.if-not-state_within.false) _ (via answer c.work.ensures c.in_ok-v.was) (told c.is_finite.ensures c.if-not-is_finite.true)
 
 pub returns : goal.returns
-returns c = holds _ _ _ _ _ _ (told c.right_lists.ensures c.if-not-right_lists.false) (told c.state_within.ensures c.if-not-state_within.false) _ (via answer c.work.ensures c.in-Value.is) (told c.is_finite.ensures c.if-not-is_finite.false)
+returns c = holds _ _ _ _ _ _ (told c.right_lists.ensures c.if-not-right_lists.false) (told c.state_within.ensures c.if-not-state_within.false) _ (via answer c.work.ensures c.in_ok-v.was) (told c.is_finite.ensures c.if-not-is_finite.false)

@@ -1,27 +1,27 @@
 -- `saftvrmie_energies::helmholtz_energy_density_disp` meets its contract. Assumes nothing.
 use lib.Ieee.{of_bits}
 use Rattle.number.specs.Arith.{decimal}
-use Rattle.number.proofs.Walk.{via}
+use Rattle.number.proofs.Walk.{via, handed_on}
 use Rattle.saftvrmie_dispersion.specs.Answer.{sums_answer}
 use Rattle.saftvrmie_energies.proofs.Laws.{properties_held, properties_refused, k_some, k_none}
 use Rattle.saftvrmie_energies.specs.Dispersion.{dispersion}
 use Rattle.number.specs.Ans.{◌>>=◌}
 use Rattle.saftvrmie_energies.proofs.helmholtz_energy_density_disp.Goals as goal
 
-pub returns-then-not-k_inside : goal.returns-then-not-k_inside
+pub returns-in_err-k_inside : goal.returns-in_err-k_inside
 unfolding dispersion ◌>>=◌ decimal of_bits
-returns-then-not-k_inside c = rw (← c.weighted-mean.ensures, ← c.xs_of-xs.ensures, properties_refused _ _ _ _ _ _ _ c.properties_of-q.ensures (k_none _ _ c.k_inside.ensures c.if-not-k_inside.true))
+returns-in_err-k_inside c = rw (handed_on _ c.from_residual.ensures, ← c.weighted-mean.ensures, ← c.xs_of-xs.ensures, properties_refused _ _ _ _ _ _ _ c.properties_of-q.ensures _ (k_none _ _ c.k_inside.ensures _ c.in_err-k_inside.was))
 
 pub disp_rows-requires : goal.disp_rows-requires
 disp_rows-requires c = (c.requires.0, c.requires.3)
 
-pub returns-in_default : goal.returns-in_default
+pub returns-in_err-a : goal.returns-in_err-a
 unfolding dispersion ◌>>=◌ decimal of_bits
-returns-in_default c = let k = k_some _ _ c.k_inside.ensures c.if-not-k_inside.false in rw (← c.weighted-mean.ensures, ← c.xs_of-xs.ensures, properties_held _ _ _ _ _ _ _ c.properties_of-q.ensures k.0 k.1, ← c.k_hs-k_hs.ensures, ← c.fluid_of-w.ensures, ← c.bar_of-bar.ensures, via sums_answer c.disp_rows.ensures c.in_default.is)
+returns-in_err-a c = let k = k_some _ _ c.k_inside.ensures c.in_ok-k_inside.was in rw (handed_on _ c.from_residual-in_err-a.ensures, ← c.weighted-mean.ensures, ← c.xs_of-xs.ensures, properties_held _ _ _ _ _ _ _ c.properties_of-q.ensures k.0 k.1, ← c.k_hs-k_hs.ensures, ← c.fluid_of-w.ensures, ← c.bar_of-bar.ensures, via sums_answer c.disp_rows.ensures c.in_err-a.was)
 
 pub total-requires : goal.total-requires
 total-requires c = c.requires.2
 
 pub returns : goal.returns
 unfolding dispersion ◌>>=◌ decimal of_bits
-returns c = let k = k_some _ _ c.k_inside.ensures c.if-not-k_inside.false in rw (← c.weighted-mean.ensures, ← c.xs_of-xs.ensures, properties_held _ _ _ _ _ _ _ c.properties_of-q.ensures k.0 k.1, ← c.k_hs-k_hs.ensures, ← c.fluid_of-w.ensures, ← c.bar_of-bar.ensures, via sums_answer c.disp_rows.ensures c.in-At.is, c.total.ensures, c.orders_sum-orders.ensures)
+returns c = let k = k_some _ _ c.k_inside.ensures c.in_ok-k_inside.was in rw (← c.weighted-mean.ensures, ← c.xs_of-xs.ensures, properties_held _ _ _ _ _ _ _ c.properties_of-q.ensures k.0 k.1, ← c.k_hs-k_hs.ensures, ← c.fluid_of-w.ensures, ← c.bar_of-bar.ensures, via sums_answer c.disp_rows.ensures c.in_ok-a.was, c.total.ensures, c.orders_sum-orders.ensures)

@@ -3,7 +3,7 @@ use borrow.Author.Rules.{rules}
 use Rattle.number.proofs.Walk.{turns_none, turns_next, turns_end}
 use lib.Ieee.{of_bits}
 use Rattle.number.specs.Arith.{decimal}
-use Rattle.saftvrmie_energies.specs.Properties.{d3_ij, zeta_turn, zeta_row}
+use Rattle.saftvrmie_energies.specs.Properties.{zeta_turn, zeta_row}
 use Rattle.saftvrmie_energies.proofs.zeta_row.Goals as goal
 
 pub loop-k-init : goal.loop-k-init

@@ -1,14 +1,15 @@
 -- `saftvrmie_energies_ends::pair_turn` meets its contract. Assumes nothing.
+use Rattle.std.proofs.Common.{rules}
 use Rattle.number.specs.Ans.{◌>>=◌}
 use Rattle.number.proofs.Walk.{via}
 use Rattle.saftvrmie_dispersion_ends.specs.Answer.{terms_answer}
 use Rattle.saftvrmie_energies.specs.Dispersion.{pair_turn}
 use Rattle.saftvrmie_energies_ends.proofs.pair_turn.Goals as goal
 
-pub returns-in_default : goal.returns-in_default
+pub returns-in_err-t : goal.returns-in_err-t
 unfolding pair_turn ◌>>=◌
-returns-in_default c = rw (via terms_answer (rw (c.pair_at-p.ensures, c.d_ij-e.ensures) at c.pair_terms.ensures) c.in_default.is)
+returns-in_err-t c = search rules
 
 pub returns : goal.returns
 unfolding pair_turn ◌>>=◌
-returns c = rw (via terms_answer (rw (c.pair_at-p.ensures, c.d_ij-e.ensures) at c.pair_terms.ensures) c.in-At.is, c.add_pair.ensures, c.at_component-xi.ensures, c.at_component-xj.ensures)
+returns c = rw (via terms_answer (rw (c.pair_at-p.ensures, c.d_ij-e.ensures) at c.pair_terms.ensures) c.in_ok-t.was, c.add_pair.ensures, c.at_component-xi.ensures, c.at_component-xj.ensures)

@@ -1,4 +1,5 @@
 -- `saftvrmie_parameters::lr_ij` meets its contract. Assumes nothing.
+use Rattle.std.proofs.Common.{rules}
 use Rattle.saftvrmie_parameters.specs.Combine.{lr_ij}
 use lib.Ieee.{of_bits}
 use Rattle.number.specs.Arith.{decimal}
@@ -8,10 +9,10 @@ use Rattle.number.proofs.Walk.{via}
 use Rattle.number.specs.Ans.{◌>>=◌}
 use Rattle.saftvrmie_parameters.proofs.lr_ij.Goals as goal
 
-pub returns-in_default : goal.returns-in_default
+pub returns-in_err-r : goal.returns-in_err-r
 unfolding lr_ij answered ◌>>=◌ decimal of_bits
-returns-in_default c = rw (via answer c.sqrt.ensures c.in_default.is)
+returns-in_err-r c = search rules
 
 pub returns : goal.returns
 unfolding lr_ij answered ◌>>=◌ decimal of_bits
-returns c = rw (via answer c.sqrt.ensures c.in-Value.is)
+returns c = rw (via answer c.sqrt.ensures c.in_ok-r.was)

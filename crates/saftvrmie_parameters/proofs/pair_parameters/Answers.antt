@@ -1,26 +1,27 @@
 -- `saftvrmie_parameters::pair_parameters` meets its contract. Assumes nothing.
+use Rattle.std.proofs.Common.{rules}
 use Rattle.saftvrmie_parameters.specs.Parameters.{pair_parameters}
 use Rattle.number.specs.Answer.{answer}
 use Rattle.number.proofs.Walk.{via}
 use Rattle.number.specs.Ans.{◌>>=◌}
 use Rattle.saftvrmie_parameters.proofs.pair_parameters.Goals as goal
 
-pub returns-in_default : goal.returns-in_default
+pub returns-in_err-epsilon_k : goal.returns-in_err-epsilon_k
 unfolding pair_parameters ◌>>=◌
-returns-in_default c = rw (← c.sigma_ij-sigma.ensures, via answer c.epsilon_k_ij.ensures c.in_default.is)
+returns-in_err-epsilon_k c = search rules
 
-pub returns-in_default-lr_ij : goal.returns-in_default-lr_ij
+pub returns-in_err-lr : goal.returns-in_err-lr
 unfolding pair_parameters ◌>>=◌
-returns-in_default-lr_ij c = rw (← c.sigma_ij-sigma.ensures, via answer c.epsilon_k_ij.ensures c.in-Value.is, via answer c.lr_ij.ensures c.in_default-lr_ij.is)
+returns-in_err-lr c = search rules
 
-pub returns-in_default-lambda_ij : goal.returns-in_default-lambda_ij
+pub returns-in_err-la : goal.returns-in_err-la
 unfolding pair_parameters ◌>>=◌
-returns-in_default-lambda_ij c = rw (← c.sigma_ij-sigma.ensures, via answer c.epsilon_k_ij.ensures c.in-Value.is, via answer c.lr_ij.ensures c.in-Value-lr_ij.is, via answer c.lambda_ij.ensures c.in_default-lambda_ij.is)
+returns-in_err-la c = search rules
 
-pub returns-in_default-c_ij : goal.returns-in_default-c_ij
+pub returns-in_err-c : goal.returns-in_err-c
 unfolding pair_parameters ◌>>=◌
-returns-in_default-c_ij c = rw (← c.sigma_ij-sigma.ensures, via answer c.epsilon_k_ij.ensures c.in-Value.is, via answer c.lr_ij.ensures c.in-Value-lr_ij.is, via answer c.lambda_ij.ensures c.in-Value-lambda_ij.is, via answer c.c_ij.ensures c.in_default-c_ij.is)
+returns-in_err-c c = search rules
 
 pub returns : goal.returns
 unfolding pair_parameters ◌>>=◌
-returns c = rw (c.alpha_ij-alpha.ensures, ← c.sigma_ij-sigma.ensures, via answer c.epsilon_k_ij.ensures c.in-Value.is, via answer c.lr_ij.ensures c.in-Value-lr_ij.is, via answer c.lambda_ij.ensures c.in-Value-lambda_ij.is, via answer c.c_ij.ensures c.in-Value-c_ij.is)
+returns c = rw (c.alpha_ij-alpha.ensures, ← c.sigma_ij-sigma.ensures, via answer c.epsilon_k_ij.ensures c.in_ok-epsilon_k.was, via answer c.lr_ij.ensures c.in_ok-lr.was, via answer c.lambda_ij.ensures c.in_ok-la.was, via answer c.c_ij.ensures c.in_ok-c.was)

@@ -1,7 +1,7 @@
 -- `saftvrmie_parameters::sheets_row` meets its contract. Assumes nothing.
 use Rattle.saftvrmie_parameters.specs.Parameters.{sheets_row}
 use Rattle.saftvrmie_parameters.proofs.Laws.{pair_held, pair_outside}
-use Rattle.number.proofs.Walk.{walk_none, walk_next, walk_stop, walk_end}
+use Rattle.number.proofs.Walk.{walk_none, walk_next, walk_stop, walk_end, handed_on}
 use native.Mathlib.Omega.{arith}
 use Rattle.sizes.specs.Sizes.{side}
 use Rattle.limits.proofs.Square.{cell_small, cell_below}
@@ -35,9 +35,9 @@ offset_bounds-gamma_ij-n c = omega (arith, cell_small side c.args.n c.args.i c.l
 pub bounds-gamma_ij-n : goal.bounds-gamma_ij-n
 bounds-gamma_ij-n c = omega (arith, cell_below c.args.n c.args.i c.loop-j.j c.requires.1 c.loop-j-test.true)
 
-pub returns-in_default : goal.returns-in_default
+pub returns-in_err-p : goal.returns-in_err-p
 unfolding sheets_row
-returns-in_default c = walk_stop _ _ _ _ _ _ c.loop-j-test.true c.loop-j.invariant.1 (pair_outside _ _ _ _ _ _ _ _ _ _ c.component_at-a.ensures c.component_at-b.ensures c.pair_parameters.ensures c.in_default.is)
+returns-in_err-p c = rw (handed_on _ c.from_residual.ensures, ← walk_stop _ _ _ _ _ _ c.loop-j-test.true c.loop-j.invariant.1 (pair_outside _ _ _ _ _ _ _ _ _ _ _ c.component_at-a.ensures c.component_at-b.ensures c.pair_parameters.ensures c.in_err-p.was))
 
 pub overflow_mul-i : goal.overflow_mul-i
 overflow_mul-i c = omega (arith, c.requires.0, c.requires.1, c.loop-j-test.true)
@@ -52,7 +52,7 @@ pub overflow_step-j : goal.overflow_step-j
 overflow_step-j c = omega (arith, c.requires.0, c.requires.1, c.loop-j-test.true)
 
 pub loop-j-preserved : goal.loop-j-preserved
-loop-j-preserved c = (search rules, walk_next _ _ _ _ _ c.loop-j.invariant.1 (pair_held _ _ _ _ _ _ _ _ _ _ _ _ c.component_at-a.ensures c.component_at-b.ensures c.pair_parameters.ensures c.in-At.is c.store_pair.ensures))
+loop-j-preserved c = (search rules, walk_next _ _ _ _ _ c.loop-j.invariant.1 (pair_held _ _ _ _ _ _ _ _ _ _ _ _ c.component_at-a.ensures c.component_at-b.ensures c.pair_parameters.ensures c.in_ok-p.was c.store_pair.ensures))
 
 pub returns : goal.returns
 unfolding sheets_row

@@ -1,20 +1,14 @@
 -- `saftvrmie_properties_ends::k_values` meets its contract. Assumes nothing.
+use Rattle.std.proofs.Common.{rules}
 use Rattle.saftvrmie_dispersion.specs.Chain.{k_of}
-use Rattle.enclosure.specs.Answer.{answer}
+use Rattle.number.specs.Answer.{answer}
 use Rattle.number.proofs.Walk.{via}
 use Rattle.number.specs.Ans.{◌>>=◌}
 use Rattle.saftvrmie_properties_ends.proofs.k_values.Goals as goal
 
-pub returns-in_default : goal.returns-in_default
+pub returns-in_err-l : goal.returns-in_err-l
 unfolding k_of ◌>>=◌
-returns-in_default c =
-    rw (
-      ← c.one_less-factor.ensures,
-      ← c.inverse_cube-frac.ensures,
-      ← c.mul-z2.ensures,
-      ← c.mul-z3.ensures,
-      via answer c.ln.ensures c.in_default.is,
-    )
+returns-in_err-l c = search rules
 
 pub returns : goal.returns
 unfolding k_of ◌>>=◌
@@ -24,7 +18,7 @@ returns c =
       ← c.inverse_cube-frac.ensures,
       ← c.mul-z2.ensures,
       ← c.mul-z3.ensures,
-      via answer c.ln.ensures c.in-Value.is,
+      via answer c.ln.ensures c.in_ok-l.was,
       ← c.k0_sum-sum.ensures,
       ← c.k0-a0.ensures,
       ← c.k1-a1.ensures,

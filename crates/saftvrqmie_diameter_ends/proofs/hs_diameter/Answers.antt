@@ -1,4 +1,5 @@
 -- `saftvrqmie_diameter_ends::hs_diameter` meets its contract. Assumes nothing.
+use Rattle.number.proofs.Walk.{handed_on}
 use mathlib.Core.Path.{ap, ◌∙◌, subst}
 use Rattle.enclosure.specs.Enclosure.{enclosures}
 use Rattle.number.specs.Functions.{calls}
@@ -11,9 +12,9 @@ use Rattle.saftvrqmie_diameter_ends.proofs.Nodes.{diameter_none}
 use Rattle.saftvrqmie_potential_ends.specs.declared.PairEnclosures.{PairEnclosures}
 use Rattle.saftvrqmie_diameter_ends.proofs.hs_diameter.Goals as goal
 
-pub returns-in_default : goal.returns-in_default
-returns-in_default c = diameter_none _ _ _ (subst (Shares c.args.p) c.in_default.is c.share.ensures)
+pub returns-in_err-w : goal.returns-in_err-w
+returns-in_err-w c = rw (handed_on _ c.from_residual.ensures) (diameter_none _ _ _ _ (subst (Shares c.args.p) c.in_err-w.was c.share.ensures))
 
 pub returns : goal.returns
 unfolding diameter
-returns c = let h = subst (Shares c.args.p) c.in-At.is c.share.ensures in c.diameter_by.ensures h.1 ∙ ap (λ (q : PairEnclosures). diameter_by enclosures (calls enclosures port) (potential enclosures (calls enclosures port) (pair_in q)) c.args.p.temperature c.args.sigma_eff c.args.r0) h.0
+returns c = let h = subst (Shares c.args.p) c.in_ok-w.was c.share.ensures in c.diameter_by.ensures h.1 ∙ ap (λ (q : PairEnclosures). diameter_by enclosures (calls enclosures port) (potential enclosures (calls enclosures port) (pair_in q)) c.args.p.temperature c.args.sigma_eff c.args.r0) h.0

@@ -3,7 +3,7 @@ use lib.Ieee.{of_bits}
 use Rattle.number.specs.Arith.{decimal}
 use Rattle.number.specs.Ans.{◌>>=◌}
 use Rattle.number.specs.Answer.{answer}
-use Rattle.number.proofs.Walk.{told, via}
+use Rattle.number.proofs.Walk.{told, via, handed_on}
 use Rattle.saftvrqmie_dispersion.specs.Alpha.{alpha, ratio}
 use Rattle.saftvrqmie_dispersion_terms.proofs.Staged.{powf_outside, powf_inside}
 use Rattle.saftvrqmie_dispersion.proofs.alpha_ij.Goals as goal
@@ -12,14 +12,14 @@ pub returns-then-not-base_inside : goal.returns-then-not-base_inside
 unfolding alpha ratio ◌>>=◌ decimal of_bits
 returns-then-not-base_inside c = rw (powf_outside _ c.args.p.la (told c.base_inside.ensures c.if-not-base_inside.true))
 
-pub returns-in_default : goal.returns-in_default
+pub returns-in_err-ra : goal.returns-in_err-ra
 unfolding alpha ratio ◌>>=◌ decimal of_bits
-returns-in_default c = rw (powf_inside _ c.args.p.la (told c.base_inside.ensures c.if-not-base_inside.false), ← c.log_base-l.ensures, via answer c.powf_at.ensures c.in_default.is)
+returns-in_err-ra c = rw (handed_on _ c.from_residual.ensures, powf_inside _ c.args.p.la (told c.base_inside.ensures c.if-not-base_inside.false), ← c.log_base-l.ensures, via answer c.powf_at.ensures c.in_err-ra.was)
 
-pub returns-in_default-powf_at : goal.returns-in_default-powf_at
+pub returns-in_err-rr : goal.returns-in_err-rr
 unfolding alpha ratio ◌>>=◌ decimal of_bits
-returns-in_default-powf_at c = rw (powf_inside _ c.args.p.la (told c.base_inside.ensures c.if-not-base_inside.false), ← c.log_base-l.ensures, via answer c.powf_at.ensures c.in-Value.is, powf_inside _ c.args.p.lr (told c.base_inside.ensures c.if-not-base_inside.false), ← c.log_base-l.ensures, via answer c.powf_at-2.ensures c.in_default-powf_at.is)
+returns-in_err-rr c = rw (handed_on _ c.from_residual-in_err-rr.ensures, powf_inside _ c.args.p.la (told c.base_inside.ensures c.if-not-base_inside.false), ← c.log_base-l.ensures, via answer c.powf_at.ensures c.in_ok-ra.was, powf_inside _ c.args.p.lr (told c.base_inside.ensures c.if-not-base_inside.false), ← c.log_base-l.ensures, via answer c.powf_at-2.ensures c.in_err-rr.was)
 
 pub returns : goal.returns
 unfolding alpha ratio ◌>>=◌ decimal of_bits
-returns c = rw (powf_inside _ c.args.p.la (told c.base_inside.ensures c.if-not-base_inside.false), ← c.log_base-l.ensures, via answer c.powf_at.ensures c.in-Value.is, powf_inside _ c.args.p.lr (told c.base_inside.ensures c.if-not-base_inside.false), ← c.log_base-l.ensures, via answer c.powf_at-2.ensures c.in-Value-powf_at.is, c.alpha_of-v.ensures, c.dmt_of.ensures)
+returns c = rw (powf_inside _ c.args.p.la (told c.base_inside.ensures c.if-not-base_inside.false), ← c.log_base-l.ensures, via answer c.powf_at.ensures c.in_ok-ra.was, powf_inside _ c.args.p.lr (told c.base_inside.ensures c.if-not-base_inside.false), ← c.log_base-l.ensures, via answer c.powf_at-2.ensures c.in_ok-rr.was, c.alpha_of-v.ensures, c.dmt_of.ensures)

@@ -1,4 +1,5 @@
 -- `saftvrqmie_dispersion::first_q2` meets its contract. Assumes nothing.
+use Rattle.std.proofs.Common.{rules}
 use lib.Ieee.{of_bits, neg}
 use Rattle.number.specs.Arith.{decimal}
 use Rattle.number.specs.Ans.{◌>>=◌}
@@ -7,14 +8,14 @@ use Rattle.number.proofs.Walk.{via}
 use Rattle.saftvrqmie_dispersion.specs.Perturbation.{first_q2}
 use Rattle.saftvrqmie_dispersion.proofs.first_q2.Goals as goal
 
-pub returns-in_default : goal.returns-in_default
+pub returns-in_err-int_qa : goal.returns-in_err-int_qa
 unfolding first_q2 ◌>>=◌ decimal of_bits neg
-returns-in_default c = rw (via answer c.combine_at.ensures c.in_default.is)
+returns-in_err-int_qa c = search rules
 
-pub returns-in_default-combine_at : goal.returns-in_default-combine_at
+pub returns-in_err-int_qr : goal.returns-in_err-int_qr
 unfolding first_q2 ◌>>=◌ decimal of_bits neg
-returns-in_default-combine_at c = rw (via answer c.combine_at.ensures c.in-Value.is, via answer c.combine_at-2.ensures c.in_default-combine_at.is)
+returns-in_err-int_qr c = search rules
 
 pub returns : goal.returns
 unfolding first_q2 ◌>>=◌ decimal of_bits neg
-returns c = rw (c.quantum_2-qa.ensures, c.quantum_2-qr.ensures, via answer c.combine_at.ensures c.in-Value.is, via answer c.combine_at-2.ensures c.in-Value-combine_at.is)
+returns c = rw (c.quantum_2-qa.ensures, c.quantum_2-qr.ensures, via answer c.combine_at.ensures c.in_ok-int_qa.was, via answer c.combine_at-2.ensures c.in_ok-int_qr.was)

@@ -1,5 +1,5 @@
 -- `saftvrqmie_dispersion::third_order_perturbation_ij` meets its contract. Assumes nothing.
-use Rattle.number.proofs.Walk.{via}
+use Rattle.number.proofs.Walk.{via, handed_on}
 use Rattle.number.specs.Functions.{answered}
 use lib.Ieee.{of_bits}
 use Rattle.number.specs.Arith.{decimal}
@@ -9,13 +9,14 @@ use Rattle.number.specs.Answer.{answer}
 use Rattle.saftvrqmie_dispersion.specs.Alpha.{third_order_ij}
 use Rattle.saftvrqmie_dispersion.proofs.third_order_perturbation_ij.Goals as goal
 
-pub returns-in_default : goal.returns-in_default
+pub returns-in_err-e : goal.returns-in_err-e
 unfolding third_order_ij pow_up pow_digits digits ◌>>=◌ answered decimal of_bits
-returns-in_default c = rw (
+returns-in_err-e c = rw (
+  handed_on _ c.from_residual.ensures,
   ← c.f-f3.ensures,
   ← c.f-f4.ensures,
   ← c.f-f5.ensures,
-  via answer c.exp.ensures c.in_default.is,
+  via answer c.exp.ensures c.in_err-e.was,
 )
 
 pub returns : goal.returns
@@ -24,5 +25,5 @@ returns c = rw (
   ← c.f-f3.ensures,
   ← c.f-f4.ensures,
   ← c.f-f5.ensures,
-  via answer c.exp.ensures c.in-Value.is,
+  via answer c.exp.ensures c.in_ok-e.was,
 )

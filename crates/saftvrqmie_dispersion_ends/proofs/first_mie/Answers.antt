@@ -2,19 +2,19 @@
 use lib.Ieee.{of_bits, neg}
 use Rattle.number.specs.Arith.{decimal}
 use Rattle.number.specs.Ans.{◌>>=◌}
-use Rattle.number.proofs.Walk.{via}
-use Rattle.enclosure.specs.Answer.{answer}
+use Rattle.number.proofs.Walk.{via, handed_on}
+use Rattle.number.specs.Answer.{answer}
 use Rattle.saftvrqmie_dispersion.specs.Perturbation.{first_mie}
 use Rattle.saftvrqmie_dispersion_ends.proofs.first_mie.Goals as goal
 
-pub returns-in_default : goal.returns-in_default
+pub returns-in_err-int_a : goal.returns-in_err-int_a
 unfolding first_mie ◌>>=◌ decimal of_bits neg
-returns-in_default c = rw (via answer c.combine_at.ensures c.in_default.is)
+returns-in_err-int_a c = rw (handed_on _ c.from_residual.ensures, via answer c.combine_at.ensures c.in_err-int_a.was)
 
-pub returns-in_default-combine_at : goal.returns-in_default-combine_at
+pub returns-in_err-int_r : goal.returns-in_err-int_r
 unfolding first_mie ◌>>=◌ decimal of_bits neg
-returns-in_default-combine_at c = rw (via answer c.combine_at.ensures c.in-Value.is, via answer c.combine_at-2.ensures c.in_default-combine_at.is)
+returns-in_err-int_r c = rw (handed_on _ c.from_residual-in_err-int_r.ensures, via answer c.combine_at.ensures c.in_ok-int_a.was, via answer c.combine_at-2.ensures c.in_err-int_r.was)
 
 pub returns : goal.returns
 unfolding first_mie ◌>>=◌ decimal of_bits neg
-returns c = rw (via answer c.combine_at.ensures c.in-Value.is, via answer c.combine_at-2.ensures c.in-Value-combine_at.is, ← c.sub.ensures)
+returns c = rw (via answer c.combine_at.ensures c.in_ok-int_a.was, via answer c.combine_at-2.ensures c.in_ok-int_r.was, ← c.sub.ensures)

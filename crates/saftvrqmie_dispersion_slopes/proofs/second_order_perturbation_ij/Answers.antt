@@ -1,14 +1,16 @@
 -- `saftvrqmie_dispersion_slopes::second_order_perturbation_ij` meets its contract. Assumes nothing.
-use Rattle.number.proofs.Walk.{via}
+use Rattle.number.proofs.Walk.{via, handed_on}
+use Rattle.number.specs.Answer.{answer}
 use Rattle.number.specs.Ans.{◌>>=◌}
-use mathlib.Core.Path.{◌∙◌, sym}
-use Rattle.saftvrqmie_dispersion_terms_slopes.specs.Staged.{sloped_answer, pair_slopes_answer}
+use mathlib.Core.Path.{refl, ◌∙◌, sym}
+use Rattle.saftvrqmie_dispersion_terms_slopes.specs.Staged.{sloped_answer}
+use Rattle.slopes.specs.Mixed.{neg_m}
 use Rattle.saftvrqmie_dispersion_slopes.proofs.Laws.{second_held, second_refused}
 use Rattle.saftvrqmie_dispersion_slopes.proofs.second_order_perturbation_ij.Goals as goal
 
-pub returns-in_default : goal.returns-in_default
+pub returns-in_err-w : goal.returns-in_err-w
 unfolding sloped_answer ◌>>=◌
-returns-in_default c = sym (second_refused c.args.p _ (via pair_slopes_answer c.terms_of.ensures c.in_default.is))
+returns-in_err-w c = rw (handed_on _ c.from_residual.ensures) (sym (second_refused neg_m (λ z. refl) c.args.p _ (via answer c.terms_of.ensures.at_mixed c.in_err-w.was)))
 
 pub returns : goal.returns
-returns c = c.second_order_at.ensures ∙ sym (second_held c.args.p _ (via pair_slopes_answer c.terms_of.ensures c.in-At.is))
+returns c = c.second_order_at.ensures.at_mixed c.factors_0.ensures ∙ sym (second_held neg_m (λ z. refl) c.args.p _ (via answer c.terms_of.ensures.at_mixed c.in_ok-w.was))

@@ -1,12 +1,11 @@
 -- `saftvrqmie_dispersion_sums_slopes::first` meets its contract. Assumes nothing.
 use Rattle.dual.specs.Value.{dual_of}
 use mathlib.Core.Path.{◌∙◌}
-use Rattle.number.proofs.Walk.{walk_none, walk_next, walk_stop, walk_end}
+use Rattle.number.proofs.Walk.{walk_none, walk_next, walk_stop, walk_end, handed_on}
 use Rattle.number.specs.Ans.{◌>>=◌}
-use Rattle.saftvrqmie_dispersion_terms_slopes_one.specs.Staged.{sloped_answer}
+use Rattle.saftvrqmie_dispersion_terms_slopes.specs.Staged.{sloped_answer}
 use Rattle.number.specs.Arith.{decimal}
 use lib.Ieee.{of_bits}
-use Rattle.saftvrqmie_energies.specs.Dispersion.{first_row}
 use Rattle.saftvrqmie_dispersion_sums_slopes.proofs.Laws.{first_begun}
 use Rattle.number.proofs.Walk.{via}
 use borrow.Author.Rules.{rules}
@@ -15,13 +14,13 @@ use Rattle.saftvrqmie_dispersion_sums_slopes.proofs.first.Goals as goal
 pub loop-i-init : goal.loop-i-init
 loop-i-init c = (search rules, walk_none _ _)
 
-pub returns-in_default : goal.returns-in_default
+pub returns-in_err-next : goal.returns-in_err-next
 unfolding sloped_answer ◌>>=◌ decimal of_bits
-returns-in_default c = walk_stop _ _ _ _ _ _ c.loop-i-test.true c.loop-i.invariant.1 (via sloped_answer c.first_row.ensures c.in_default.is) ∙ first_begun _ c.plain-a1.ensures c.args.n c.requires.0 c.args.xs c.args.table.now c.args.table_slopes.now c.args.sheets.now c.args.orders (dual_of c.args.t) c.args.w
+returns-in_err-next c = rw (handed_on _ c.from_residual.ensures) (walk_stop _ _ _ _ _ _ c.loop-i-test.true c.loop-i.invariant.1 (via sloped_answer c.first_row.ensures c.in_err-next.was) ∙ first_begun _ c.plain-a1.ensures c.args.n c.requires.0 c.args.xs c.args.table.now c.args.table_slopes.now c.args.sheets.now c.args.orders (dual_of c.args.t) c.args.w)
 
 pub loop-i-preserved : goal.loop-i-preserved
 unfolding sloped_answer ◌>>=◌
-loop-i-preserved c = (search rules, walk_next _ _ _ _ _ c.loop-i.invariant.1 (via sloped_answer c.first_row.ensures c.in-Value.is))
+loop-i-preserved c = (search rules, walk_next _ _ _ _ _ c.loop-i.invariant.1 (via sloped_answer c.first_row.ensures c.in_ok-next.was))
 
 pub returns : goal.returns
 unfolding sloped_answer ◌>>=◌ decimal of_bits

@@ -5,4 +5,4 @@ use Rattle.saftvrqmie_dispersion_sums_slopes.proofs.inv_x_s_sum.Goals as goal
 
 pub returns : goal.returns
 unfolding inv_xs_sum
-returns c = inv_is _ _ _ c.segment_density-sum.ensures c.recip.ensures
+returns c = inv_is _ _ _ c.segment_density-sum.ensures.at_one c.recip.ensures

@@ -4,4 +4,4 @@ use Rattle.saftvrqmie_dispersion_sums_slopes.proofs.mixture.Goals as goal
 
 pub returns : goal.returns
 unfolding mixture
-returns c = rw (c.packing-zeta_bar.ensures, c.packing-zeta.ensures, c.segment_density-rho_s.ensures)
+returns c = rw (c.packing-zeta_bar.ensures, c.packing-zeta.ensures, c.segment_density-rho_s.ensures.at_one)

@@ -1,4 +1,5 @@
 -- `saftvrqmie_dispersion_terms_slopes::ilambda_of` meets its contract. Assumes nothing.
+use mathlib.Core.Path.{refl}
 use lib.Ieee.{of_bits, neg}
 use Rattle.number.specs.Arith.{decimal}
 use Rattle.saftvrqmie_dispersion_terms.specs.Terms.{ilambda_of}
@@ -6,4 +7,4 @@ use Rattle.saftvrqmie_dispersion_terms_slopes.proofs.ilambda_of.Goals as goal
 
 pub returns : goal.returns
 unfolding ilambda_of decimal of_bits neg
-returns c = rw (c.over.ensures, c.neg.ensures, c.minus.ensures)
+returns c = rw (c.over.ensures, c.neg.ensures, c.minus.ensures) (record { at_mixed = refl; at_one = refl })

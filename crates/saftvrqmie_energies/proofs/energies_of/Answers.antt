@@ -1,8 +1,7 @@
 -- `saftvrqmie_energies::energies_of` meets its contract. Assumes nothing.
 use Rattle.saftvrqmie_energies.proofs.Ways.{right, refuses_1, refuses_2, no_hard_sphere, no_dispersion, refuses_7, holds}
 use Rattle.number.specs.Answer.{answer}
-use Rattle.number.proofs.Walk.{told}
-use Rattle.number.proofs.Walk.{via}
+use Rattle.number.proofs.Walk.{told, via, handed_on}
 use Rattle.saftvrqmie_energies.proofs.energies_of.Goals as goal
 
 pub returns-then-not-right_lengths : goal.returns-then-not-right_lengths
@@ -17,20 +16,20 @@ returns-then-not-state_within c = refuses_2 _ _ _ _ _ _ (told c.right_lengths.en
 pub hard_sphere-requires : goal.hard_sphere-requires
 hard_sphere-requires c = let h = right _ _ _ _ (told c.right_lengths.ensures c.if-not-right_lengths.false) in (h.high, h.fractions, h.densities, h.places)
 
-pub returns-in_default : goal.returns-in_default
-returns-in_default c = no_hard_sphere _ _ _ _ _ _ (told c.right_lengths.ensures c.if-not-right_lengths.false) (told c.state_within.ensures c.if-not-state_within.false) _ (via answer c.hard_sphere.ensures c.in_default.is)
+pub returns-in_err-h : goal.returns-in_err-h
+returns-in_err-h c = rw (handed_on _ c.from_residual.ensures) (no_hard_sphere _ _ _ _ _ _ (told c.right_lengths.ensures c.if-not-right_lengths.false) (told c.state_within.ensures c.if-not-state_within.false) _ (via answer c.hard_sphere.ensures c.in_err-h.was))
 
 pub dispersion-requires : goal.dispersion-requires
 dispersion-requires c = let h = right _ _ _ _ (told c.right_lengths.ensures c.if-not-right_lengths.false) in (h.high, h.places, h.fractions, h.densities)
 
-pub returns-in_default-dispersion : goal.returns-in_default-dispersion
-returns-in_default-dispersion c = no_dispersion _ _ _ _ _ _ (told c.right_lengths.ensures c.if-not-right_lengths.false) (told c.state_within.ensures c.if-not-state_within.false) _ (via answer c.hard_sphere.ensures c.in-Value.is) _ (via answer c.dispersion.ensures c.in_default-dispersion.is)
+pub returns-in_err-d : goal.returns-in_err-d
+returns-in_err-d c = rw (handed_on _ c.from_residual-in_err-d.ensures) (no_dispersion _ _ _ _ _ _ (told c.right_lengths.ensures c.if-not-right_lengths.false) (told c.state_within.ensures c.if-not-state_within.false) _ (via answer c.hard_sphere.ensures c.in_ok-h.was) _ (via answer c.dispersion.ensures c.in_err-d.was))
 
 pub wanted_part-a-requires : goal.wanted_part-a-requires
 wanted_part-a-requires c = let h = right _ _ _ _ (told c.right_lengths.ensures c.if-not-right_lengths.false) in (h.high, h.places, h.densities)
 
 pub returns-then-not-all_finite : goal.returns-then-not-all_finite
-returns-then-not-all_finite c = refuses_7 _ _ _ _ _ _ (told c.right_lengths.ensures c.if-not-right_lengths.false) (told c.state_within.ensures c.if-not-state_within.false) _ (via answer c.hard_sphere.ensures c.in-Value.is) _ (via answer c.dispersion.ensures c.in-Value-dispersion.is) _ c.wanted_part-a.ensures (told c.all_finite.ensures c.if-not-all_finite.true)
+returns-then-not-all_finite c = refuses_7 _ _ _ _ _ _ (told c.right_lengths.ensures c.if-not-right_lengths.false) (told c.state_within.ensures c.if-not-state_within.false) _ (via answer c.hard_sphere.ensures c.in_ok-h.was) _ (via answer c.dispersion.ensures c.in_ok-d.was) _ c.wanted_part-a.ensures (told c.all_finite.ensures c.if-not-all_finite.true)
 
 pub returns : goal.returns
-returns c = holds _ _ _ _ _ _ (told c.right_lengths.ensures c.if-not-right_lengths.false) (told c.state_within.ensures c.if-not-state_within.false) _ (via answer c.hard_sphere.ensures c.in-Value.is) _ (via answer c.dispersion.ensures c.in-Value-dispersion.is) _ c.wanted_part-a.ensures (told c.all_finite.ensures c.if-not-all_finite.false)
+returns c = holds _ _ _ _ _ _ (told c.right_lengths.ensures c.if-not-right_lengths.false) (told c.state_within.ensures c.if-not-state_within.false) _ (via answer c.hard_sphere.ensures c.in_ok-h.was) _ (via answer c.dispersion.ensures c.in_ok-d.was) _ c.wanted_part-a.ensures (told c.all_finite.ensures c.if-not-all_finite.false)

@@ -1,4 +1,5 @@
 -- `saftvrqmie_hard_sphere_slopes::frac_1mz3` meets its contract. Assumes nothing.
+use mathlib.Core.Path.{refl}
 use Rattle.saftvrqmie_energies.specs.HardSphere.{frac1mz3}
 use Rattle.number.specs.Arith.{decimal}
 use lib.Ieee.{of_bits}
@@ -12,3 +13,4 @@ returns c =
       c.recip.ensures,
       c.minus.ensures,
     )
+    (record { at_mixed = refl; at_one = refl })

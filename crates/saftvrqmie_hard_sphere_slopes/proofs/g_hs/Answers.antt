@@ -1,4 +1,5 @@
 -- `saftvrqmie_hard_sphere_slopes::g_hs` meets its contract. Assumes nothing.
+use mathlib.Core.Path.{refl}
 use Rattle.saftvrqmie_energies.specs.NonAdditive.{g_hs}
 use Rattle.number.specs.Arith.{decimal}
 use lib.Ieee.{of_bits}
@@ -22,3 +23,4 @@ returns c =
       c.add.ensures,
       c.mul.ensures,
     )
+    (record { at_mixed = refl; at_one = refl })

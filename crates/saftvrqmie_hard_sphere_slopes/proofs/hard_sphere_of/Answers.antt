@@ -1,4 +1,5 @@
 -- `saftvrqmie_hard_sphere_slopes::hard_sphere_of` meets its contract. Assumes nothing.
+use mathlib.Core.Path.{refl}
 use Rattle.saftvrqmie_energies.specs.HardSphere.{hard_sphere_of}
 use Rattle.number.specs.Arith.{decimal}
 use lib.Ieee.{of_bits}
@@ -8,7 +9,8 @@ pub returns : goal.returns
 unfolding hard_sphere_of decimal of_bits
 returns c =
     rw (
-      ← c.frac_1mz3-f.ensures,
+      ← c.frac_1mz3-f.ensures.at_mixed,
+      ← c.frac_1mz3-f.ensures.at_one,
       c.over.ensures,
       c.times.ensures,
       c.add-sum.ensures,
@@ -25,3 +27,4 @@ returns c =
       c.mul-2.ensures,
       c.mul.ensures,
     )
+    (record { at_mixed = refl; at_one = refl })

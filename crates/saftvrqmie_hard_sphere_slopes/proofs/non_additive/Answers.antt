@@ -1,8 +1,14 @@
 -- `saftvrqmie_hard_sphere_slopes::non_additive` meets its contract. Assumes nothing.
-use mathlib.Core.Path.{ap}
-use Rattle.slopes.specs.Mixed.{sloped}
+use mathlib.Core.Path.{refl, ap}
+use Rattle.slopes.specs.Mixed.{sloped, mixed, mixed_one}
+use Rattle.slopes.specs.Rules.{mixed_functions}
+use Rattle.elementary.specs.Port.{port}
 use Rattle.saftvrqmie_hard_sphere_slopes.proofs.Laws.{non_additive_is}
 use Rattle.saftvrqmie_hard_sphere_slopes.proofs.non_additive.Goals as goal
 
 pub returns : goal.returns
-returns c = non_additive_is _ _ _ _ _ _ _ _ _ _ c.zeta-z.ensures c.segment_density-rho_s.ensures c.density_shares-xs.ensures c.frac_1mz3-f.ensures c.non_additive_sum-sum.ensures (ap sloped c.mul.ensures)
+returns c =
+    record {
+      at_mixed = non_additive_is mixed (mixed_functions port) (λ u x. refl) _ _ _ _ _ _ _ _ _ _ c.zeta-z.ensures.at_mixed c.segment_density-rho_s.ensures.at_mixed c.density_shares-xs.ensures.at_mixed c.frac_1mz3-f.ensures.at_mixed c.non_additive_sum-sum.ensures.at_mixed (ap sloped c.mul.ensures);
+      at_one = non_additive_is mixed_one (mixed_functions port) (λ u x. refl) _ _ _ _ _ _ _ _ _ _ c.zeta-z.ensures.at_one c.segment_density-rho_s.ensures.at_one c.density_shares-xs.ensures.at_one c.frac_1mz3-f.ensures.at_one c.non_additive_sum-sum.ensures.at_one (ap sloped c.mul.ensures);
+    }

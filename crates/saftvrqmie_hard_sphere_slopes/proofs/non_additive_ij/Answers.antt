@@ -1,4 +1,5 @@
 -- `saftvrqmie_hard_sphere_slopes::non_additive_ij` meets its contract. Assumes nothing.
+use mathlib.Core.Path.{refl}
 use Rattle.saftvrqmie_energies.specs.NonAdditive.{non_additive_ij}
 use Rattle.number.specs.Arith.{decimal}
 use lib.Ieee.{of_bits}
@@ -8,7 +9,8 @@ pub returns : goal.returns
 unfolding non_additive_ij decimal of_bits
 returns c =
     rw (
-      ← c.g_hs-g.ensures,
+      ← c.g_hs-g.ensures.at_mixed,
+      ← c.g_hs-g.ensures.at_one,
       c.times-2.ensures,
       c.times.ensures,
       c.mul-3.ensures,
@@ -22,3 +24,4 @@ returns c =
       c.times-a.ensures,
       c.add.ensures,
     )
+    (record { at_mixed = refl; at_one = refl })

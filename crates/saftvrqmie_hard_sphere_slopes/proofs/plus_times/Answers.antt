@@ -1,4 +1,5 @@
 -- `saftvrqmie_hard_sphere_slopes::plus_times` meets its contract. Assumes nothing.
+use mathlib.Core.Path.{refl}
 use Rattle.saftvrqmie_hard_sphere_slopes.proofs.plus_times.Goals as goal
 
 pub returns : goal.returns
@@ -7,3 +8,4 @@ returns c =
       c.add.ensures,
       c.times.ensures,
     )
+    (record { at_mixed = refl; at_one = refl })

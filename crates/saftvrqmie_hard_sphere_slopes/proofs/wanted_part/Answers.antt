@@ -8,7 +8,7 @@ use Rattle.saftvrqmie_hard_sphere_slopes.proofs.wanted_part.Goals as goal
 
 pub returns-then-not-wanted : goal.returns-then-not-wanted
 unfolding decimal of_bits
-returns-then-not-wanted c = rw (not-true c.args.wanted c.if-not-wanted.true-raw) c.plain.ensures
+returns-then-not-wanted c = rw (not-true c.args.wanted c.if-not-wanted.true-raw) (record { at_mixed = c.plain.ensures; at_one = c.plain.ensures })
 
 pub returns : goal.returns
-returns c = rw (not-false c.args.wanted c.if-not-wanted.false-raw) (ap as_dual c.non_additive.ensures)
+returns c = rw (not-false c.args.wanted c.if-not-wanted.false-raw) (record { at_mixed = ap as_dual c.non_additive.ensures.at_mixed; at_one = ap as_dual c.non_additive.ensures.at_one })

@@ -1,4 +1,5 @@
 -- `saftvrqmie_hard_sphere_slopes::zeta_added` meets its contract. Assumes nothing.
+use mathlib.Core.Path.{refl}
 use Rattle.saftvrqmie_energies.specs.HardSphere.{zeta_added}
 use Rattle.number.specs.Arith.{decimal}
 use lib.Ieee.{of_bits}
@@ -8,10 +9,10 @@ pub returns : goal.returns
 unfolding zeta_added decimal of_bits
 returns c =
     rw (
-      c.plus_times-4.ensures,
-      c.plus_times-3.ensures,
-      c.plus_times-2.ensures,
-      c.plus_times.ensures,
+      c.plus_times-4.ensures.at_mixed,
+      c.plus_times-3.ensures.at_mixed,
+      c.plus_times-2.ensures.at_mixed,
+      c.plus_times.ensures.at_mixed,
       c.mul-t3.ensures,
       c.pow_up-4.ensures,
       c.mul-t2.ensures,
@@ -21,3 +22,4 @@ returns c =
       c.mul-t0.ensures,
       c.pow_up.ensures,
     )
+    (record { at_mixed = refl; at_one = refl })

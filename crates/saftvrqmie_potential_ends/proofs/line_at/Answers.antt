@@ -1,19 +1,19 @@
 -- `saftvrqmie_potential_ends::line_at` meets its contract. Assumes nothing.
-use Rattle.number.proofs.Walk.{via}
+use Rattle.number.proofs.Walk.{via, handed_on}
 use mathlib.Core.Path.{fun_ext}
 use Rattle.saftvrqmie_potential.specs.Potential.{line}
-use Rattle.enclosure.specs.Answer.{answer}
+use Rattle.number.specs.Answer.{answer}
 use Rattle.number.specs.Ans.{◌>>=◌}
 use Rattle.saftvrqmie_potential_ends.proofs.line_at.Goals as goal
 
-pub returns-in_default : goal.returns-in_default
+pub returns-in_err-rr : goal.returns-in_err-rr
 unfolding line ◌>>=◌
-returns-in_default c = λ s. fun_ext (λ f. rw (via answer c.powf.ensures c.in_default.is))
+returns-in_err-rr c = λ s. fun_ext (λ f. rw (handed_on _ c.from_residual.ensures, via answer c.powf.ensures c.in_err-rr.was))
 
-pub returns-in_default-powf : goal.returns-in_default-powf
+pub returns-in_err-ra : goal.returns-in_err-ra
 unfolding line ◌>>=◌
-returns-in_default-powf c = λ s. fun_ext (λ f. rw (via answer c.powf.ensures c.in-Value.is, s.sr, via answer c.powf-2.ensures c.in_default-powf.is))
+returns-in_err-ra c = λ s. fun_ext (λ f. rw (handed_on _ c.from_residual-in_err-ra.ensures, via answer c.powf.ensures c.in_ok-rr.was, s.sr, via answer c.powf-2.ensures c.in_err-ra.was))
 
 pub returns : goal.returns
 unfolding line ◌>>=◌
-returns c = λ s. fun_ext (λ f. rw (via answer c.powf.ensures c.in-Value.is, s.sr, via answer c.powf-2.ensures c.in-Value-powf.is, s.sa))
+returns c = λ s. fun_ext (λ f. rw (via answer c.powf.ensures c.in_ok-rr.was, s.sr, via answer c.powf-2.ensures c.in_ok-ra.was, s.sa))

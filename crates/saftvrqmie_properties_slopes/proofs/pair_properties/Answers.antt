@@ -2,32 +2,32 @@
 use lib.Ieee.{of_bits}
 use Rattle.number.specs.Arith.{decimal}
 use Rattle.slopes.specs.Answer.{dual_answer}
-use Rattle.number.proofs.Walk.{via}
+use Rattle.number.proofs.Walk.{via, handed_on}
 use mathlib.Core.Path.{◌∙◌}
 use Rattle.saftvrqmie_properties_slopes.proofs.Ways.{no_shared, no_sigma, no_zero, no_diameter, no_depth, properties_are}
-use Rattle.saftvrqmie_potential_slopes.specs.Staged.{shared_answer}
+use Rattle.number.specs.Answer.{answer}
 use Rattle.saftvrqmie_searches_slopes.specs.Searches.{dual_search_answer}
 use Rattle.saftvrqmie_properties_slopes.proofs.pair_properties.Goals as goal
 
-pub returns-in_default : goal.returns-in_default
-returns-in_default c = no_shared _ _ _ (via shared_answer c.share.ensures c.in_default.is)
+pub returns-in_err-w : goal.returns-in_err-w
+returns-in_err-w c = rw (handed_on _ c.from_residual.ensures) (no_shared _ _ _ (via answer c.share.ensures c.in_err-w.was))
 
-pub returns-in_default-sigma_search : goal.returns-in_default-sigma_search
+pub returns-in_err-s : goal.returns-in_err-s
 unfolding decimal of_bits
-returns-in_default-sigma_search c = no_sigma _ _ _ (via shared_answer c.share.ensures c.in-At.is) _ (c.times-sigma.ensures ∙ rw c.plain.ensures) _ (via dual_search_answer c.sigma_search.ensures c.in_default-sigma_search.is)
+returns-in_err-s c = rw (handed_on _ c.from_residual-in_err-s.ensures) (no_sigma _ _ _ (via answer c.share.ensures c.in_ok-w.was) _ (c.times-sigma.ensures ∙ rw c.plain.ensures) _ (via dual_search_answer c.sigma_search.ensures c.in_err-s.was))
 
-pub returns-in_default-zero_search : goal.returns-in_default-zero_search
+pub returns-in_err-z : goal.returns-in_err-z
 unfolding decimal of_bits
-returns-in_default-zero_search c = no_zero _ _ _ (via shared_answer c.share.ensures c.in-At.is) _ (c.times-sigma.ensures ∙ rw c.plain.ensures) _ (via dual_search_answer c.sigma_search.ensures c.in-Ended.is) _ c.radius-sigma_eff.ensures _ (via dual_search_answer c.zero_search.ensures c.in_default-zero_search.is)
+returns-in_err-z c = rw (handed_on _ c.from_residual-in_err-z.ensures) (no_zero _ _ _ (via answer c.share.ensures c.in_ok-w.was) _ (c.times-sigma.ensures ∙ rw c.plain.ensures) _ (via dual_search_answer c.sigma_search.ensures c.in_ok-s.was) _ c.radius-sigma_eff.ensures _ (via dual_search_answer c.zero_search.ensures c.in_err-z.was))
 
-pub returns-in_default-diameter_by : goal.returns-in_default-diameter_by
+pub returns-in_err-d : goal.returns-in_err-d
 unfolding decimal of_bits
-returns-in_default-diameter_by c = no_diameter _ _ _ (via shared_answer c.share.ensures c.in-At.is) _ (c.times-sigma.ensures ∙ rw c.plain.ensures) _ (via dual_search_answer c.sigma_search.ensures c.in-Ended.is) _ c.radius-sigma_eff.ensures _ (via dual_search_answer c.zero_search.ensures c.in-Ended-zero_search.is) _ c.radius-r0.ensures _ (via dual_answer c.diameter_by.ensures c.in_default-diameter_by.is)
+returns-in_err-d c = rw (handed_on _ c.from_residual-in_err-d.ensures) (no_diameter _ _ _ (via answer c.share.ensures c.in_ok-w.was) _ (c.times-sigma.ensures ∙ rw c.plain.ensures) _ (via dual_search_answer c.sigma_search.ensures c.in_ok-s.was) _ c.radius-sigma_eff.ensures _ (via dual_search_answer c.zero_search.ensures c.in_ok-z.was) _ c.radius-r0.ensures _ (via dual_answer c.diameter_by.ensures c.in_err-d.was))
 
-pub returns-in_default-depth_search : goal.returns-in_default-depth_search
+pub returns-in_err-e : goal.returns-in_err-e
 unfolding decimal of_bits
-returns-in_default-depth_search c = no_depth _ _ _ (via shared_answer c.share.ensures c.in-At.is) _ (c.times-sigma.ensures ∙ rw c.plain.ensures) _ (via dual_search_answer c.sigma_search.ensures c.in-Ended.is) _ c.radius-sigma_eff.ensures _ (via dual_search_answer c.zero_search.ensures c.in-Ended-zero_search.is) _ c.radius-r0.ensures _ (via dual_answer c.diameter_by.ensures c.in-Value.is) _ (via dual_search_answer c.depth_search.ensures c.in_default-depth_search.is)
+returns-in_err-e c = rw (handed_on _ c.from_residual-in_err-e.ensures) (no_depth _ _ _ (via answer c.share.ensures c.in_ok-w.was) _ (c.times-sigma.ensures ∙ rw c.plain.ensures) _ (via dual_search_answer c.sigma_search.ensures c.in_ok-s.was) _ c.radius-sigma_eff.ensures _ (via dual_search_answer c.zero_search.ensures c.in_ok-z.was) _ c.radius-r0.ensures _ (via dual_answer c.diameter_by.ensures c.in_ok-d.was) _ (via dual_search_answer c.depth_search.ensures c.in_err-e.was))
 
 pub returns : goal.returns
 unfolding decimal of_bits
-returns c = properties_are _ _ _ (via shared_answer c.share.ensures c.in-At.is) _ (c.times-sigma.ensures ∙ rw c.plain.ensures) _ (via dual_search_answer c.sigma_search.ensures c.in-Ended.is) _ c.radius-sigma_eff.ensures _ (via dual_search_answer c.zero_search.ensures c.in-Ended-zero_search.is) _ c.radius-r0.ensures _ (via dual_answer c.diameter_by.ensures c.in-Value.is) _ _ _ _ (via dual_search_answer c.depth_search.ensures c.in-Ended-depth_search.is) c.neg.ensures c.last_potential.ensures c.quantum_d.ensures
+returns c = properties_are _ _ _ (via answer c.share.ensures c.in_ok-w.was) _ (c.times-sigma.ensures ∙ rw c.plain.ensures) _ (via dual_search_answer c.sigma_search.ensures c.in_ok-s.was) _ c.radius-sigma_eff.ensures _ (via dual_search_answer c.zero_search.ensures c.in_ok-z.was) _ c.radius-r0.ensures _ (via dual_answer c.diameter_by.ensures c.in_ok-d.was) _ _ _ _ (via dual_search_answer c.depth_search.ensures c.in_ok-e.was) c.neg.ensures c.last_potential.ensures c.quantum_d.ensures

@@ -4,14 +4,14 @@ use Rattle.saftvrqmie_searches.specs.Searches.{epsilon_k_eff}
 use lib.Ieee.{of_bits}
 use Rattle.number.specs.Arith.{decimal}
 use Rattle.saftvrqmie_potential.proofs.Staged.{shared_held, shared_refused}
-use Rattle.number.proofs.Walk.{via}
-use Rattle.saftvrqmie_potential.specs.Staged.{shared_answer}
+use Rattle.number.proofs.Walk.{via, handed_on}
+use Rattle.number.specs.Answer.{answer}
 use Rattle.saftvrqmie_searches.proofs.calc_epsilon_k_eff.Goals as goal
 
-pub returns-in_default : goal.returns-in_default
+pub returns-in_err-w : goal.returns-in_err-w
 unfolding epsilon_k_eff
-returns-in_default c = rw (shared_refused _ _ (via shared_answer c.share.ensures c.in_default.is)) (depth_none _ _)
+returns-in_err-w c = rw (handed_on _ c.from_residual.ensures, shared_refused _ _ (via answer c.share.ensures c.in_err-w.was)) (depth_none _ _)
 
 pub returns : goal.returns
 unfolding epsilon_k_eff decimal of_bits
-returns c = rw (shared_held _ _ (via shared_answer c.share.ensures c.in-At.is)) c.depth_search.ensures
+returns c = rw (shared_held _ _ (via answer c.share.ensures c.in_ok-w.was)) c.depth_search.ensures

@@ -2,14 +2,14 @@
 use Rattle.saftvrqmie_searches.proofs.Nodes.{diameter_none}
 use Rattle.saftvrqmie_searches.specs.Diameter.{diameter}
 use Rattle.saftvrqmie_potential.proofs.Staged.{shared_held, shared_refused}
-use Rattle.number.proofs.Walk.{via}
-use Rattle.saftvrqmie_potential.specs.Staged.{shared_answer}
+use Rattle.number.proofs.Walk.{via, handed_on}
+use Rattle.number.specs.Answer.{answer}
 use Rattle.saftvrqmie_searches.proofs.hs_diameter.Goals as goal
 
-pub returns-in_default : goal.returns-in_default
+pub returns-in_err-w : goal.returns-in_err-w
 unfolding diameter
-returns-in_default c = rw (shared_refused _ _ (via shared_answer c.share.ensures c.in_default.is)) (diameter_none _ _ _ _)
+returns-in_err-w c = rw (handed_on _ c.from_residual.ensures, shared_refused _ _ (via answer c.share.ensures c.in_err-w.was)) (diameter_none _ _ _ _)
 
 pub returns : goal.returns
 unfolding diameter
-returns c = rw (shared_held _ _ (via shared_answer c.share.ensures c.in-At.is)) c.diameter_by.ensures
+returns c = rw (shared_held _ _ (via answer c.share.ensures c.in_ok-w.was)) c.diameter_by.ensures

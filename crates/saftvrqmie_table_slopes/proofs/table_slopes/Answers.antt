@@ -1,17 +1,18 @@
 -- `saftvrqmie_table_slopes::table_slopes` meets its contract. Assumes nothing.
+use Rattle.number.proofs.Walk.{handed_on}
 use Rattle.saftvrqmie_table_slopes.proofs.Laws.{finite_is, table_6, table_7, table_is}
-use Rattle.mie_parameters.proofs.Laws.{held_at}
+use Rattle.mie_parameters.proofs.Laws.{held_at, refused_at}
 use Rattle.saftvrqmie_table_slopes.proofs.table_slopes.Goals as goal
 
-pub returns-in_default : goal.returns-in_default
-returns-in_default c = table_6 _ _ _ _ _ _ _ _ _ c.work_pairs-worked.ensures c.in_default.is
+pub returns-in_err-work_pairs : goal.returns-in_err-work_pairs
+returns-in_err-work_pairs c = rw (handed_on _ c.from_residual.ensures) (table_6 _ _ _ _ _ _ (refused_at _ _ _ _ c.work_pairs.ensures c.in_err-work_pairs.was))
 
 pub returns-then-not-all_finite : goal.returns-then-not-all_finite
 returns-then-not-all_finite c =
-    table_7 _ _ _ _ _ _ (held_at _ _ _ c.work_pairs-worked.ensures c.in-Held.is)
+    table_7 _ _ _ _ _ _ (held_at _ _ _ c.work_pairs.ensures c.in_ok-work_pairs.was)
     (finite_is _ _ _ _ c.all_finite.ensures c.all_finite-2.ensures c.if-not-all_finite.true)
 
 pub returns : goal.returns
 returns c =
-    table_is _ _ _ _ _ _ (held_at _ _ _ c.work_pairs-worked.ensures c.in-Held.is)
+    table_is _ _ _ _ _ _ (held_at _ _ _ c.work_pairs.ensures c.in_ok-work_pairs.was)
     (finite_is _ _ _ _ c.all_finite.ensures c.all_finite-2.ensures c.if-not-all_finite.false)

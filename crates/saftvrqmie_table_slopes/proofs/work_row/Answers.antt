@@ -2,20 +2,20 @@
 use Rattle.saftvrqmie_table_slopes.specs.Table.{slopes_row}
 use Rattle.dual.specs.Value.{dual_of}
 use Rattle.saftvrqmie_table_slopes.proofs.Laws.{work_held, work_outside}
-use Rattle.number.proofs.Walk.{walk_none, walk_next, walk_stop, walk_end}
+use Rattle.number.proofs.Walk.{walk_none, walk_next, walk_stop, walk_end, handed_on}
 use borrow.Author.Rules.{rules}
 use Rattle.saftvrqmie_table_slopes.proofs.work_row.Goals as goal
 
 pub loop-j-init : goal.loop-j-init
 loop-j-init c = (search rules, walk_none _ _)
 
-pub returns-in_default : goal.returns-in_default
+pub returns-in_err-p : goal.returns-in_err-p
 unfolding slopes_row dual_of
-returns-in_default c = walk_stop _ _ _ _ _ _ c.loop-j-test.true c.loop-j.invariant.1 (work_outside _ _ _ _ _ _ _ _ c.pair_at-pair.ensures c.pair_properties.ensures c.in_default.is)
+returns-in_err-p c = rw (handed_on _ c.from_residual.ensures) (walk_stop _ _ _ _ _ _ c.loop-j-test.true c.loop-j.invariant.1 (work_outside _ _ _ _ _ _ _ _ c.pair_at-pair.ensures c.pair_properties.ensures _ c.in_err-p.was))
 
 pub loop-j-preserved : goal.loop-j-preserved
 unfolding dual_of
-loop-j-preserved c = (search rules, walk_next _ _ _ _ _ c.loop-j.invariant.1 (work_held _ _ _ _ _ _ _ _ c.pair_at-pair.ensures c.pair_properties.ensures _ _ c.in-At.is c.store.ensures))
+loop-j-preserved c = (search rules, walk_next _ _ _ _ _ c.loop-j.invariant.1 (work_held _ _ _ _ _ _ _ _ c.pair_at-pair.ensures c.pair_properties.ensures _ _ c.in_ok-p.was c.store.ensures))
 
 pub returns : goal.returns
 unfolding slopes_row

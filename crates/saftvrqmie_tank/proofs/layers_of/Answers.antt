@@ -1,9 +1,9 @@
 -- `saftvrqmie_tank::layers_of` meets its contract. Assumes nothing.
 use Rattle.saftvrqmie_tank.proofs.Ways.{row_small, row_within, long, part_length, answer_at, pile_next, pile_stop, pile_end}
 use native.Mathlib.Omega.{arith}
-use mathlib.Core.Path.{ap}
+use mathlib.Core.Path.{refl, sym}
 use Rattle.number.specs.Arith.{floats}
-use Rattle.number.proofs.Walk.{via, walk_none}
+use Rattle.number.proofs.Walk.{via, walk_none, handed_on}
 use Rattle.saftvrqmie_energies.specs.Energies.{energies_answer}
 use borrow.Author.Rules.{rules}
 use Rattle.saftvrqmie_tank.proofs.layers_of.Goals as goal
@@ -53,14 +53,14 @@ slice_bounds-layer_of-start-in-loop-l c = let h = long c.args.n _ c.requires.1 i
 pub slice_bounds-layer_of-end-in-loop-l : goal.slice_bounds-layer_of-end-in-loop-l
 slice_bounds-layer_of-end-in-loop-l c = let h = long c.args.n _ c.requires.1 in omega (arith, h.densities, row_within c.args.n _ _ c.loop-l-test.true)
 
-pub layer_of-answer-requires : goal.layer_of-answer-requires
-layer_of-answer-requires c = let h = long c.args.n _ c.requires.1 in (part_length c.args.n _ _ _ h.fractions c.loop-l-test.true, part_length c.args.n _ _ _ h.densities c.loop-l-test.true)
+pub layer_of-requires : goal.layer_of-requires
+layer_of-requires c = let h = long c.args.n _ c.requires.1 in (part_length c.args.n _ _ _ h.fractions c.loop-l-test.true, part_length c.args.n _ _ _ h.densities c.loop-l-test.true)
 
-pub returns-in_default : goal.returns-in_default
-returns-in_default c = pile_stop floats _ _ _ _ _ c.loop-l-test.true c.loop-l.invariant.1 _ _ (answer_at _ _ _ _ _ c.layer_of-answer.ensures) (ap energies_answer c.in_default.is)
+pub returns-in_err-e : goal.returns-in_err-e
+returns-in_err-e c = rw (handed_on _ c.from_residual.ensures) (pile_stop floats _ _ _ _ _ c.loop-l-test.true c.loop-l.invariant.1 _ _ (sym (via energies_answer (answer_at _ _ _ _ _ c.layer_of.ensures) c.in_err-e.was)) refl)
 
 pub loop-l-preserved : goal.loop-l-preserved
-loop-l-preserved c = (search rules, pile_next floats _ _ _ _ _ _ _ c.loop-l.invariant.1 (via energies_answer (answer_at _ _ _ _ _ c.layer_of-answer.ensures) c.in-Energies.is) c.layer_piled-next.ensures)
+loop-l-preserved c = (search rules, pile_next floats _ _ _ _ _ _ _ c.loop-l.invariant.1 (via energies_answer (answer_at _ _ _ _ _ c.layer_of.ensures) c.in_ok-e.was) c.layer_piled-next.ensures)
 
 pub returns : goal.returns
 returns c = pile_end floats _ _ _ _ _ c.loop-l.invariant.0 c.loop-l-test.false c.loop-l.invariant.1

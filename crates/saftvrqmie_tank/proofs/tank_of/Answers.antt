@@ -1,6 +1,6 @@
 -- `saftvrqmie_tank::tank_of` meets its contract. Assumes nothing.
-use mathlib.Core.Path.{ap}
-use Rattle.number.proofs.Walk.{via, told}
+use mathlib.Core.Path.{refl}
+use Rattle.number.proofs.Walk.{via, told, handed_on}
 use Rattle.saftvrqmie_energies.specs.Energies.{energies_answer}
 use Rattle.saftvrqmie_tank.proofs.Ways.{layers_high, tank_14, tank_1, tank_layer, tank_7, tank_held}
 use Rattle.saftvrqmie_tank.proofs.tank_of.Goals as goal
@@ -14,14 +14,14 @@ tank_lengths-requires c = layers_high _ (told c.layers_within.ensures c.if-not-l
 pub returns-then-not-tank_lengths : goal.returns-then-not-tank_lengths
 returns-then-not-tank_lengths c = tank_1 _ _ _ (told c.layers_within.ensures c.if-not-layers_within.false) (told c.tank_lengths.ensures c.if-not-tank_lengths.true)
 
-pub layers_of-answer-requires : goal.layers_of-answer-requires
-layers_of-answer-requires c = (layers_high _ (told c.layers_within.ensures c.if-not-layers_within.false), (told c.tank_lengths.ensures c.if-not-tank_lengths.false))
+pub layers_of-requires : goal.layers_of-requires
+layers_of-requires c = (layers_high _ (told c.layers_within.ensures c.if-not-layers_within.false), (told c.tank_lengths.ensures c.if-not-tank_lengths.false))
 
-pub returns-in_default : goal.returns-in_default
-returns-in_default c = tank_layer _ _ _ (told c.layers_within.ensures c.if-not-layers_within.false) (told c.tank_lengths.ensures c.if-not-tank_lengths.false) _ _ (via energies_answer c.layers_of-answer.ensures c.in_default.is) (ap energies_answer c.in_default.is)
+pub returns-in_err-e : goal.returns-in_err-e
+returns-in_err-e c = rw (handed_on _ c.from_residual.ensures) (tank_layer _ _ _ (told c.layers_within.ensures c.if-not-layers_within.false) (told c.tank_lengths.ensures c.if-not-tank_lengths.false) _ _ (via energies_answer c.layers_of.ensures c.in_err-e.was) refl)
 
 pub returns-then-not-all_finite : goal.returns-then-not-all_finite
-returns-then-not-all_finite c = tank_7 _ _ _ (told c.layers_within.ensures c.if-not-layers_within.false) (told c.tank_lengths.ensures c.if-not-tank_lengths.false) _ (via energies_answer c.layers_of-answer.ensures c.in-Energies.is) (told c.all_finite.ensures c.if-not-all_finite.true)
+returns-then-not-all_finite c = tank_7 _ _ _ (told c.layers_within.ensures c.if-not-layers_within.false) (told c.tank_lengths.ensures c.if-not-tank_lengths.false) _ (via energies_answer c.layers_of.ensures c.in_ok-e.was) (told c.all_finite.ensures c.if-not-all_finite.true)
 
 pub returns : goal.returns
-returns c = tank_held _ _ _ (told c.layers_within.ensures c.if-not-layers_within.false) (told c.tank_lengths.ensures c.if-not-tank_lengths.false) _ (via energies_answer c.layers_of-answer.ensures c.in-Energies.is) (told c.all_finite.ensures c.if-not-all_finite.false)
+returns c = tank_held _ _ _ (told c.layers_within.ensures c.if-not-layers_within.false) (told c.tank_lengths.ensures c.if-not-tank_lengths.false) _ (via energies_answer c.layers_of.ensures c.in_ok-e.was) (told c.all_finite.ensures c.if-not-all_finite.false)

@@ -1,6 +1,6 @@
 -- `saftvrqmie_tank_ends::tank_ends_of` meets its contract. Assumes nothing.
 use mathlib.Core.Path.{◌∙◌}
-use Rattle.number.proofs.Walk.{via, told}
+use Rattle.number.proofs.Walk.{via, told, handed_on}
 use Rattle.saftvrqmie_energies_ends.specs.Operation.{enclosures_answer}
 use Rattle.saftvrqmie_tank.proofs.Ways.{layers_high}
 use Rattle.saftvrqmie_tank_ends.proofs.Ways.{ends_14, ends_1, ends_layer, ends_7, ends_held}
@@ -15,14 +15,14 @@ tank_lengths-requires c = layers_high _ (told c.layers_within.ensures c.if-not-l
 pub returns-then-not-tank_lengths : goal.returns-then-not-tank_lengths
 returns-then-not-tank_lengths c = ends_1 _ _ _ (told c.layers_within.ensures c.if-not-layers_within.false) (told c.tank_lengths.ensures c.if-not-tank_lengths.true)
 
-pub layers_of-answer-requires : goal.layers_of-answer-requires
-layers_of-answer-requires c = (layers_high _ (told c.layers_within.ensures c.if-not-layers_within.false), (told c.tank_lengths.ensures c.if-not-tank_lengths.false))
+pub layers_of-requires : goal.layers_of-requires
+layers_of-requires c = (layers_high _ (told c.layers_within.ensures c.if-not-layers_within.false), (told c.tank_lengths.ensures c.if-not-tank_lengths.false))
+
+pub returns-in_err-e : goal.returns-in_err-e
+returns-in_err-e c = rw (handed_on _ c.from_residual.ensures) (ends_layer _ _ _ (told c.layers_within.ensures c.if-not-layers_within.false) (told c.tank_lengths.ensures c.if-not-tank_lengths.false) _ (via enclosures_answer c.layers_of.ensures c.in_err-e.was))
 
 pub returns-then-not-all_finite : goal.returns-then-not-all_finite
-returns-then-not-all_finite c = ends_7 _ _ _ (told c.layers_within.ensures c.if-not-layers_within.false) (told c.tank_lengths.ensures c.if-not-tank_lengths.false) _ (via enclosures_answer c.layers_of-answer.ensures c.in-Held.is) (told c.all_finite.ensures c.if-not-all_finite.true)
+returns-then-not-all_finite c = ends_7 _ _ _ (told c.layers_within.ensures c.if-not-layers_within.false) (told c.tank_lengths.ensures c.if-not-tank_lengths.false) _ (via enclosures_answer c.layers_of.ensures c.in_ok-e.was) (told c.all_finite.ensures c.if-not-all_finite.true)
 
-pub returns-in-Refused : goal.returns-in-Refused
-returns-in-Refused c = ends_layer _ _ _ (told c.layers_within.ensures c.if-not-layers_within.false) (told c.tank_lengths.ensures c.if-not-tank_lengths.false) _ (via enclosures_answer c.layers_of-answer.ensures c.in-Refused.is)
-
-pub returns-else-not-all_finite : goal.returns-else-not-all_finite
-returns-else-not-all_finite c = c.sound_ends.ensures ∙ ends_held _ _ _ (told c.layers_within.ensures c.if-not-layers_within.false) (told c.tank_lengths.ensures c.if-not-tank_lengths.false) _ (via enclosures_answer c.layers_of-answer.ensures c.in-Held.is) (told c.all_finite.ensures c.if-not-all_finite.false)
+pub returns : goal.returns
+returns c = c.sound_ends.ensures ∙ ends_held _ _ _ (told c.layers_within.ensures c.if-not-layers_within.false) (told c.tank_lengths.ensures c.if-not-tank_lengths.false) _ (via enclosures_answer c.layers_of.ensures c.in_ok-e.was) (told c.all_finite.ensures c.if-not-all_finite.false)

@@ -1,12 +1,12 @@
 -- `saftvrqmie_total::total_of` meets its contract. Assumes nothing.
 use mathlib.Core.Path.{◌∙◌}
-use Rattle.number.proofs.Walk.{via}
+use Rattle.number.proofs.Walk.{via, handed_on}
 use Rattle.saftvrqmie_energies.specs.Energies.{energies_answer}
 use Rattle.saftvrqmie_total.proofs.Ways.{energies_refused, energies_held}
 use Rattle.saftvrqmie_total.proofs.total_of.Goals as goal
 
-pub returns-in-Refused : goal.returns-in-Refused
-returns-in-Refused c = energies_refused _ _ _ _ _ _ _ (via energies_answer c.energies_of-worked.ensures c.in-Refused.is)
+pub returns-in_err-e : goal.returns-in_err-e
+returns-in_err-e c = rw (handed_on _ c.from_residual.ensures) (energies_refused _ _ _ _ _ _ _ (via energies_answer c.energies_of.ensures c.in_err-e.was))
 
-pub returns-in-Energies : goal.returns-in-Energies
-returns-in-Energies c = c.contributions_total.ensures ∙ energies_held _ _ _ _ _ _ _ (via energies_answer c.energies_of-worked.ensures c.in-Energies.is)
+pub returns : goal.returns
+returns c = c.contributions_total.ensures ∙ energies_held _ _ _ _ _ _ _ (via energies_answer c.energies_of.ensures c.in_ok-e.was)

@@ -1,4 +1,5 @@
 -- `slopes::exp` meets its contract. Assumes nothing.
+use Rattle.std.proofs.Common.{rules}
 use Rattle.number.proofs.Walk.{via}
 use Rattle.number.specs.Answer.{answer}
 use Rattle.slopes.specs.Rules.{exp_d}
@@ -8,10 +9,10 @@ use Rattle.number.specs.Arith.{decimal}
 use Rattle.number.specs.Ans.{◌>>=◌}
 use Rattle.slopes.proofs.exp.Goals as goal
 
-pub returns-in_default : goal.returns-in_default
+pub returns-in_err-v : goal.returns-in_err-v
 unfolding exp_d dual_of ◌>>=◌ decimal of_bits
-returns-in_default c = rw (via answer c.exp.ensures c.in_default.is)
+returns-in_err-v c = search rules
 
 pub returns : goal.returns
 unfolding exp_d dual_of ◌>>=◌ decimal of_bits
-returns c = rw (via answer c.exp.ensures c.in-Value.is)
+returns c = rw (via answer c.exp.ensures c.in_ok-v.was)

@@ -15,21 +15,21 @@ returns-then-out-ne6 c = call_1 _ _ _ _ (ne_eqb _ _ c.if-out-ne6.true)
 
 pub returns-in_default : goal.returns-in_default
 unfolding dual_of
-returns-in_default c = call_set _ _ _ _ (eq-eqb _ _ c.if-out-ne6.false) _ _ (not_passed _ _ _ c.sloped_lengths-right.ensures _ c.quantum_answer-read.ensures _ c.in_default.is) (c.number.ensures ∙ ap number_of c.in_default.is)
+returns-in_default c = call_set _ _ _ _ (eq-eqb _ _ c.if-out-ne6.false) _ _ (not_passed _ _ _ c.sloped_lengths-right.ensures _ c.quantum_answer-read.ensures c.in_default.is) (c.number.ensures ∙ ap number_of c.in_default.is)
 
 pub places-places-requires : goal.places-places-requires
-places-places-requires c = let h = (lengths _ _ _ (passed_lengths _ _ _ c.sloped_lengths-right.ensures _ c.quantum_answer-read.ensures c.in-Held.is)).places in omega (arith, h)
+places-places-requires c = let h = (lengths _ _ _ (passed_lengths _ _ _ c.sloped_lengths-right.ensures _ c.quantum_answer-read.ensures c.in-Ok.is)).places in omega (arith, h)
 
 pub flat-flat-requires : goal.flat-flat-requires
-flat-flat-requires c = (lengths _ _ _ (passed_lengths _ _ _ c.sloped_lengths-right.ensures _ c.quantum_answer-read.ensures c.in-Held.is)).flat
+flat-flat-requires c = (lengths _ _ _ (passed_lengths _ _ _ c.sloped_lengths-right.ensures _ c.quantum_answer-read.ensures c.in-Ok.is)).flat
 
 pub order_records-records-requires : goal.order_records-records-requires
-order_records-records-requires c = (lengths _ _ _ (passed_lengths _ _ _ c.sloped_lengths-right.ensures _ c.quantum_answer-read.ensures c.in-Held.is)).records
+order_records-records-requires c = (lengths _ _ _ (passed_lengths _ _ _ c.sloped_lengths-right.ensures _ c.quantum_answer-read.ensures c.in-Ok.is)).records
 
-pub returns-in-Refused : goal.returns-in-Refused
+pub returns-in-Err : goal.returns-in-Err
 unfolding dual_of
-returns-in-Refused c = call_refused _ _ _ _ (eq-eqb _ _ c.if-out-ne6.false) _ (set_by _ _ _ _ _ (passed _ _ _ c.sloped_lengths-right.ensures _ c.quantum_answer-read.ensures c.in-Held.is) c.places-places.ensures c.flat-flat.ensures c.order_records-records.ensures) _ (via energies_slopes_answer c.energies_slopes_of-worked.ensures c.in-Refused.is)
+returns-in-Err c = rw c.code.ensures (call_refused _ _ _ _ (eq-eqb _ _ c.if-out-ne6.false) _ (set_by _ _ _ _ _ (passed _ _ _ c.sloped_lengths-right.ensures _ c.quantum_answer-read.ensures c.in-Ok.is) c.places-places.ensures c.flat-flat.ensures c.order_records-records.ensures) _ (via energies_slopes_answer c.energies_slopes_of-worked.ensures c.in-Err.is))
 
-pub returns-in-Energies : goal.returns-in-Energies
+pub returns-in-Ok-worked : goal.returns-in-Ok-worked
 unfolding dual_of
-returns-in-Energies c = call_held _ _ _ _ (eq-eqb _ _ c.if-out-ne6.false) _ (set_by _ _ _ _ _ (passed _ _ _ c.sloped_lengths-right.ensures _ c.quantum_answer-read.ensures c.in-Held.is) c.places-places.ensures c.flat-flat.ensures c.order_records-records.ensures) _ _ (via energies_slopes_answer c.energies_slopes_of-worked.ensures c.in-Energies.is) c.write_slopes.ensures
+returns-in-Ok-worked c = call_held _ _ _ _ (eq-eqb _ _ c.if-out-ne6.false) _ (set_by _ _ _ _ _ (passed _ _ _ c.sloped_lengths-right.ensures _ c.quantum_answer-read.ensures c.in-Ok.is) c.places-places.ensures c.flat-flat.ensures c.order_records-records.ensures) _ _ (via energies_slopes_answer c.energies_slopes_of-worked.ensures c.in-Ok-worked.is) c.write_slopes.ensures

@@ -1,11 +1,12 @@
 -- `domthelv::functions::deliver` meets its contract. Assumes nothing.
+use mathlib.Core.Path.{refl}
 use Rattle.mie_parameters.specs.Answer.{verdict, status, stored}
 use Rattle.domthelv.proofs.functions.deliver.Goals as goal
 
-pub returns-in_default : goal.returns-in_default
+pub returns-in-Err : goal.returns-in-Err
 unfolding status verdict stored
-returns-in_default c = (rw c.in_default.is, rw c.in_default.is)
+returns-in-Err c = rw c.in-Err.is (c.code.ensures, refl)
 
-pub returns : goal.returns
+pub returns-in-Ok : goal.returns-in-Ok
 unfolding status verdict stored
-returns c = (rw c.in-Value.is, rw c.in-Value.is)
+returns-in-Ok c = (rw c.in-Ok.is, rw c.in-Ok.is)

@@ -1,7 +1,7 @@
 -- `domthelv::mie::domthelv_vr_diameter` meets its contract. Assumes nothing.
 use Rattle.set_lists.proofs.Sets.{set_is, mie_1, mie_holds}
 use Rattle.domthelv.proofs.Operations.{mie_diameter_refused, mie_diameter_is, refused_status, refused_stored, held_status, held_stored}
-use Rattle.mie_parameters.specs.Answer.{number_answer}
+use Rattle.number.specs.Answer.{answer}
 use Rattle.number.proofs.Walk.{told, via}
 use mathlib.Core.Path.{refl, ◌∙◌}
 use Rattle.domthelv.proofs.mie.domthelv_vr_diameter.Goals as goal
@@ -12,8 +12,8 @@ returns-then-not-mie_lengths c = let q = mie_diameter_refused _ _ _ _ _ _ (mie_1
 pub mie_set-set-requires : goal.mie_set-set-requires
 mie_set-set-requires c = (told c.mie_lengths.ensures c.if-not-mie_lengths.false)
 
-pub returns-in-Refused : goal.returns-in-Refused
-returns-in-Refused c = let q = mie_diameter_is _ _ _ _ _ _ (set_is _ _ _ (mie_holds _ (told c.mie_lengths.ensures c.if-not-mie_lengths.false)) c.mie_set-set.ensures) ∙ via number_answer c.diameter_ij-worked.ensures c.in-Refused.is in (refused_status _ _ _ refl q, refused_stored _ _ _ q)
+pub returns-in-Err : goal.returns-in-Err
+returns-in-Err c = let q = mie_diameter_is _ _ _ _ _ _ (set_is _ _ _ (mie_holds _ (told c.mie_lengths.ensures c.if-not-mie_lengths.false)) c.mie_set-set.ensures) ∙ via answer c.diameter_ij-worked.ensures c.in-Err.is in (refused_status _ _ _ c.code.ensures q, refused_stored _ _ _ q)
 
-pub returns-in-Value : goal.returns-in-Value
-returns-in-Value c = let q = mie_diameter_is _ _ _ _ _ _ (set_is _ _ _ (mie_holds _ (told c.mie_lengths.ensures c.if-not-mie_lengths.false)) c.mie_set-set.ensures) ∙ via number_answer c.diameter_ij-worked.ensures c.in-Value.is in (held_status _ _ q, held_stored _ _ _ q)
+pub returns-in-Ok : goal.returns-in-Ok
+returns-in-Ok c = let q = mie_diameter_is _ _ _ _ _ _ (set_is _ _ _ (mie_holds _ (told c.mie_lengths.ensures c.if-not-mie_lengths.false)) c.mie_set-set.ensures) ∙ via answer c.diameter_ij-worked.ensures c.in-Ok.is in (held_status _ _ q, held_stored _ _ _ q)

@@ -1,7 +1,7 @@
 -- `domthelv::mie::domthelv_vr_dispersion` meets its contract. Assumes nothing.
 use Rattle.set_lists.proofs.Sets.{mie_lengths_told, mie_1, mie_holds, mie_by}
 use Rattle.domthelv.proofs.Operations.{dispersion_refused, dispersion_is, refused_status, refused_stored, held_status, held_stored}
-use Rattle.saftvrmie_energies.specs.Energies.{energy_answer}
+use Rattle.number.specs.Answer.{answer}
 use Rattle.number.proofs.Walk.{told, via}
 use mathlib.Core.Path.{refl, ◌∙◌}
 use native.Mathlib.Omega.{arith}
@@ -28,8 +28,8 @@ places-la-requires c = let h = (mie_lengths_told _ _ (told c.mie_lengths.ensures
 pub flat-flat-requires : goal.flat-flat-requires
 flat-flat-requires c = (mie_lengths_told _ _ (told c.mie_lengths.ensures c.if-not-mie_lengths.false)).flat
 
-pub returns-in-Refused : goal.returns-in-Refused
-returns-in-Refused c = let q = dispersion_is _ _ _ _ _ _ _ (mie_by _ _ _ _ _ _ _ _ (mie_holds _ (told c.mie_lengths.ensures c.if-not-mie_lengths.false)) c.places-m.ensures c.places-sigma.ensures c.places-epsilon_k.ensures c.places-lr.ensures c.places-la.ensures c.flat-flat.ensures) ∙ via energy_answer c.dispersion_of-worked.ensures c.in-Refused.is in (refused_status _ _ _ refl q, refused_stored _ _ _ q)
+pub returns-in-Err : goal.returns-in-Err
+returns-in-Err c = let q = dispersion_is _ _ _ _ _ _ _ (mie_by _ _ _ _ _ _ _ _ (mie_holds _ (told c.mie_lengths.ensures c.if-not-mie_lengths.false)) c.places-m.ensures c.places-sigma.ensures c.places-epsilon_k.ensures c.places-lr.ensures c.places-la.ensures c.flat-flat.ensures) ∙ via answer c.dispersion_of-worked.ensures c.in-Err.is in (refused_status _ _ _ c.code.ensures q, refused_stored _ _ _ q)
 
-pub returns-in-Value : goal.returns-in-Value
-returns-in-Value c = let q = dispersion_is _ _ _ _ _ _ _ (mie_by _ _ _ _ _ _ _ _ (mie_holds _ (told c.mie_lengths.ensures c.if-not-mie_lengths.false)) c.places-m.ensures c.places-sigma.ensures c.places-epsilon_k.ensures c.places-lr.ensures c.places-la.ensures c.flat-flat.ensures) ∙ via energy_answer c.dispersion_of-worked.ensures c.in-Value.is in (held_status _ _ q, held_stored _ _ _ q)
+pub returns-in-Ok : goal.returns-in-Ok
+returns-in-Ok c = let q = dispersion_is _ _ _ _ _ _ _ (mie_by _ _ _ _ _ _ _ _ (mie_holds _ (told c.mie_lengths.ensures c.if-not-mie_lengths.false)) c.places-m.ensures c.places-sigma.ensures c.places-epsilon_k.ensures c.places-lr.ensures c.places-la.ensures c.flat-flat.ensures) ∙ via answer c.dispersion_of-worked.ensures c.in-Ok.is in (held_status _ _ q, held_stored _ _ _ q)

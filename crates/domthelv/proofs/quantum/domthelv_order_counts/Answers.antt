@@ -1,6 +1,6 @@
 -- `domthelv::quantum::domthelv_order_counts` meets its contract. Assumes nothing.
 use Rattle.domthelv.proofs.Operations.{counts_1, counts_refused, counts_held, refused_status, refused_stored, held_status, held_stored}
-use Rattle.order_counts.specs.Counts.{counts_answer}
+use Rattle.number.specs.Answer.{answer}
 use borrow.Author.Tests.{eq-eqb, ne_eqb}
 use Rattle.number.proofs.Walk.{via}
 use mathlib.Core.Path.{refl, ◌∙◌}
@@ -9,8 +9,8 @@ use Rattle.domthelv.proofs.quantum.domthelv_order_counts.Goals as goal
 pub returns-then-out-ne3 : goal.returns-then-out-ne3
 returns-then-out-ne3 c = let q = counts_1 _ _ (ne_eqb _ _ c.if-out-ne3.true) in (refused_status _ _ _ refl q, refused_stored _ _ _ q)
 
-pub returns-in-Refused : goal.returns-in-Refused
-returns-in-Refused c = let q = counts_refused _ _ _ (eq-eqb _ _ c.if-out-ne3.false) (via counts_answer c.order_counts-counted.ensures c.in-Refused.is) in (refused_status _ _ _ refl q, refused_stored _ _ _ q)
+pub returns-in-Err : goal.returns-in-Err
+returns-in-Err c = let q = counts_refused _ _ _ (eq-eqb _ _ c.if-out-ne3.false) (via answer c.order_counts-counted.ensures c.in-Err.is) in (refused_status _ _ _ c.code.ensures q, refused_stored _ _ _ q)
 
-pub returns-in-Counts : goal.returns-in-Counts
-returns-in-Counts c = let q = counts_held _ _ _ (eq-eqb _ _ c.if-out-ne3.false) (via counts_answer c.order_counts-counted.ensures c.in-Counts.is) in (held_status _ _ q, c.write_counts.ensures ∙ held_stored _ _ _ q)
+pub returns-in-Ok : goal.returns-in-Ok
+returns-in-Ok c = let q = counts_held _ _ _ (eq-eqb _ _ c.if-out-ne3.false) (via answer c.order_counts-counted.ensures c.in-Ok.is) in (held_status _ _ q, c.write_counts.ensures ∙ held_stored _ _ _ q)

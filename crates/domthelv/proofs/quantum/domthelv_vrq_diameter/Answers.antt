@@ -1,20 +1,20 @@
 -- `domthelv::quantum::domthelv_vrq_diameter` meets its contract. Assumes nothing.
 use Rattle.set_lists.proofs.Sets.{passed_lengths, passed, not_passed, set_is}
 use Rattle.domthelv.proofs.Operations.{diameter_set, diameter_is, refused_status, refused_stored, held_status, held_stored}
-use Rattle.mie_parameters.specs.Answer.{number_answer}
+use Rattle.number.specs.Answer.{answer}
 use Rattle.number.proofs.Walk.{via}
 use mathlib.Core.Path.{refl, ap, ◌∙◌}
 use Rattle.mie_parameters.specs.Answer.{number_of}
 use Rattle.domthelv.proofs.quantum.domthelv_vrq_diameter.Goals as goal
 
 pub returns-in_default : goal.returns-in_default
-returns-in_default c = let q = diameter_set _ _ _ _ _ _ _ (not_passed _ _ _ c.index_within-right.ensures _ c.quantum_answer-read.ensures _ c.in_default.is) in (refused_status _ _ _ (c.number.ensures ∙ ap number_of c.in_default.is) q, refused_stored _ _ _ q)
+returns-in_default c = let q = diameter_set _ _ _ _ _ _ _ (not_passed _ _ _ c.index_within-right.ensures _ c.quantum_answer-read.ensures c.in_default.is) in (refused_status _ _ _ (c.number.ensures ∙ ap number_of c.in_default.is) q, refused_stored _ _ _ q)
 
 pub quantum_set-set-requires : goal.quantum_set-set-requires
-quantum_set-set-requires c = (passed_lengths _ _ _ c.index_within-right.ensures _ c.quantum_answer-read.ensures c.in-Held.is)
+quantum_set-set-requires c = (passed_lengths _ _ _ c.index_within-right.ensures _ c.quantum_answer-read.ensures c.in-Ok.is)
 
-pub returns-in-Refused : goal.returns-in-Refused
-returns-in-Refused c = let q = diameter_is _ _ _ _ _ _ _ (set_is _ _ _ (passed _ _ _ c.index_within-right.ensures _ c.quantum_answer-read.ensures c.in-Held.is) c.quantum_set-set.ensures) ∙ via number_answer c.hs_diameter_ij-worked.ensures c.in-Refused.is in (refused_status _ _ _ refl q, refused_stored _ _ _ q)
+pub returns-in-Err : goal.returns-in-Err
+returns-in-Err c = let q = diameter_is _ _ _ _ _ _ _ (set_is _ _ _ (passed _ _ _ c.index_within-right.ensures _ c.quantum_answer-read.ensures c.in-Ok.is) c.quantum_set-set.ensures) ∙ via answer c.hs_diameter_ij-worked.ensures c.in-Err.is in (refused_status _ _ _ c.code.ensures q, refused_stored _ _ _ q)
 
-pub returns-in-Value : goal.returns-in-Value
-returns-in-Value c = let q = diameter_is _ _ _ _ _ _ _ (set_is _ _ _ (passed _ _ _ c.index_within-right.ensures _ c.quantum_answer-read.ensures c.in-Held.is) c.quantum_set-set.ensures) ∙ via number_answer c.hs_diameter_ij-worked.ensures c.in-Value.is in (held_status _ _ q, held_stored _ _ _ q)
+pub returns-in-Ok-worked : goal.returns-in-Ok-worked
+returns-in-Ok-worked c = let q = diameter_is _ _ _ _ _ _ _ (set_is _ _ _ (passed _ _ _ c.index_within-right.ensures _ c.quantum_answer-read.ensures c.in-Ok.is) c.quantum_set-set.ensures) ∙ via answer c.hs_diameter_ij-worked.ensures c.in-Ok-worked.is in (held_status _ _ q, held_stored _ _ _ q)

@@ -9,8 +9,8 @@ use Rattle.domthelv.proofs.quantum.domthelv_vrq_stage.Goals as goal
 pub returns-then-out-ne3 : goal.returns-then-out-ne3
 returns-then-out-ne3 c = let q = stage_1 _ _ _ _ _ _ (ne_eqb _ _ c.if-out-ne3.true) in (refused_status _ _ _ refl q, refused_stored _ _ _ q)
 
-pub returns-in-Refused : goal.returns-in-Refused
-returns-in-Refused c = let q = stage_refused _ _ _ _ _ _ _ (eq-eqb _ _ c.if-out-ne3.false) (via energies_answer c.quantum_stage-worked.ensures c.in-Refused.is) in (refused_status _ _ _ refl q, refused_stored _ _ _ q)
+pub returns-in-Err : goal.returns-in-Err
+returns-in-Err c = let q = stage_refused _ _ _ _ _ _ _ (eq-eqb _ _ c.if-out-ne3.false) (via energies_answer c.quantum_stage-worked.ensures c.in-Err.is) in (refused_status _ _ _ c.code.ensures q, refused_stored _ _ _ q)
 
-pub returns-in-Energies : goal.returns-in-Energies
-returns-in-Energies c = let q = stage_held _ _ _ _ _ _ _ (eq-eqb _ _ c.if-out-ne3.false) (via energies_answer c.quantum_stage-worked.ensures c.in-Energies.is) in (held_status _ _ q, c.write_energies.ensures ∙ held_stored _ _ _ q)
+pub returns-in-Ok : goal.returns-in-Ok
+returns-in-Ok c = let q = stage_held _ _ _ _ _ _ _ (eq-eqb _ _ c.if-out-ne3.false) (via energies_answer c.quantum_stage-worked.ensures c.in-Ok.is) in (held_status _ _ q, c.write_energies.ensures ∙ held_stored _ _ _ q)

@@ -15,19 +15,19 @@ pub returns-then-out-ne4 : goal.returns-then-out-ne4
 returns-then-out-ne4 c = let q = total_1 _ _ _ _ _ _ _ (ne_eqb _ _ c.if-out-ne4.true) in (refused_status _ _ _ refl q, refused_stored _ _ _ q)
 
 pub returns-in_default : goal.returns-in_default
-returns-in_default c = let q = total_set _ _ _ _ _ _ _ (eq-eqb _ _ c.if-out-ne4.false) _ (not_passed _ _ _ c.right_lengths-right.ensures _ c.quantum_answer-read.ensures _ c.in_default.is) in (refused_status _ _ _ (c.number.ensures ∙ ap number_of c.in_default.is) q, refused_stored _ _ _ q)
+returns-in_default c = let q = total_set _ _ _ _ _ _ _ (eq-eqb _ _ c.if-out-ne4.false) _ (not_passed _ _ _ c.right_lengths-right.ensures _ c.quantum_answer-read.ensures c.in_default.is) in (refused_status _ _ _ (c.number.ensures ∙ ap number_of c.in_default.is) q, refused_stored _ _ _ q)
 
 pub places-places-requires : goal.places-places-requires
-places-places-requires c = let h = (lengths _ _ _ (passed_lengths _ _ _ c.right_lengths-right.ensures _ c.quantum_answer-read.ensures c.in-Held.is)).places in omega (arith, h)
+places-places-requires c = let h = (lengths _ _ _ (passed_lengths _ _ _ c.right_lengths-right.ensures _ c.quantum_answer-read.ensures c.in-Ok.is)).places in omega (arith, h)
 
 pub flat-flat-requires : goal.flat-flat-requires
-flat-flat-requires c = (lengths _ _ _ (passed_lengths _ _ _ c.right_lengths-right.ensures _ c.quantum_answer-read.ensures c.in-Held.is)).flat
+flat-flat-requires c = (lengths _ _ _ (passed_lengths _ _ _ c.right_lengths-right.ensures _ c.quantum_answer-read.ensures c.in-Ok.is)).flat
 
 pub order_records-records-requires : goal.order_records-records-requires
-order_records-records-requires c = (lengths _ _ _ (passed_lengths _ _ _ c.right_lengths-right.ensures _ c.quantum_answer-read.ensures c.in-Held.is)).records
+order_records-records-requires c = (lengths _ _ _ (passed_lengths _ _ _ c.right_lengths-right.ensures _ c.quantum_answer-read.ensures c.in-Ok.is)).records
 
-pub returns-in-Refused : goal.returns-in-Refused
-returns-in-Refused c = let q = total_refused _ _ _ _ _ _ _ (eq-eqb _ _ c.if-out-ne4.false) _ (set_by _ _ _ _ _ (passed _ _ _ c.right_lengths-right.ensures _ c.quantum_answer-read.ensures c.in-Held.is) c.places-places.ensures c.flat-flat.ensures c.order_records-records.ensures) _ (via energies_answer c.energies_of-worked.ensures c.in-Refused.is) in (refused_status _ _ _ refl q, refused_stored _ _ _ q)
+pub returns-in-Err : goal.returns-in-Err
+returns-in-Err c = let q = total_refused _ _ _ _ _ _ _ (eq-eqb _ _ c.if-out-ne4.false) _ (set_by _ _ _ _ _ (passed _ _ _ c.right_lengths-right.ensures _ c.quantum_answer-read.ensures c.in-Ok.is) c.places-places.ensures c.flat-flat.ensures c.order_records-records.ensures) _ (via energies_answer c.energies_of-worked.ensures c.in-Err.is) in (refused_status _ _ _ c.code.ensures q, refused_stored _ _ _ q)
 
-pub returns-in-Energies : goal.returns-in-Energies
-returns-in-Energies c = let q = total_worked _ _ _ _ _ _ _ (eq-eqb _ _ c.if-out-ne4.false) _ (set_by _ _ _ _ _ (passed _ _ _ c.right_lengths-right.ensures _ c.quantum_answer-read.ensures c.in-Held.is) c.places-places.ensures c.flat-flat.ensures c.order_records-records.ensures) _ (via energies_answer c.energies_of-worked.ensures c.in-Energies.is) _ c.contributions_total-total.ensures in (c.deliver_total.ensures.0 ∙ ap status q, c.deliver_total.ensures.1 ∙ ap (stored _) q)
+pub returns-in-Ok-worked : goal.returns-in-Ok-worked
+returns-in-Ok-worked c = let q = total_worked _ _ _ _ _ _ _ (eq-eqb _ _ c.if-out-ne4.false) _ (set_by _ _ _ _ _ (passed _ _ _ c.right_lengths-right.ensures _ c.quantum_answer-read.ensures c.in-Ok.is) c.places-places.ensures c.flat-flat.ensures c.order_records-records.ensures) _ (via energies_answer c.energies_of-worked.ensures c.in-Ok-worked.is) _ c.contributions_total-total.ensures in (c.deliver_total.ensures.0 ∙ ap status q, c.deliver_total.ensures.1 ∙ ap (stored _) q)

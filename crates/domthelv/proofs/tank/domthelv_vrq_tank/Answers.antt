@@ -7,14 +7,14 @@ use Rattle.domthelv.proofs.TankWays.{tank_refused, tank_held, tank_places}
 use Rattle.domthelv.proofs.tank.domthelv_vrq_tank.Goals as goal
 
 pub write_energies-requires : goal.write_energies-requires
-write_energies-requires c = tank_places _ _ _ _ _ (via energies_answer c.listed_tank-worked.ensures c.in-Energies.is)
+write_energies-requires c = tank_places _ _ _ _ _ (via energies_answer c.listed_tank-worked.ensures c.in-Ok.is)
 
-pub returns-in-Refused : goal.returns-in-Refused
-returns-in-Refused c =
-    let q = tank_refused _ _ _ _ _ (via energies_answer c.listed_tank-worked.ensures c.in-Refused.is) in
-    (refused_status _ _ _ refl q, refused_stored _ _ _ q)
+pub returns-in-Err : goal.returns-in-Err
+returns-in-Err c =
+    let q = tank_refused _ _ _ _ _ (via energies_answer c.listed_tank-worked.ensures c.in-Err.is) in
+    (refused_status _ _ _ c.code.ensures q, refused_stored _ _ _ q)
 
-pub returns-in-Energies : goal.returns-in-Energies
-returns-in-Energies c =
-    let q = tank_held _ _ _ _ _ (via energies_answer c.listed_tank-worked.ensures c.in-Energies.is) in
+pub returns-in-Ok : goal.returns-in-Ok
+returns-in-Ok c =
+    let q = tank_held _ _ _ _ _ (via energies_answer c.listed_tank-worked.ensures c.in-Ok.is) in
     (held_status _ _ q, c.write_energies.ensures ∙ held_stored _ _ _ q)

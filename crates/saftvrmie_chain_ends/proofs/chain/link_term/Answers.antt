@@ -1,63 +1,24 @@
 -- `saftvrmie_chain_ends::chain::link_term` meets its contract. Assumes nothing.
+use Rattle.std.proofs.Common.{rules}
 use Rattle.saftvrmie_dispersion.specs.Chain.{link_of}
-use Rattle.enclosure.specs.Answer.{answer}
+use Rattle.number.specs.Answer.{answer}
 use Rattle.number.specs.Ans.{◌>>=◌}
 use Rattle.number.proofs.Walk.{via}
 use Rattle.number.specs.Arith.{decimal}
 use lib.Ieee.{of_bits}
 use Rattle.saftvrmie_chain_ends.proofs.chain.link_term.Goals as goal
 
-pub returns-in_default : goal.returns-in_default
+pub returns-in_err-g : goal.returns-in_err-g
 unfolding link_of ◌>>=◌ decimal of_bits
-returns-in_default c =
-    rw (
-      ← c.point-eps_k.ensures,
-      ← c.pow_up.ensures,
-      ← c.link_pref-pref.ensures,
-      ← c.mul-beta_eps.ensures,
-      ← c.point.ensures,
-      ← c.x0_of-x0.ensures,
-      via answer c.g_hs.ensures c.in_default.is,
-    )
+returns-in_err-g c = search rules
 
-pub returns-in_default-gamma : goal.returns-in_default-gamma
+pub returns-in_err-gamma : goal.returns-in_err-gamma
 unfolding link_of ◌>>=◌ decimal of_bits
-returns-in_default-gamma c =
-    rw (
-      ← c.point-eps_k.ensures,
-      ← c.pow_up.ensures,
-      ← c.link_pref-pref.ensures,
-      ← c.mul-beta_eps.ensures,
-      ← c.point.ensures,
-      ← c.x0_of-x0.ensures,
-      via answer c.g_hs.ensures c.in-Value.is,
-      ← c.point-alpha.ensures,
-      via answer c.gamma.ensures c.in_default-gamma.is,
-    )
+returns-in_err-gamma c = search rules
 
-pub returns-in_default-ln_g_mie : goal.returns-in_default-ln_g_mie
+pub returns-in_err-ln_g : goal.returns-in_err-ln_g
 unfolding link_of ◌>>=◌ decimal of_bits
-returns-in_default-ln_g_mie c =
-    rw (
-      ← c.point-eps_k.ensures,
-      ← c.pow_up.ensures,
-      ← c.link_pref-pref.ensures,
-      ← c.mul-beta_eps.ensures,
-      ← c.point.ensures,
-      ← c.x0_of-x0.ensures,
-      via answer c.g_hs.ensures c.in-Value.is,
-      ← c.point-alpha.ensures,
-      via answer c.gamma.ensures c.in-Value-gamma.is,
-      c.point-alpha.ensures,
-      c.point.ensures,
-      c.point-eps_k.ensures,
-      ← c.point-one.ensures,
-      ← c.g2_mca.ensures,
-      ← c.add.ensures,
-      ← c.mul-g2.ensures,
-      ← c.g1.ensures,
-      via answer c.ln_g_mie.ensures c.in_default-ln_g_mie.is,
-    )
+returns-in_err-ln_g c = search rules
 
 pub returns : goal.returns
 unfolding link_of ◌>>=◌ decimal of_bits
@@ -69,9 +30,9 @@ returns c =
       ← c.mul-beta_eps.ensures,
       ← c.point.ensures,
       ← c.x0_of-x0.ensures,
-      via answer c.g_hs.ensures c.in-Value.is,
+      via answer c.g_hs.ensures c.in_ok-g.was,
       ← c.point-alpha.ensures,
-      via answer c.gamma.ensures c.in-Value-gamma.is,
+      via answer c.gamma.ensures c.in_ok-gamma.was,
       c.point-alpha.ensures,
       c.point.ensures,
       c.point-eps_k.ensures,
@@ -80,7 +41,7 @@ returns c =
       ← c.add.ensures,
       ← c.mul-g2.ensures,
       ← c.g1.ensures,
-      via answer c.ln_g_mie.ensures c.in-Value-ln_g_mie.is,
+      via answer c.ln_g_mie.ensures c.in_ok-ln_g.was,
       ← c.neg.ensures,
       ← c.sub.ensures,
       ← c.mul-links.ensures,

@@ -1,4 +1,5 @@
 -- `saftvrmie_chain_ends::orders::a1s_b_ij_dual` meets its contract. Assumes nothing.
+use Rattle.std.proofs.Common.{rules}
 use Rattle.saftvrmie_dispersion_ends.proofs.Shared.{a1s_b_is}
 use Rattle.saftvrmie_dispersion.specs.Sutherland.{a1s_b, b_of}
 use lib.Ieee.{of_bits}
@@ -10,21 +11,21 @@ use Rattle.number.specs.Ans.{held, ◌>>=◌}
 use Rattle.saftvrmie_dispersion_ends.specs.Shared.{a1s_b_by}
 use Rattle.saftvrmie_chain_ends.proofs.Sums.{plain_times_sum}
 use Rattle.number.proofs.Walk.{via}
-use Rattle.enclosure.specs.Answer.{answer}
+use Rattle.number.specs.Answer.{answer}
 use Rattle.saftvrmie_chain_ends.proofs.orders.a1s_b_ij_dual.Goals as goal
 
-pub returns-in_default : goal.returns-in_default
+pub returns-in_err-p : goal.returns-in_err-p
 unfolding a1s_b ◌>>=◌ decimal of_bits
-returns-in_default c = rw (← c.point.ensures, ← c.sub-l3.ensures, ← c.point-2.ensures, ← c.sub-l4.ensures, via answer c.power_of.ensures c.in_default.is)
+returns-in_err-p c = search rules
 
-pub returns-in_default-power_of : goal.returns-in_default-power_of
+pub returns-in_err-p3 : goal.returns-in_err-p3
 unfolding a1s_b ◌>>=◌ decimal of_bits
-returns-in_default-power_of c = rw (← c.point.ensures, ← c.sub-l3.ensures, ← c.point-2.ensures, ← c.sub-l4.ensures, via answer c.power_of.ensures c.in-Value.is, via answer c.power_of-2.ensures c.in_default-power_of.is)
+returns-in_err-p3 c = search rules
 
-pub returns-in_default-power_of-2 : goal.returns-in_default-power_of-2
+pub returns-in_err-p4 : goal.returns-in_err-p4
 unfolding a1s_b ◌>>=◌ decimal of_bits
-returns-in_default-power_of-2 c = rw (← c.point.ensures, ← c.sub-l3.ensures, ← c.point-2.ensures, ← c.sub-l4.ensures, via answer c.power_of.ensures c.in-Value.is, via answer c.power_of-2.ensures c.in-Value-power_of.is, via answer c.power_of-3.ensures c.in_default-power_of-2.is)
+returns-in_err-p4 c = search rules
 
 pub returns : goal.returns
 unfolding a1s_b a1s_b_by b_of ◌>>=◌ decimal of_bits
-returns c = rw (← c.point.ensures, ← c.sub-l3.ensures, ← c.point-2.ensures, ← c.sub-l4.ensures, via answer c.power_of.ensures c.in-Value.is, via answer c.power_of-2.ensures c.in-Value-power_of.is, via answer c.power_of-3.ensures c.in-Value-power_of-2.is, a1s_b_is (duals enclosures) (plain_d enclosures), ← c.lambda_of-of.ensures, ← c.times_i-i.ensures, ← c.times_j-j.ensures, ← c.b_dual-b.ensures, ← c.a1s_ij_dual-a.ensures) (ap (λ x. held x) (plain_times_sum _ _ _ c.add-s.ensures c.add.ensures c.mul-right.ensures c.mul.ensures c.zero_times.ensures c.add-2.ensures))
+returns c = rw (← c.point.ensures, ← c.sub-l3.ensures, ← c.point-2.ensures, ← c.sub-l4.ensures, via answer c.power_of.ensures c.in_ok-p.was, via answer c.power_of-2.ensures c.in_ok-p3.was, via answer c.power_of-3.ensures c.in_ok-p4.was, a1s_b_is (duals enclosures) (plain_d enclosures), ← c.lambda_of-of.ensures, ← c.times_i-i.ensures, ← c.times_j-j.ensures, ← c.b_dual-b.ensures, ← c.a1s_ij_dual-a.ensures) (ap (λ x. held x) (plain_times_sum _ _ _ c.add-s.ensures c.add.ensures c.mul-right.ensures c.mul.ensures c.zero_times.ensures c.add-2.ensures))

@@ -1,4 +1,5 @@
 -- `saftvrmie_dispersion::chain::gamma` meets its contract. Assumes nothing.
+use Rattle.std.proofs.Common.{rules}
 use Rattle.number.proofs.Walk.{via}
 use Rattle.number.specs.Functions.{answered}
 use lib.Ieee.{of_bits}
@@ -8,32 +9,23 @@ use Rattle.saftvrmie_dispersion.specs.Chain.{gamma_of}
 use Rattle.number.specs.Ans.{◌>>=◌}
 use Rattle.saftvrmie_dispersion.proofs.chain.gamma.Goals as goal
 
-pub returns-in_default : goal.returns-in_default
+pub returns-in_err-e : goal.returns-in_err-e
 unfolding gamma_of ◌>>=◌ answered decimal of_bits
-returns-in_default c = rw
-    (via answer c.exp_m1.ensures c.in_default.is)
+returns-in_err-e c = search rules
 
-pub returns-in_default-tanh : goal.returns-in_default-tanh
+pub returns-in_err-t : goal.returns-in_err-t
 unfolding gamma_of ◌>>=◌ answered decimal of_bits
-returns-in_default-tanh c = rw (
-  via answer c.exp_m1.ensures c.in-Value.is,
-  via answer c.tanh.ensures c.in_default-tanh.is,
-)
+returns-in_err-t c = search rules
 
-pub returns-in_default-exp : goal.returns-in_default-exp
+pub returns-in_err-g : goal.returns-in_err-g
 unfolding gamma_of ◌>>=◌ answered decimal of_bits
-returns-in_default-exp c = rw (
-  via answer c.exp_m1.ensures c.in-Value.is,
-  via answer c.tanh.ensures c.in-Value-tanh.is,
-  ← c.pow_up.ensures,
-  via answer c.exp.ensures c.in_default-exp.is,
-)
+returns-in_err-g c = search rules
 
 pub returns : goal.returns
 unfolding gamma_of ◌>>=◌ answered decimal of_bits
 returns c = rw (
-  via answer c.exp_m1.ensures c.in-Value.is,
-  via answer c.tanh.ensures c.in-Value-tanh.is,
+  via answer c.exp_m1.ensures c.in_ok-e.was,
+  via answer c.tanh.ensures c.in_ok-t.was,
   ← c.pow_up.ensures,
-  via answer c.exp.ensures c.in-Value-exp.is,
+  via answer c.exp.ensures c.in_ok-g.was,
 )

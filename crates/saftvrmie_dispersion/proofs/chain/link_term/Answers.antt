@@ -1,4 +1,5 @@
 -- `saftvrmie_dispersion::chain::link_term` meets its contract. Assumes nothing.
+use Rattle.std.proofs.Common.{rules}
 use Rattle.number.proofs.Walk.{via}
 use lib.Ieee.{of_bits}
 use Rattle.number.specs.Arith.{decimal}
@@ -7,37 +8,17 @@ use Rattle.saftvrmie_dispersion.specs.Chain.{link_of}
 use Rattle.number.specs.Ans.{◌>>=◌}
 use Rattle.saftvrmie_dispersion.proofs.chain.link_term.Goals as goal
 
-pub returns-in_default : goal.returns-in_default
+pub returns-in_err-g : goal.returns-in_err-g
 unfolding link_of ◌>>=◌ decimal of_bits
-returns-in_default c = rw (
-  ← c.pow_up.ensures,
-  ← c.link_pref-pref.ensures,
-  ← c.x0_of.ensures,
-  via answer c.g_hs.ensures c.in_default.is,
-)
+returns-in_err-g c = search rules
 
-pub returns-in_default-gamma : goal.returns-in_default-gamma
+pub returns-in_err-gamma : goal.returns-in_err-gamma
 unfolding link_of ◌>>=◌ decimal of_bits
-returns-in_default-gamma c = rw (
-  ← c.pow_up.ensures,
-  ← c.link_pref-pref.ensures,
-  ← c.x0_of.ensures,
-  via answer c.g_hs.ensures c.in-Value.is,
-  via answer c.gamma.ensures c.in_default-gamma.is,
-)
+returns-in_err-gamma c = search rules
 
-pub returns-in_default-ln_g_mie : goal.returns-in_default-ln_g_mie
+pub returns-in_err-ln_g : goal.returns-in_err-ln_g
 unfolding link_of ◌>>=◌ decimal of_bits
-returns-in_default-ln_g_mie c = rw (
-  ← c.pow_up.ensures,
-  ← c.link_pref-pref.ensures,
-  ← c.x0_of.ensures,
-  via answer c.g_hs.ensures c.in-Value.is,
-  via answer c.gamma.ensures c.in-Value-gamma.is,
-  ← c.g2_mca.ensures,
-  ← c.g1.ensures,
-  via answer c.ln_g_mie.ensures c.in_default-ln_g_mie.is,
-)
+returns-in_err-ln_g c = search rules
 
 pub returns : goal.returns
 unfolding link_of ◌>>=◌ decimal of_bits
@@ -45,9 +26,9 @@ returns c = rw (
   ← c.pow_up.ensures,
   ← c.link_pref-pref.ensures,
   ← c.x0_of.ensures,
-  via answer c.g_hs.ensures c.in-Value.is,
-  via answer c.gamma.ensures c.in-Value-gamma.is,
+  via answer c.g_hs.ensures c.in_ok-g.was,
+  via answer c.gamma.ensures c.in_ok-gamma.was,
   ← c.g2_mca.ensures,
   ← c.g1.ensures,
-  via answer c.ln_g_mie.ensures c.in-Value-ln_g_mie.is,
+  via answer c.ln_g_mie.ensures c.in_ok-ln_g.was,
 )

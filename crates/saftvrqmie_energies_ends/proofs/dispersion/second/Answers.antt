@@ -1,8 +1,8 @@
 -- `saftvrqmie_energies_ends::dispersion::second` meets its contract. Assumes nothing.
 use mathlib.Core.Path.{◌∙◌, ap}
-use Rattle.enclosure.specs.Answer.{answer}
+use Rattle.number.specs.Answer.{answer}
 use Rattle.number.specs.Ans.{held, ◌>>=◌}
-use Rattle.number.proofs.Walk.{walk_none, walk_next, walk_stop, walk_end, via}
+use Rattle.number.proofs.Walk.{walk_none, walk_next, walk_stop, walk_end, via, handed_on}
 use lib.Ieee.{of_bits}
 use Rattle.number.specs.Arith.{decimal}
 use native.Mathlib.Omega.{arith}
@@ -17,9 +17,9 @@ loop-i-init c = (search rules, ap held c.point-a2.ensures ∙ walk_none _ _)
 pub second_row-requires : goal.second_row-requires
 second_row-requires c = (c.requires.0, c.requires.1, c.loop-i-test.true, c.requires.2)
 
-pub returns-in_default : goal.returns-in_default
+pub returns-in_err-next : goal.returns-in_err-next
 unfolding second ◌>>=◌
-returns-in_default c = rw (← (walk_stop _ _ _ _ _ _ c.loop-i-test.true c.loop-i.invariant.1 (via answer c.second_row.ensures c.in_default.is)))
+returns-in_err-next c = rw (handed_on _ c.from_residual.ensures, ← (walk_stop _ _ _ _ _ _ c.loop-i-test.true c.loop-i.invariant.1 (via answer c.second_row.ensures c.in_err-next.was)))
 
 pub overflow_step-i : goal.overflow_step-i
 overflow_step-i c = omega (arith, c.loop-i-test.true, c.requires.0)
@@ -28,7 +28,7 @@ pub loop-i-smaller : goal.loop-i-smaller
 loop-i-smaller c = omega (arith, c.loop-i-test.true)
 
 pub loop-i-preserved : goal.loop-i-preserved
-loop-i-preserved c = (omega (arith, c.loop-i-test.true), walk_next _ _ _ _ _ c.loop-i.invariant.1 (via answer c.second_row.ensures c.in-Value.is))
+loop-i-preserved c = (omega (arith, c.loop-i-test.true), walk_next _ _ _ _ _ c.loop-i.invariant.1 (via answer c.second_row.ensures c.in_ok-next.was))
 
 pub returns : goal.returns
 unfolding second ◌>>=◌

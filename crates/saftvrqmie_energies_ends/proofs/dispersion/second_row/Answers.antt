@@ -1,8 +1,8 @@
 -- `saftvrqmie_energies_ends::dispersion::second_row` meets its contract. Assumes nothing.
 use mathlib.Core.Path.{ap}
-use Rattle.enclosure.specs.Answer.{answer}
+use Rattle.number.specs.Answer.{answer}
 use Rattle.enclosure.specs.Enclosure.{enclosures}
-use Rattle.number.proofs.Walk.{walk_none, walk_next, walk_stop, walk_end}
+use Rattle.number.proofs.Walk.{walk_none, walk_next, walk_stop, walk_end, handed_on}
 use lib.Ieee.{of_bits}
 use Rattle.number.specs.Arith.{decimal}
 use native.Mathlib.Omega.{arith}
@@ -16,9 +16,9 @@ use Rattle.saftvrqmie_energies_ends.proofs.dispersion.second_row.Goals as goal
 pub loop-k-init : goal.loop-k-init
 loop-k-init c = (search rules, search rules, walk_none _ _)
 
-pub returns-in_default : goal.returns-in_default
+pub returns-in_err-v : goal.returns-in_err-v
 unfolding second_row
-returns-in_default c = rw (← c.loop-k.invariant.0) (walk_stop _ _ _ _ _ _ c.loop-k-test.true c.loop-k.invariant.2 (second_outside enclosures _ _ _ _ _ _ _ _ _ c.perturbed_pair-pair.ensures (nth enclosures (enclosures_from c.args.values.now c.args.lower.now c.args.upper.now c.args.sound.now)) c.second_order_perturbation_ij.ensures _ (ap answer c.in_default.is)))
+returns-in_err-v c = rw (handed_on _ c.from_residual.ensures, ← c.loop-k.invariant.0) (walk_stop _ _ _ _ _ _ c.loop-k-test.true c.loop-k.invariant.2 (second_outside enclosures _ _ _ _ _ _ _ _ _ c.perturbed_pair-pair.ensures (nth enclosures (enclosures_from c.args.values.now c.args.lower.now c.args.upper.now c.args.sound.now)) c.second_order_perturbation_ij.ensures _ (ap answer c.in_err-v.was)))
 
 pub entry_of-d-requires : goal.entry_of-d-requires
 entry_of-d-requires c = (omega arith, omega (arith, c.loop-k-test.true, c.loop-k.invariant.0, c.requires.0, c.requires.2), c.requires.1)
@@ -46,7 +46,7 @@ loop-k-smaller c = omega (arith, c.loop-k-test.true)
 
 pub loop-k-preserved : goal.loop-k-preserved
 unfolding decimal of_bits
-loop-k-preserved c = (c.loop-k.invariant.0, omega (arith, c.loop-k-test.true), walk_next _ _ _ _ _ c.loop-k.invariant.2 (second_held enclosures _ _ _ _ _ _ _ _ _ c.perturbed_pair-pair.ensures _ c.second_order_perturbation_ij.ensures _ _ _ _ _ (ap answer c.in-Value.is) (rw (c.entry_of-d.ensures, c.at_component-xi.ensures, c.at_component-xj.ensures) at c.lead-c.ensures) (rw c.alpha_at-a.ensures at c.chi-chi.ensures) (rw (c.add.ensures, c.point-one.ensures) at c.mul-f.ensures) c.plus_product-a2.ensures))
+loop-k-preserved c = (c.loop-k.invariant.0, omega (arith, c.loop-k-test.true), walk_next _ _ _ _ _ c.loop-k.invariant.2 (second_held enclosures _ _ _ _ _ _ _ _ _ c.perturbed_pair-pair.ensures _ c.second_order_perturbation_ij.ensures _ _ _ _ _ (ap answer c.in_ok-v.was) (rw (c.entry_of-d.ensures, c.at_component-xi.ensures, c.at_component-xj.ensures) at c.lead-c.ensures) (rw c.alpha_at-a.ensures at c.chi-chi.ensures) (rw (c.add.ensures, c.point-one.ensures) at c.mul-f.ensures) c.plus_product-a2.ensures))
 
 pub returns : goal.returns
 unfolding second_row

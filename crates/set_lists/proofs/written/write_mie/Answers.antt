@@ -1,10 +1,6 @@
 use native.Mathlib.Omega.{arith}
 use Rattle.set_lists.proofs.Sets.{mie_lengths_told}
 use Rattle.set_lists.specs.Written.{mie_written}
-use Rattle.set_lists.proofs.written.write_mie.Reads as reads
-use Rattle.set_lists.proofs.written.write_mie.Lts as lts
-use Rattle.set_lists.proofs.written.write_lists.Reads as write-lists-reads
-use Rattle.set_lists.proofs.written.write_sheets.Reads as write-sheets-reads
 use Rattle.set_lists.proofs.written.write_mie.Goals as goal
 
 -- src/written.rt:98:5

@@ -1,11 +1,6 @@
 use native.Mathlib.Omega.{arith}
 use Rattle.set_lists.proofs.Sets.{lengths}
 use Rattle.set_lists.specs.Written.{set_written}
-use Rattle.set_lists.proofs.written.write_quantum.Reads as reads
-use Rattle.set_lists.proofs.written.write_quantum.Lts as lts
-use Rattle.set_lists.proofs.written.orders_written.Reads as orders-written-reads
-use Rattle.set_lists.proofs.written.write_places.Reads as write-places-reads
-use Rattle.set_lists.proofs.written.write_sheets.Reads as write-sheets-reads
 use Rattle.set_lists.proofs.written.write_quantum.Goals as goal
 
 -- src/written.rt:83:5

@@ -1,0 +1,12 @@
+-- `enclosure::Enclosure::frac_pi_6` meets its contract: its numbers are the constant's float and ends. Assumes nothing.
+use mathlib.Core.Path.{refl}
+use lib.Ieee.{of_bits, to_bits, fits}
+use Rattle.number.specs.Neighbour.{step_up, step_down, next_up, next_down}
+use Rattle.interval.specs.Interval as Interval
+use Rattle.enclosure.specs.Constants.{below, above}
+use Rattle.enclosure.specs.Enclosure.{constant_e}
+use Rattle.enclosure.proofs.Enclosure.frac_pi_6.Goals as goal
+
+pub returns : goal.returns
+unfolding constant_e below above next_up next_down step_up step_down to_bits of_bits fits Interval.point
+returns c = refl

@@ -1,9 +1,0 @@
--- `enclosure::add` meets its contract. Assumes nothing.
-use Rattle.enclosure.specs.Enclosure.{add_e}
-use Rattle.enclosure.proofs.add.Goals as goal
-
-pub returns : goal.returns
-unfolding add_e
-returns c =
-    rw
-    c.add.ensures

@@ -1,9 +1,0 @@
--- `enclosure::after` meets its contract. Assumes nothing.
-use Rattle.enclosure.specs.Enclosure.{after_e}
-use Rattle.enclosure.proofs.after.Goals as goal
-
-pub returns : goal.returns
-unfolding after_e
-returns c =
-    rw
-    c.after.ensures

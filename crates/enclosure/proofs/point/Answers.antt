@@ -1,9 +1,0 @@
--- `enclosure::point` meets its contract. Assumes nothing.
-use Rattle.enclosure.specs.Enclosure.{point}
-use Rattle.enclosure.proofs.point.Goals as goal
-
-pub returns : goal.returns
-unfolding point
-returns c =
-    rw
-    c.point.ensures

@@ -1,0 +1,15 @@
+-- `enclosure_dual::EnclosureDual::pow_up` meets its contract. Assumes nothing.
+use Rattle.enclosure.specs.Enclosure.{enclosures}
+use Rattle.dual.proofs.Power.{pow_zero, pow_above}
+use Rattle.enclosure_dual.specs.Value.{dual_of}
+use Rattle.enclosure_dual.proofs.EnclosureDual.pow_up.Goals as goal
+
+pub returns-then-n-eq0 : goal.returns-then-n-eq0
+unfolding dual_of
+returns-then-n-eq0 c = pow_zero enclosures _ _ _ _ c.if-n-eq0.true c.pow_up.ensures c.point.ensures
+
+pub returns : goal.returns
+unfolding dual_of
+returns c =
+    rw (c.mul.ensures, c.mul-factor.ensures)
+    (pow_above enclosures _ _ _ _ _ c.if-n-eq0.false c.pow_up-2.ensures c.pow_up-below.ensures c.point-2.ensures)

@@ -1,0 +1,28 @@
+-- `interval::IntervalDiv::div` meets its contract. Assumes nothing.
+use Rattle.interval.proofs.Near.{by_chosen, one_sound, one_sign_told, outward_same, above_tests, below_tests, goes_up, goes_down}
+use mathlib.Core.Path.{sym, ◌∙◌}
+use mathlib.Core.Bool.{true, ◌&&◌}
+use lib.Ieee.{lt, of_bits}
+use Rattle.number.specs.Arith.{zero64}
+use Rattle.interval.specs.Interval.{one_sign, div_i}
+use Rattle.interval.proofs.IntervalDiv.div.Goals as goal
+
+pub rising-requires : goal.rising-requires
+unfolding of_bits
+rising-requires c = goes_up true _ _ _ (by_chosen true _ _ _ _ _ _ c.if-self-y.true c.chosen.ensures c.chosen-then-self-y.ensures (above_tests _ _ (sym c.above.ensures ∙ c.if-above.true))) (sym c.above.ensures ∙ c.if-above.true)
+
+pub returns-then-above : goal.returns-then-above
+unfolding div_i one_sign of_bits
+returns-then-above c = c.rising.ensures ∙ outward_same _ _ _ _ (one_sound (c.args.self.sound && c.args.y.sound) (lt zero64 c.args.y.lower) (lt c.args.y.upper zero64) (one_sign_told true _ _ _ _ c.if-self-y.true)) ∙ (by_chosen _ _ _ _ _ _ _ c.if-self-y.true c.chosen.ensures c.chosen-then-self-y.ensures (above_tests _ _ (sym c.above.ensures ∙ c.if-above.true))).is
+
+pub falling-requires : goal.falling-requires
+unfolding of_bits
+falling-requires c = goes_down true _ _ _ (by_chosen true _ _ _ _ _ _ c.if-self-y.true c.chosen.ensures c.chosen-then-self-y.ensures (below_tests _ _ (sym c.below.ensures ∙ c.if-below.true))) (sym c.below.ensures ∙ c.if-below.true)
+
+pub returns-then-below : goal.returns-then-below
+unfolding div_i one_sign of_bits
+returns-then-below c = c.falling.ensures ∙ outward_same _ _ _ _ (one_sound (c.args.self.sound && c.args.y.sound) (lt zero64 c.args.y.lower) (lt c.args.y.upper zero64) (one_sign_told true _ _ _ _ c.if-self-y.true)) ∙ (by_chosen _ _ _ _ _ _ _ c.if-self-y.true c.chosen.ensures c.chosen-then-self-y.ensures (below_tests _ _ (sym c.below.ensures ∙ c.if-below.true))).is
+
+pub returns : goal.returns
+unfolding div_i one_sign of_bits
+returns c = c.corners-q.ensures

@@ -1,6 +1,0 @@
--- `interval::point` meets its contract. Assumes nothing.
-use Rattle.interval.proofs.Points.{point_is}
-use Rattle.interval.proofs.point.Goals as goal
-
-pub returns : goal.returns
-returns c = point_is _ _ c.is_finite.ensures c.well_formed.0.1

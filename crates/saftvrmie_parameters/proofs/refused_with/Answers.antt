@@ -1,8 +1,0 @@
--- `saftvrmie_parameters::refused_with` meets its contract. Assumes nothing.
-use Rattle.saftvrmie_parameters.specs.Parameters.{given}
-use mathlib.Core.Path.{refl}
-use Rattle.saftvrmie_parameters.proofs.refused_with.Goals as goal
-
-pub returns : goal.returns
-unfolding given
-returns c = refl

@@ -1,9 +1,0 @@
--- `saftvrqmie_alpha_slopes_one::alpha_mie` meets its contract. Assumes nothing.
-use lib.Ieee.{of_bits}
-use Rattle.number.specs.Arith.{decimal}
-use Rattle.saftvrqmie_dispersion.specs.Alpha.{alpha_mie}
-use Rattle.saftvrqmie_alpha_slopes_one.proofs.alpha_mie.Goals as goal
-
-pub returns : goal.returns
-unfolding alpha_mie decimal of_bits
-returns c = rw (c.sub.ensures, c.over-2.ensures, c.over.ensures)

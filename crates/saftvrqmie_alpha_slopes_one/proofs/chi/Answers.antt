@@ -1,9 +1,0 @@
--- `saftvrqmie_alpha_slopes_one::chi` meets its contract. Assumes nothing.
-use lib.Ieee.{of_bits}
-use Rattle.number.specs.Arith.{decimal}
-use Rattle.saftvrqmie_dispersion.specs.Alpha.{chi}
-use Rattle.saftvrqmie_alpha_slopes_one.proofs.chi.Goals as goal
-
-pub returns : goal.returns
-unfolding chi decimal of_bits
-returns c = rw (← c.f-f0.ensures, ← c.f-f1.ensures, ← c.f-f2.ensures, c.add.ensures, c.mul-3.ensures, c.eighth.ensures, c.add-two.ensures, c.mul-2.ensures, c.fifth.ensures, c.mul.ensures)

@@ -1,8 +1,0 @@
--- `saftvrqmie_dispersion_slopes_one::quantum_1` meets its contract. Assumes nothing.
-use Rattle.saftvrqmie_dispersion.specs.Perturbation.{quantum1}
-use Rattle.saftvrqmie_dispersion_slopes_one.proofs.Laws.{q1_plain}
-use Rattle.saftvrqmie_dispersion_slopes_one.proofs.quantum_1.Goals as goal
-
-pub returns : goal.returns
-unfolding quantum1
-returns c = rw (c.times.ensures, c.q1_of.ensures, q1_plain _)

@@ -1,7 +1,0 @@
--- `saftvrqmie_dispersion_slopes_one::quantum_of` meets its contract. Assumes nothing.
-use Rattle.saftvrqmie_dispersion.specs.Perturbation.{quantum_of}
-use Rattle.saftvrqmie_dispersion_slopes_one.proofs.quantum_of.Goals as goal
-
-pub returns : goal.returns
-unfolding quantum_of
-returns c = rw (c.quantum_2-2.ensures, c.quantum_2.ensures, c.quantum_1-2.ensures, c.quantum_1.ensures)

@@ -1,9 +1,0 @@
--- `saftvrqmie_dispersion_terms_slopes_one::b_of` meets its contract. Assumes nothing.
-use lib.Ieee.{of_bits, neg}
-use Rattle.number.specs.Arith.{decimal}
-use Rattle.saftvrqmie_dispersion_terms.specs.Terms.{b_of}
-use Rattle.saftvrqmie_dispersion_terms_slopes_one.proofs.b_of.Goals as goal
-
-pub returns : goal.returns
-unfolding b_of decimal of_bits neg
-returns c = rw (c.times-2.ensures, c.times.ensures, c.mul-3.ensures, c.add-sum.ensures, c.mul-2.ensures, c.mul.ensures)

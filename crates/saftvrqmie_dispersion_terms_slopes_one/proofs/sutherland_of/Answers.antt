@@ -1,9 +1,0 @@
--- `saftvrqmie_dispersion_terms_slopes_one::sutherland_of` meets its contract. Assumes nothing.
-use lib.Ieee.{of_bits, neg}
-use Rattle.number.specs.Arith.{decimal}
-use Rattle.saftvrqmie_dispersion_terms.specs.Terms.{sutherland_of}
-use Rattle.saftvrqmie_dispersion_terms_slopes_one.proofs.sutherland_of.Goals as goal
-
-pub returns : goal.returns
-unfolding sutherland_of decimal of_bits neg
-returns c = rw (c.div.ensures, c.over.ensures, c.cube-below.ensures, c.plus.ensures, c.times-scaled.ensures, c.mul.ensures, c.times-2.ensures, c.plus-half.ensures, c.times.ensures, c.neg-minus.ensures)

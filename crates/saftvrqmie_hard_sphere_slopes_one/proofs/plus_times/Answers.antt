@@ -1,9 +1,0 @@
--- `saftvrqmie_hard_sphere_slopes_one::plus_times` meets its contract. Assumes nothing.
-use Rattle.saftvrqmie_hard_sphere_slopes_one.proofs.plus_times.Goals as goal
-
-pub returns : goal.returns
-returns c =
-    rw (
-      c.add.ensures,
-      c.times.ensures,
-    )
