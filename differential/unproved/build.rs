@@ -1,8 +1,8 @@
-//! Makes one Rust crate of the Rattle crates that `domthelv_c` needs: clauses, attributes and ghost imports taken out, types copied freely,
+//! Makes one Rust crate of the Rattle crates that `domthelv_c` needs: clauses, attributes and ghost items taken out, types copied freely,
 //! and each exported function wrapped so that a slice crosses as a pointer and a length.
 use std::{env, fs, path::Path};
 
-/// The text without clauses (`requires {..}`, `ensures name {..}`), attributes and ghost imports.
+/// The text without clauses (`requires {..}`, `ensures name {..}`), attributes, ghost items, and the bound `Drop`, which every type of Rust meets.
 fn without_contracts(text: &str) -> String {
     let mut out = String::new();
     let mut rest = text;
@@ -11,6 +11,10 @@ fn without_contracts(text: &str) -> String {
         let word = line.trim_start();
         if word.starts_with("ghost use ") {
             rest = &rest[rest.find(";\n").unwrap() + 2..];
+        } else if word.starts_with("ghost ") {
+            rest = after_brackets(rest, '{', '}').trim_start_matches([';', ' ', '\n']);
+        } else if word.trim_end() == "+ Drop" {
+            rest = &rest[line.len()..];
         } else if ["requires", "ensures"].iter().any(|w| word.strip_prefix(w).is_some_and(|w| w.starts_with([' ', '*']))) {
             rest = after_brackets(rest, '{', '}');
         } else if word.starts_with("#[") || word.starts_with("#![") {
@@ -60,14 +64,21 @@ const EXPORTED: &str = "pub extern \"C\" fn ";
 /// Imports from other crates as modules of this one; structs and enums as values.
 fn as_module(name: &str, uses: &[&str], text: &str) -> String {
     let mut out = format!("pub mod {name} {{\n");
+    let own: Vec<&str> = text.lines().filter_map(|l| l.trim_start_matches("pub ").strip_prefix("mod ")?.strip_suffix(" {")).collect();
     let others: String = uses.iter().map(|other| format!("use crate::{other};\n")).collect();
     out += &others;
     for line in text.lines() {
         let item = line.strip_prefix("pub ").unwrap_or(line);
         if let Some(path) = item.strip_prefix("use ") {
             let seen = &line[..line.len() - item.len()];
-            let path = path.strip_prefix("crate::").map_or(path.to_string(), |own| format!("{name}::{own}"));
-            out += &format!("{seen}use crate::{path}\n");
+            let first = path.split([':', ';']).next().unwrap();
+            let path = match path.strip_prefix("crate::") {
+                Some(rest) => format!("crate::{name}::{rest}"),
+                None if first == "std" => path.into(),
+                None if own.contains(&first) => format!("crate::{name}::{path}"),
+                None => format!("crate::{path}"),
+            };
+            out += &format!("{seen}use {path}\n");
             continue;
         }
         if item.starts_with("struct ") || item.starts_with("enum ") {

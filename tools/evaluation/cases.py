@@ -426,9 +426,9 @@ class Cases:
             told = q[1] if q[0] == "held" else lent
             yield compared(name, f"{0 if q[0] == 'held' else q[1]} {told.length} {bytes(told.card).hex()}", wanted)
         verdict = self.c.get("mie_parameters", "Answer", "verdict")
-        for q in (("held", 0), ("refused", 1), ("refused", 5), ("refused", 6)):
-            answers = [self.c.get("card_of_lists", "Cards", name) for name in ("passed_answer", "passed")]
-            yield compared(f"what passes of {q}", answers[0](verdict(q)), verdict(answers[1](q)))
+        by, passed = (self.c.get("card_of_lists", "Cards", name) for name in ("passed_by", "passed"))
+        for q, refusal in ((("held", 0), ("None",)), (("refused", 1), ("Some", ("Length",))), (("refused", 5), ("Some", ("MixedOrders",))), (("refused", 6), ("Some", ("Domain",)))):
+            yield compared(f"what passes of {q}", by(refusal), verdict(passed(q)))
         spared = self.c.get("card", "Fields", "read_spared")
         for bits, wanted in (("01", (0, "1")), ("10110", (3, "0")), ("1000", 15), ("", 9), ("101", 9)):
             q = spared(3, tuple(b == "1" for b in bits))

@@ -100,11 +100,15 @@ class Quantum:
         self.c = c
         self.number = c.get("saftvrqmie_potential", "Potential", "order_number")
         self.stored = c.get("mie_parameters", "Answer", "stored")
-        self.keep(c.get("saftvrqmie_parameters", "Parameters", "empty_set")())
+        self.keep(("refused",))
         self.table, self.counts = (0.0,) * TABLE, (0,) * COUNTS
 
-    def keep(self, s):
-        self.count, self.m, self.sheets, self.orders = s.count, s.m, s.sheets, tuple(self.number(o.order) for o in s.orders)
+    # the set of an answer; beside a refusal the files have count 0 and all +0
+    def keep(self, a):
+        self.count, self.m, self.sheets, self.orders = 0, (0.0,) * SIDE, (0.0,) * SHEETS, (0,) * SHEET
+        if a[0] == "held":
+            s = a[1]
+            self.count, self.m, self.sheets, self.orders = s.count, s.m, s.sheets, tuple(self.number(o.order) for o in s.orders)
 
     # the set as the definitions have it
     def record(self):
@@ -177,7 +181,7 @@ class Quantum:
 
     def parameters(self, lists):
         a = self.c.get("saftvrqmie_parameters", "Parameters", "saft_vrq_mie_pars")(lists)
-        self.keep(self.c.get("saftvrqmie_parameters", "Parameters", "given")(a).set)
+        self.keep(a)
         written = operation(self.c, "vrq_parameters")(lists, self.c.record(m=OUT[:SIDE], sheets=OUT, orders=(7,) * SHEET))
         if refusal(written) != refusal(a) or (a[0] == "held" and not same((written[1].m, written[1].sheets, written[1].orders), (self.m, self.sheets, self.orders))):
             return None, []
@@ -196,11 +200,15 @@ class Mie:
     def __init__(self, c):
         self.c = c
         self.stored = c.get("mie_parameters", "Answer", "stored")
-        self.keep(c.get("saftvrmie_parameters", "Parameters", "empty_set")())
+        self.keep(("refused",))
         self.diameters = (0.0,) * SIDE
 
-    def keep(self, s):
-        self.count, self.lists, self.sheets = s.count, s.m + s.sigma + s.epsilon_k + s.lr + s.la, s.sheets
+    # the set of an answer; beside a refusal the files have count 0 and all +0
+    def keep(self, a):
+        self.count, self.lists, self.sheets = 0, (0.0,) * LISTS, (0.0,) * SHEETS
+        if a[0] == "held":
+            s = a[1]
+            self.count, self.lists, self.sheets = s.count, s.m + s.sigma + s.epsilon_k + s.lr + s.la, s.sheets
 
     def record(self):
         five = {n: self.lists[SIDE * k:SIDE * (k + 1)] for k, n in enumerate(self.FIVE)}
@@ -247,7 +255,7 @@ class Mie:
 
     def parameters(self, lists):
         a = self.c.get("saftvrmie_parameters", "Parameters", "saft_vr_mie_pars")(lists)
-        self.keep(self.c.get("saftvrmie_parameters", "Parameters", "given")(a).set)
+        self.keep(a)
         written = operation(self.c, "vr_parameters")(lists, self.c.record(lists=OUT[:LISTS], sheets=OUT))
         if refusal(written) != refusal(a) or (a[0] == "held" and not same((written[1].lists, written[1].sheets), (self.lists, self.sheets))):
             return None, []

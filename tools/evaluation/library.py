@@ -1,4 +1,4 @@
-"""The library's names that specs/ uses, in Python, from the library's own statements. A natural number and an integer are an int, a Bool a bool, a list a tuple, a Float a float (every NaN is one), a value of a data type a tuple of its constructor's name and arguments."""
+"""The library's names that specs/ uses, in Python, from the library's own statements. A natural number and an integer are an int, a Bool a bool, a list and a pair a tuple, a Float a float (every NaN is one), a value of a data type a tuple of its constructor's name and arguments."""
 import functools
 import math
 import struct
@@ -176,9 +176,10 @@ def both(a, b):
     return Stated("×")
 
 
-PRELUDE, FLOAT, IEEE, OPTION = "Rattle.std.specs.Prelude", "Rattle.std.specs.Float", "Rattle.std.specs.Float.Ieee", "Rattle.std.proofs.Math.Option"
+LANGUAGE, PRELUDE, FLOAT, IEEE, OPTION = "", "Rattle.std.specs.Prelude", "Rattle.std.specs.Float", "Rattle.std.specs.Float.Ieee", "Rattle.std.proofs.Math.Option"
 # module, and in it name: how many arguments, the Python text with them, or the function where it is not called on all of them
 NATIVE = {
+    LANGUAGE: {"tt": (0, "('tt',)"), "◌,◌": (2, "({0}, {1})")},  # what no `use` brings
     PRELUDE: {
         "zero": (0, "0"), "suc": (1, "({0} + 1)"), "◌+◌": (2, "({0} + {1})"), "◌-◌": (2, "minus({0}, {1})"), "◌*◌": (2, "({0} * {1})"),
         "◌/◌": (2, "quotient({0}, {1})"), "◌%◌": (2, "remainder({0}, {1})"), "◌^◌": (2, "({0} ** {1})"), "max": (2, "max({0}, {1})"), "min": (2, "min({0}, {1})"),
@@ -191,6 +192,7 @@ NATIVE = {
         "length": (1, "len({0})"), "get_or": (3, "get_or({0}, {1}, {2})"), "set": (3, "set_at({0}, {1}, {2})"),
         "slice_index_or": (3, "get_or({0}, {1}, {2})"), "slice_set": (3, "set_at({0}, {1}, {2})"),
         "replicate": (2, "(({1},) * {0})"), "take": (2, "{1}[:{0}]"), "drop": (2, "{1}[{0}:]"),
+        "Ok": (1, "('Ok', {0})"), "Err": (1, "('Err', {0})"), "Some": (1, "('Some', {0})"), "None": (0, "('None',)"),
         "pos": (1, "{0}"), "negsuc": (1, "(-1 - {0})"), "◌≡◌": (2, "same({0}, {1})"),
         "from_bits": (2, "of_bits({0}, {1})"), "to_bits": (2, "to_bits({0}, {1})"), "is_nan": (1, "({0} != {0})"),
     },
@@ -206,7 +208,7 @@ NATIVE = {
     },
     f"{IEEE}.Scale": {"finite": (1, "isfinite({0})")},
 }
-TYPES = {PRELUDE: {"ℕ", "Bool", "List", "ℤ", "Float"}, OPTION: {"Option"}}
+TYPES = {PRELUDE: {"ℕ", "Bool", "List", "ℤ", "Float", "Result", "Option"}, OPTION: {"Option"}}
 FIXITY = {
     (PRELUDE, "◌+◌"): ("infixl", 65), (PRELUDE, "◌-◌"): ("infixl", 65), (PRELUDE, "◌*◌"): ("infixl", 70),
     (PRELUDE, "◌/◌"): ("infixl", 70), (PRELUDE, "◌%◌"): ("infixl", 70), (PRELUDE, "◌^◌"): ("infixr", 75),
@@ -215,6 +217,9 @@ FIXITY = {
 }
 # a constructor in a pattern: the test of a value, and its arguments
 PATTERN = {
+    f"{LANGUAGE}.tt": ("{0} == ('tt',)", []), f"{LANGUAGE}.◌,◌": ("len({0}) == 2", ["{0}[0]", "{0}[1]"]),
+    f"{PRELUDE}.Ok": ("{0}[0] == 'Ok'", ["{0}[1]"]), f"{PRELUDE}.Err": ("{0}[0] == 'Err'", ["{0}[1]"]),
+    f"{PRELUDE}.Some": ("{0}[0] == 'Some'", ["{0}[1]"]), f"{PRELUDE}.None": ("{0}[0] == 'None'", []),
     f"{PRELUDE}.zero": ("{0} == 0", []), f"{PRELUDE}.suc": ("{0} > 0", ["{0} - 1"]),
     f"{PRELUDE}.true": ("{0} is True", []), f"{PRELUDE}.false": ("{0} is False", []),
     f"{PRELUDE}.[]": ("len({0}) == 0", []), f"{PRELUDE}.◌∷◌": ("len({0}) > 0", ["{0}[0]", "{0}[1:]"]),

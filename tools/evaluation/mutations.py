@@ -40,6 +40,7 @@ CHANGED = [
     ("a spared number that is stored", "card_writer/specs/Writing", "(cond (eqb v 0) (false ∷ []) (true", "(cond (eqb v 1) (false ∷ []) (true", "cards"),
     ("what lies behind a card", "card_writer/specs/Writing", "bytes ++ drop (length bytes) l.card", "bytes ++ drop 0 l.card", "cards"),
     ("6 that is given by the writer", "card_of_lists/specs/Cards", "passed (refused n) = cond (eqb n 6)", "passed (refused n) = cond (eqb n 5)", "cards"),
+    ("a refusal's number", "number/specs/Answer", "code MixedOrders = 5", "code MixedOrders = 6", "cards"),
     ("an entry's place", "sizes/specs/Sizes", "cell i j = side * i + j", "cell i j = side * j + i", "mie"),
 ]
 # what the language has and specs/ has not: none of it may be passed over

@@ -82,7 +82,7 @@ def is_name(word):
 class Expressions:
     """Reads expressions and types of a statement. `fixity(name)` gives (side, level) of an operator in scope, or None; `is_module(name)` says whether what stands behind the name's dot is of a module, and no projection.
 
-    Nodes: ("name", n) ("num", n) ("app", f, x) ("field", e, f) ("λ", names, e) ("let", n, e, body) ("record", [(f, e)]) ("type",) ("→", names, domain, codomain) ("×", names, a, b) ("implicit", f, e).
+    Nodes: ("name", n) ("num", n) ("app", f, x) ("field", e, f) ("λ", names, e) ("let", n, e, body) ("record", [(f, e)]) ("type",) ("unit",) ("→", names, domain, codomain) ("×", names, a, b) ("implicit", f, e).
     """
 
     def __init__(self, statement, words, fixity, is_module=lambda _: False):
@@ -211,7 +211,7 @@ class Expressions:
     def atom(self):
         word = self.take()
         if word == "(":
-            e = self.type()
+            e = self.pair()
             self.take(")")
             if self.peek() is not None and self.peek()[0] == "." and len(self.peek()) > 1:
                 e = self.projected(e, self.take()[1:].split("."))
@@ -223,6 +223,10 @@ class Expressions:
                 self.statement.refuse("a universe with no level")
             self.take()
             return ("type",)
+        if word == "Unit" and self.peek() == "{" and numeral(self.peek(1) or "") is not None:
+            self.at += 2
+            self.take("}")
+            return ("unit",)
         n = numeral(word)
         if n is not None:
             return ("num", n)
@@ -230,6 +234,14 @@ class Expressions:
             self.statement.refuse(f"`{word}` where an expression is wanted")
         head, *fields = word.split(".")
         return ("name", word) if self.is_module(head) else self.projected(("name", head), fields)
+
+    # (a, b) of what stands in a bracket, (a, b, c) being (a, (b, c))
+    def pair(self):
+        e = self.type()
+        if self.peek() != ",":
+            return e
+        self.take()
+        return ("app", ("app", ("name", "◌,◌"), e), self.pair())
 
     def projected(self, e, fields):
         for f in fields:
@@ -286,9 +298,8 @@ class Expressions:
 
     def inner(self):
         p = self.pattern()
-        while self.peek() not in (")", "∷"):
+        while self.peek() not in (")", "∷", ","):
             p = ("app", p, self.pattern())
-        if self.peek() == "∷":
-            self.take()
-            p = ("app", ("app", ("name", "◌∷◌"), p), self.inner())
+        if self.peek() in ("∷", ","):
+            p = ("app", ("app", ("name", f"◌{self.take()}◌"), p), self.inner())
         return p

@@ -70,7 +70,7 @@ class Names:
 
     # what a module's path gives: ("native", path), ("file", File), ("declared", crate, type), ("variants", crate, type)
     def module(self, path, statement):
-        if path in library.NATIVE:
+        if path in library.NATIVE and path != library.LANGUAGE:
             return ("native", path)
         m = MODULE.match(path)
         if not m:
@@ -161,6 +161,8 @@ class Names:
                     return self.member(("variants", *module[1:]), bare(rest[1]), s)
                 if len(rest) == 1:
                     return self.member(module, bare(rest[0]), s)
+        if name in library.NATIVE[library.LANGUAGE]:
+            return ("native", library.LANGUAGE, name)
         s.refuse(f"`{name}` is not in scope")
 
     # the definitions and records that files use, these and those that they use in turn

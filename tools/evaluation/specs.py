@@ -4,6 +4,7 @@ import os
 import re
 
 from .compiler import Compiler
+from .reader import NotUnderstood
 
 # worked once for the same arguments: the elementary functions are asked for the same numbers again and again
 REMEMBERED = {"root.Root.root", "logarithm.Logarithm.ln_of", "logarithm.Logarithm.ln1p_of", "exponential.Exp.exp_of", "exponential.ExpM1.exp_m1_of", "exponential.Tanh.tanh_of", "power.Power.powf_of", "power.Power.exponent_of", "binary_log.BinaryLog.log_of"}
@@ -24,12 +25,28 @@ def remember(f):
     return asked
 
 
+# a variant: its name, and what it holds, or its number in the source
+VARIANT = re.compile(r"(\w+)(?:\((.*)\)|\s*=\s*\d+)?$", re.S)
+
+
+# what the commas of a text part, but for those in brackets
+def parted(text):
+    found, depth = [""], 0
+    for c in text:
+        depth += (c in "(<[{") - (c in ")>]}")
+        found = found + [""] if c == "," and not depth else found[:-1] + [found[-1] + c]
+    return [part.strip() for part in found if part.strip()]
+
+
 def types_of(text):
     """Structs, and enums with the number of things that each variant holds."""
     text = re.sub(r"//[^\n]*", "", text)
     found = {name: {} for name in re.findall(r"\bstruct (\w+)", text)}
     for name, body in re.findall(r"\benum (\w+) \{(.*?)\n\}", text, re.S):
-        found[name] = {v: len(held.split(",")) if held else 0 for v, held in re.findall(r"^\s+(\w+)(?:\(([^)]*)\))?,", body, re.M)}
+        variants = {part: VARIANT.match(part) for part in parted(body)}
+        if None in variants.values():
+            raise NotUnderstood(f"a variant of {name} that is not known: {[part for part, v in variants.items() if v is None]}")
+        found[name] = {v.group(1): len(parted(v.group(2) or "")) for v in variants.values()}
     return found
 
 

@@ -147,8 +147,8 @@ class Function:
     def text(self, lines, depth, local, e):
         if e[0] == "num":
             return str(e[1])
-        if e[0] == "type":
-            return "Stated('Type')"
+        if e[0] in ("type", "unit"):
+            return f"Stated({e[0].capitalize()!r})"
         if e[0] == "implicit":
             self.s.refuse("an implicit argument in an expression")
         if e[0] == "→":
@@ -173,7 +173,8 @@ class Function:
             name = self.c.constructor_of_record([f for f, _ in fields])
             return f"{name}({', '.join(self.text(lines, depth, local, x) for _, x in fields)})"
         if e[0] == "field":
-            return f"{self.text(lines, depth, local, e[1])}.{spell(e[2])}"
+            part = f"[{e[2]}]" if e[2] in ("0", "1") else "." + spell(e[2])  # of a pair, or of a record
+            return self.text(lines, depth, local, e[1]) + part
         head, args = spine(e)
         return self.call(lines, depth, local, head, args)
 

@@ -1,8 +1,8 @@
 //! The desk of Slip 12 beside the direct calls for table and energies, on the sources compiled as Rust: submissions and calls of serve
 //! in any order, desks of arbitrary bits, and the processor time of a query at a full desk beside the direct calls.
-use unproved::desk::{BYTES, DeskAnswer, FLOATS, PlaceAnswer, begin, serve, submit};
-use unproved::mie_parameters::ParameterAnswer;
-use unproved::saftvrqmie_energies::{EnergiesAnswer, energies_of};
+use unproved::desk::{BYTES, FLOATS, Served, begin, serve, submit};
+use unproved::number::Refusal;
+use unproved::saftvrqmie_energies::{QuantumEnergies, energies_of};
 use unproved::{limits, saftvrqmie, set_lists};
 
 const PLACES: usize = 16;
@@ -43,11 +43,8 @@ struct Query {
 /// Energies by their bits, or the number.
 type Answer = Result<[u64; 3], u8>;
 
-fn answer(a: EnergiesAnswer) -> Answer {
-    match a {
-        EnergiesAnswer::Energies(e) => Ok([e.hard_sphere.to_bits(), e.dispersion.to_bits(), e.non_additive.to_bits()]),
-        EnergiesAnswer::Refused(n) => Err(n),
-    }
+fn answer(a: Result<QuantumEnergies, Refusal>) -> Answer {
+    a.map(|e| [e.hard_sphere, e.dispersion, e.non_additive].map(f64::to_bits)).map_err(Refusal::code)
 }
 
 impl Query {
@@ -99,27 +96,22 @@ impl Query {
     fn door(&self) -> Option<u8> {
         let right = self.fractions.len() == self.count && self.densities.len() == self.count;
         match set_lists::quantum_answer(self.count, &self.m, &self.sheets, &self.orders, right) {
-            ParameterAnswer::Refused(n) => Some(n),
-            ParameterAnswer::Held => (!limits::state_within(self.count, self.temperature, &self.fractions, &self.densities)).then_some(2),
+            Err(r) => Some(r.code()),
+            Ok(()) => (!limits::state_within(self.count, self.temperature, &self.fractions, &self.densities)).then_some(2),
         }
     }
 
     fn directly(&self) -> Answer {
         let (m, sheets, orders) = (set_lists::places(&self.m, 0), set_lists::flat(&self.sheets), set_lists::order_records(&self.orders));
         let (mut table, mut counts) = (vec![7.0; 4 * SHEET], vec![9; 3 * SHEET]);
-        if let ParameterAnswer::Refused(n) = saftvrqmie::table_of(self.count, &sheets, orders, self.temperature, &mut table, &mut counts) {
-            return Err(n);
-        }
+        saftvrqmie::table_of(self.count, &sheets, orders, self.temperature, &mut table, &mut counts).map_err(Refusal::code)?;
         let (x, rho) = (&self.fractions, &self.densities);
         answer(energies_of(self.count, &m, &sheets, orders, self.temperature, x, rho, &table, self.non_additive))
     }
 
     fn submit(&self, floats: &mut [f64], bytes: &mut [u8]) -> Result<usize, u8> {
         let (x, rho, wanted) = (&self.fractions, &self.densities, self.non_additive);
-        match submit(floats, bytes, self.count, &self.m, &self.sheets, &self.orders, self.temperature, x, rho, wanted) {
-            PlaceAnswer::At(k) => Ok(k),
-            PlaceAnswer::Refused(n) => Err(n),
-        }
+        submit(floats, bytes, self.count, &self.m, &self.sheets, &self.orders, self.temperature, x, rho, wanted).map_err(Refusal::code)
     }
 
     fn pairs(&self) -> usize {
@@ -142,7 +134,7 @@ struct Waiting {
 /// Calls in any order at one desk: finished queries, of them 6 and 7, queries turned down, of them 17.
 fn interleaved(g: &mut Random, calls: usize) -> [usize; 5] {
     let (mut floats, mut bytes) = arbitrary(g);
-    assert!(matches!(begin(&mut floats, &mut bytes), ParameterAnswer::Held));
+    assert!(begin(&mut floats, &mut bytes).is_ok());
     let mut places: Vec<Option<Waiting>> = (0..PLACES).map(|_| None).collect();
     let (mut last, mut tally, rarely) = (PLACES - 1, [0; 5], 4 + 12 * g.below(3) as u64);
     for _ in 0..calls {
@@ -166,14 +158,14 @@ fn interleaved(g: &mut Random, calls: usize) -> [usize; 5] {
         let next = (1..=PLACES).map(|i| (last + i) % PLACES).find(|&k| places[k].is_some());
         places.iter_mut().flatten().for_each(|w| w.calls += 1);
         match (next, serve(&mut floats, &mut bytes)) {
-            (None, DeskAnswer::Idle) => {}
-            (Some(k), DeskAnswer::Worked) => {
+            (None, Ok(Served::Idle)) => {}
+            (Some(k), Ok(Served::Worked)) => {
                 last = k;
                 let w = places[k].as_mut().unwrap();
                 w.units += 1;
                 assert!(w.units < w.query.pairs());
             }
-            (Some(k), DeskAnswer::Finished(j, e)) => {
+            (Some(k), Ok(Served::Finished(j, e))) => {
                 last = k;
                 let w = places[k].take().unwrap();
                 let given = answer(e);
@@ -214,9 +206,9 @@ fn times(count: usize) -> (f64, f64) {
         begin(&mut floats, &mut bytes);
         (0..PLACES).for_each(|k| assert_eq!(q.submit(&mut floats, &mut bytes), Ok(k)));
         let start = now();
-        (0..PLACES * q.pairs()).for_each(|_| assert!(!matches!(serve(&mut floats, &mut bytes), DeskAnswer::Idle)));
+        (0..PLACES * q.pairs()).for_each(|_| assert!(!matches!(serve(&mut floats, &mut bytes), Ok(Served::Idle))));
         least.0 = least.0.min((now() - start) / PLACES as f64);
-        assert!(matches!(serve(&mut floats, &mut bytes), DeskAnswer::Idle));
+        assert!(matches!(serve(&mut floats, &mut bytes), Ok(Served::Idle)));
         let start = now();
         (0..4).for_each(|_| assert!(std::hint::black_box(q.directly()).is_ok()));
         least.1 = least.1.min((now() - start) / 4.0);
@@ -235,7 +227,7 @@ fn main() {
     let mut finished = 0;
     for _ in 0..2000 {
         let (mut floats, mut bytes) = arbitrary(&mut g);
-        finished += (0..40).filter(|_| matches!(serve(&mut floats, &mut bytes), DeskAnswer::Finished(..))).count();
+        finished += (0..40).filter(|_| matches!(serve(&mut floats, &mut bytes), Ok(Served::Finished(..)))).count();
     }
     println!("2000 desks of arbitrary bits: {finished} queries finished");
     for count in [1, 2, 4, 8, SIDE] {
