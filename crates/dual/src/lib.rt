@@ -121,3 +121,56 @@ impl Div for Dual {
         }
     }
 }
+
+// Beside a plain number, which is taken as one with slope +0.
+impl Add<f64> for Dual {
+    type Output = Dual;
+
+    ghost add_gives = { λ x c r. dual_of r ≡ add_d floats (dual_of x) (plain_d floats c) };
+
+    fn add(self, c: f64) -> Dual {
+        Dual {
+            re: self.re + c,
+            eps: self.eps + 0.0,
+        }
+    }
+}
+
+impl Sub<f64> for Dual {
+    type Output = Dual;
+
+    ghost sub_gives = { λ x c r. dual_of r ≡ sub_d floats (dual_of x) (plain_d floats c) };
+
+    fn sub(self, c: f64) -> Dual {
+        Dual {
+            re: self.re - c,
+            eps: self.eps - 0.0,
+        }
+    }
+}
+
+impl Mul<f64> for Dual {
+    type Output = Dual;
+
+    ghost mul_gives = { λ x c r. dual_of r ≡ mul_d floats (dual_of x) (plain_d floats c) };
+
+    fn mul(self, c: f64) -> Dual {
+        Dual {
+            re: self.re * c,
+            eps: self.eps * c + self.re * 0.0,
+        }
+    }
+}
+
+impl Div<f64> for Dual {
+    type Output = Dual;
+
+    ghost div_gives = { λ x c r. dual_of r ≡ div_d floats (dual_of x) (plain_d floats c) };
+
+    fn div(self, c: f64) -> Dual {
+        Dual {
+            re: self.re / c,
+            eps: (self.eps * c - self.re * 0.0) / (c * c),
+        }
+    }
+}

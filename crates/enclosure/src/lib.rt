@@ -2,6 +2,7 @@
 #![tactic(auto)]
 
 ghost use Rattle.std.specs.Prelude.{◌≡◌};
+ghost use Rattle.std.proofs.Common.{rules};
 ghost use Rattle.number.specs.Arith as Arith;
 ghost use Rattle.number.specs.Functions.{answered, answered₂};
 ghost use Rattle.enclosure.specs.Enclosure.{point, constant_e, add_e, sub_e, mul_e, div_e, neg_e, pow_e, down_e, after_e, enclosures};
@@ -9,7 +10,7 @@ ghost use Rattle.number.specs.Answer.{answer};
 ghost use Rattle.enclosure.specs.Ends.{ends_alone};
 
 use interval::Interval;
-use number::Refusal;
+use number::{Arithmetic, Refusal};
 use std::ops::{Add, Div, Mul, Neg, Sub};
 
 #[derive(Clone, Copy)]
@@ -205,4 +206,58 @@ pub fn ends_of(a: Result<Enclosure, Refusal>) -> Result<Ends, Refusal>
         lower: ends.lower,
         upper: ends.upper,
     })
+}
+
+impl Arithmetic for Enclosure {
+    ghost arith = { enclosures };
+
+    ghost of = { λ x. x };
+
+    fn lit(x: f64) -> Enclosure {
+        Enclosure::point(x)
+    }
+
+    fn val(self) -> f64 {
+        self.value
+    }
+
+    fn pow_up(self, n: u16) -> Enclosure {
+        self.pow_up(n as u32)
+    }
+
+    fn pow_down(self, n: u16) -> Enclosure {
+        self.pow_down(n as u32)
+    }
+
+    fn square(self) -> Enclosure {
+        self.pow_up(2u32)
+    }
+
+    fn cube(self) -> Enclosure {
+        self.pow_up(3u32)
+    }
+
+    fn after(self, u: Enclosure) -> Enclosure {
+        self.after(u)
+    }
+
+    ghost can_add_law = { Prim.search rules };
+
+    ghost can_sub_law = { Prim.search rules };
+
+    ghost can_mul_law = { Prim.search rules };
+
+    ghost can_div_law = { Prim.search rules };
+
+    ghost can_neg_law = { Prim.search rules };
+
+    ghost add_law = { Prim.search rules };
+
+    ghost sub_law = { Prim.search rules };
+
+    ghost mul_law = { Prim.search rules };
+
+    ghost div_law = { Prim.search rules };
+
+    ghost neg_law = { Prim.search rules };
 }

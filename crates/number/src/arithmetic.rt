@@ -33,6 +33,13 @@ pub trait Arithmetic: Copy
     fn pow_down(self, n: u16) -> Self
         ensures { of result ≡ arith.pow_down (of self) n };
 
+    // The whole powers 2 and 3, written out.
+    fn square(self) -> Self
+        ensures { of result ≡ arith.pow (of self) 2 };
+
+    fn cube(self) -> Self
+        ensures { of result ≡ arith.pow (of self) 3 };
+
     // The number, where u was worked on the way.
     fn after(self, u: Self) -> Self
         ensures { of result ≡ arith.after (of u) (of self) };
@@ -77,6 +84,14 @@ impl Arithmetic for f64 {
 
     fn pow_down(self, n: u16) -> f64 {
         pow_down(self, n as u32)
+    }
+
+    fn square(self) -> f64 {
+        1.0 * (self * self)
+    }
+
+    fn cube(self) -> f64 {
+        1.0 * self * (self * self)
     }
 
     fn after(self, _u: f64) -> f64 {

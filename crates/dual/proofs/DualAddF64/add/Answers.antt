@@ -1,0 +1,11 @@
+-- `dual::DualAddF64::add` meets its contract. Assumes nothing.
+use Rattle.dual.specs.Value.{dual_of}
+use Rattle.dual.specs.Dual.{add_d, plain_d}
+use mathlib.Core.Path.{refl}
+use lib.Ieee.{of_bits}
+use Rattle.number.specs.Arith.{decimal}
+use Rattle.dual.proofs.DualAddF64.add.Goals as goal
+
+pub returns : goal.returns
+unfolding add_d plain_d dual_of decimal of_bits
+returns c = refl

@@ -1,0 +1,11 @@
+-- `dual::DualMulF64::mul` meets its contract. Assumes nothing.
+use Rattle.dual.specs.Value.{dual_of}
+use Rattle.dual.specs.Dual.{mul_d, plain_d}
+use mathlib.Core.Path.{refl}
+use lib.Ieee.{of_bits}
+use Rattle.number.specs.Arith.{decimal}
+use Rattle.dual.proofs.DualMulF64.mul.Goals as goal
+
+pub returns : goal.returns
+unfolding mul_d plain_d dual_of decimal of_bits
+returns c = refl

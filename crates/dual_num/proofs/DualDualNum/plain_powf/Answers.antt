@@ -1,0 +1,6 @@
+-- `dual_num::DualDualNum::plain_powf` meets its contract. Assumes nothing.
+use Rattle.dual_num.proofs.Powers.{plain_is}
+use Rattle.dual_num.proofs.DualDualNum.plain_powf.Goals as goal
+
+pub returns : goal.returns
+returns c w = plain_is _ _ _ (rw (c.float_powf_at.ensures, c.float_base.ensures.power))

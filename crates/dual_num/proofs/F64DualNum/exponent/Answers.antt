@@ -1,0 +1,6 @@
+-- `dual_num::F64DualNum::exponent` meets its contract. Assumes nothing.
+use Rattle.dual_num.proofs.Powers.{float_by}
+use Rattle.dual_num.proofs.F64DualNum.exponent.Goals as goal
+
+pub returns : goal.returns
+returns c w b = rw c.float_exponent.ensures (float_by b _)

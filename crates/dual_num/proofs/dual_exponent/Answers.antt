@@ -1,0 +1,6 @@
+-- `dual_num::dual_exponent` meets its contract. Assumes nothing.
+use Rattle.dual_num.proofs.Powers.{dual_by}
+use Rattle.dual_num.proofs.dual_exponent.Goals as goal
+
+pub returns : goal.returns
+returns c = λ b. rw (c.exponent.ensures, c.exponent_inside.ensures) (dual_by b _)

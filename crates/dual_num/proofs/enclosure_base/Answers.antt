@@ -1,0 +1,6 @@
+-- `dual_num::enclosure_base` meets its contract. Assumes nothing.
+use Rattle.dual_num.proofs.Powers.{enclosure_is}
+use Rattle.dual_num.proofs.enclosure_base.Goals as goal
+
+pub returns : goal.returns
+returns c = rw c.float_base.ensures.value (enclosure_is _)

@@ -1,0 +1,82 @@
+-- A power is refused with 6 alone, where its base or its exponent is outside: what the runs give to the trait's laws of powers. Assumes nothing.
+use lib.Ieee.{Float}
+use Prim.Native.Nat.{ℕ}
+use mathlib.Core.Path.{◌≡◌, refl, sym, ◌∙◌}
+use mathlib.Core.Bool.{Bool, true, false, ◌&&◌, cond}
+use Rattle.number.specs.Ans.{Ans, held, refused, ◌>>=◌, demand}
+use Rattle.number.specs.Arith.{floats}
+use Rattle.number.specs.Functions.{calls, answered₂}
+use Rattle.number.specs.Domain.{base_inside, exponent_inside}
+use Rattle.elementary.specs.Port.{port}
+use Rattle.binary_log.specs.BinaryLog.{log_of}
+use Rattle.power.specs.Power.{exponent_of, power_of, powf_of}
+use Rattle.enclosure.specs.declared.Enclosure.{Enclosure}
+use Rattle.enclosure.specs.Enclosure.{enclosures}
+use Rattle.dual.specs.Dual.{DualOf}
+use Rattle.slopes.specs.Mixed.{Mixed, plain, sloped}
+use Rattle.slopes.specs.Rules.{real_power, mixed_functions}
+use Rattle.slopes.specs.Staged.{slope_inside}
+use Rattle.slopes.proofs.Staged.{base_outside, power_held, power_tested}
+use Rattle.dual_num.specs.declared.FloatBase.{FloatBase}
+use Rattle.dual_num.specs.declared.EnclosureBase.{EnclosureBase}
+use Rattle.dual_num.specs.declared.DualBase.{DualBase}
+use Rattle.dual_num.specs.declared.FloatExponent.{FloatExponent}
+use Rattle.dual_num.specs.declared.EnclosureExponent.{EnclosureExponent}
+use Rattle.dual_num.specs.declared.DualExponent.{DualExponent}
+use Rattle.dual_num.specs.Base.{float_raised, float_power_by, enclosure_raised, enclosure_power_by, dual_raised, dual_power_by}
+
+pub asked : (x y : Float) (a : Ans Float) → answered₂ floats a x y ≡ a
+unfolding answered₂ ◌>>=◌
+asked x y (held v) = refl
+asked x y (refused n) = refl
+
+-- ---- where a power is refused
+pub float_power_is : (b : FloatBase) (n : FloatExponent) → float_power_by b n ≡ cond (b.inside && n.inside) (held (float_raised b n)) (refused 6)
+unfolding float_power_by
+float_power_is b n = refl
+
+answered_at : (t : Bool) (z : Float) (x y : Enclosure) → answered₂ enclosures (cond t (held z) (refused 6)) x y ≡ cond t (held (enclosures.after x (enclosures.after y (enclosures.lit z)))) (refused 6)
+unfolding answered₂ ◌>>=◌
+answered_at true z x y = refl
+answered_at false z x y = refl
+
+pub enclosure_power_is : (b : EnclosureBase) (n : EnclosureExponent) → enclosure_power_by b n ≡ cond (b.base.inside && n.at.inside) (held (enclosure_raised b n)) (refused 6)
+unfolding enclosure_power_by float_power_by
+enclosure_power_is b n = answered_at (b.base.inside && n.at.inside) (float_raised b.base n.at) b.x n.x
+
+pub dual_power_is : (b : DualBase) (n : DualExponent) → dual_power_by b n ≡ cond (b.base.inside && n.inside) (held (dual_raised b n)) (refused 6)
+unfolding dual_power_by
+dual_power_is b n = refl
+
+six_of : {S : Type 0} (s t : Bool) (z : S) (n : ℕ) → (demand 6 s >>= λ _. demand 6 t >>= λ _. held z) ≡ refused n → n ≡ 6
+unfolding demand ◌>>=◌
+six_of true true z n h = cc
+six_of true false z n h = cc
+six_of false t z n h = cc
+
+then_six : {S T : Type 0} (a : Ans S) (f : S → T) (n : ℕ) → ((m : ℕ) → a ≡ refused m → m ≡ 6) → (a >>= λ v. held (f v)) ≡ refused n → n ≡ 6
+unfolding ◌>>=◌
+then_six (held v) f n h e = cc
+then_six (refused m) f n h e = let k : m ≡ n = cc in sym k ∙ h m refl
+
+port_six : (x y : Float) (n : ℕ) → powf_of x y ≡ refused n → n ≡ 6
+unfolding powf_of
+port_six x y n h = six_of (base_inside x) (exponent_inside y) (power_of (log_of x) (exponent_of y)) n h
+
+pub float_six : (x y : Float) (n : ℕ) → (calls floats port).powf x y ≡ refused n → n ≡ 6
+float_six x y n h = port_six x y n (sym (asked x y (powf_of x y)) ∙ h)
+
+pub enclosure_six : (x y : Enclosure) (n : ℕ) → (calls enclosures port).powf x y ≡ refused n → n ≡ 6
+unfolding answered₂
+enclosure_six x y n h = then_six (powf_of x.value y.value) (λ v. enclosures.after x (enclosures.after y (enclosures.lit v))) n (port_six x.value y.value) h
+
+real_six : (x : DualOf Float) (y : Float) (s t : Bool) (n : ℕ) → base_inside x.re ≡ s → slope_inside y ≡ t → real_power port x y ≡ refused n → n ≡ 6
+real_six x y false t n p q h = let k = sym (base_outside x y p) ∙ h in cc
+real_six x y true true n p q h = let k = sym (power_held x y p q) ∙ h in cc
+real_six x y true false n p q h = let k = sym (rw q at (power_tested x y p)) ∙ h in cc
+
+pub mixed_six : (x y : Mixed) (n : ℕ) → (mixed_functions port).powf x y ≡ refused n → n ≡ 6
+mixed_six (plain x) (plain y) n h = then_six (powf_of x y) plain n (port_six x y) h
+mixed_six (sloped x) (plain y) n h = then_six (real_power port x y) sloped n (λ m e. real_six x y (base_inside x.re) (slope_inside y) m refl refl e) h
+mixed_six (plain x) (sloped y) n h = cc
+mixed_six (sloped x) (sloped y) n h = cc
