@@ -4,6 +4,7 @@ use Rattle.number.specs.Ans.{Ans, held, ◌>>=◌}
 use Rattle.number.specs.Arith.{Arith, decimal, whole}
 use Rattle.number.specs.Functions.{Functions}
 use Rattle.number.specs.Lists.{at}
+use Rattle.saftvrqmie_dispersion_terms.specs.declared.PairTerms.{PairTerms}
 use Rattle.mie_parameters.specs.Tables.{c0, c1, c2, c3}
 
 module _ (A : Arith) where
@@ -95,3 +96,8 @@ module _ (A : Arith) where
   -- `combine_sutherland_and_b`; the exponent comes last
   unfoldable pub combine_sutherland_and_b : Functions Num → Num → Num → Num → Num → Num → Ans Num
   combine_sutherland_and_b F epsilon_k zeta x0 x0_eff lambda = combine lambda epsilon_k zeta (factor_i zeta) (factor_j zeta) (F.powf x0) (F.powf x0_eff)
+
+-- a pair's terms as a function of the exponent, from what all exponents share: plain numbers read by `plain`, others by `of`, and the powers of a base by `power_at`
+module _ (A : Arith) {D P B E : Type 0} (plain : P → A.Num) (of : D → A.Num) (power_at : B → A.Num → Ans A.Num) where
+  unfoldable pub terms_by : PairTerms D P B E → A.Num → Ans A.Num
+  terms_by t lambda = combine A lambda (plain t.epsilon_k) (of t.zeta) (of t.factor_i) (of t.factor_j) (power_at t.x0) (power_at t.x0_eff)

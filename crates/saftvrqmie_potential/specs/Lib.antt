@@ -1,2 +1,2 @@
 pub mod Potential
-pub mod Staged
+pub mod Shared

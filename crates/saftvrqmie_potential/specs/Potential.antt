@@ -25,8 +25,12 @@ pub record PairIn (N : Type 0) : Type 0 where
   pub order : FeynmanHibbsOrder
   pub temperature : N
 
+-- a pair of the float run
+abbrev pub FloatPair : Type 0
+FloatPair = Pair Float Float
+
 -- a pair as a run reads it: each number a point
-abbrev pub points_of : (A : Arith) → Pair → PairIn A.Num
+abbrev pub points_of : (A : Arith) → FloatPair → PairIn A.Num
 points_of A p =
     record {
       sigma = A.lit p.sigma;
@@ -39,11 +43,25 @@ points_of A p =
       temperature = A.lit p.temperature;
     }
 
-abbrev pub pair_in : Pair → PairIn Float
+abbrev pub pair_in : FloatPair → PairIn Float
 pair_in p = points_of floats p
 
+-- a pair whose plain numbers are read by `plain`, and its temperature by `of`
+abbrev pub pair_by : {D P N : Type 0} → (P → N) → (D → N) → Pair D P → PairIn N
+pair_by plain of p =
+    record {
+      sigma = plain p.sigma;
+      epsilon_k = plain p.epsilon_k;
+      c = plain p.c;
+      lr = plain p.lr;
+      la = plain p.la;
+      mass = plain p.mass;
+      order = p.order;
+      temperature = of p.temperature;
+    }
+
 -- what a set holds at entry e of its sheets, and the temperature
-abbrev pub pair_at_entry : List Float → List OrderRecord → Float → ℕ → Pair
+abbrev pub pair_at_entry : List Float → List OrderRecord → Float → ℕ → FloatPair
 pair_at_entry s orders t e =
     record {
       sigma = at s e;
@@ -62,10 +80,14 @@ pub record PotentialIn (N : Type 0) : Type 0 where
   pub u_r : N
   pub u_rr : N
 
-abbrev pub potential_in : QMiePotential → PotentialIn Float
-potential_in v = record { u = v.u; u_r = v.u_r; u_rr = v.u_rr }
+-- a potential whose numbers are read by `of`
+abbrev pub potential_by : {D N : Type 0} → (D → N) → QMiePotential D → PotentialIn N
+potential_by of v = record { u = of v.u; u_r = of v.u_r; u_rr = of v.u_rr }
 
-abbrev pub potential_answer : Result QMiePotential Refusal → Ans (PotentialIn Float)
+abbrev pub potential_in : QMiePotential Float → PotentialIn Float
+potential_in = potential_by (λ x. x)
+
+abbrev pub potential_answer : Result (QMiePotential Float) Refusal → Ans (PotentialIn Float)
 potential_answer = answer_by potential_in
 
 -- `fh as usize`

@@ -1,76 +1,80 @@
-// The quantum Mie potential of a pair with its two derivatives (saftvrqmie/eos/hard_sphere.rs), in floats.
+// The quantum Mie potential of a pair with its two derivatives (saftvrqmie/eos/hard_sphere.rs).
 // What all radii of a pair share is worked once (`Shared`): powers of sigma, exponents, factors. At a radius its logarithm is taken once, and each power of it once.
 #![tactic(auto)]
 
-ghost use Rattle.std.specs.Prelude.{◌≡◌, ◌<◌, true, cond};
-ghost use Rattle.number.specs.Answer.{answer};
-ghost use Rattle.number.specs.Arith.{floats};
-ghost use Rattle.number.specs.Functions.{calls};
+ghost use Rattle.std.specs.Prelude.{◌≡◌, ◌<◌, true, false, cond, Bool};
+ghost use Rattle.number.specs.Answer.{answer_by};
 ghost use Rattle.sizes.specs.Sizes.{sheet};
-ghost use Rattle.elementary.specs.Port.{port};
-ghost use Rattle.saftvrqmie_potential.specs.Potential.{pair_in, pair_at_entry, potential_in, potential_answer, first_order, second_order, quantum_d, q1, q2, potential, scaled};
-ghost use Rattle.saftvrqmie_potential.specs.Staged.{exponents_inside, term_of, shared_of, mie_at, first_at, second_at, values_at, potential_at, u_at, both_inside};
+ghost use Rattle.saftvrqmie_potential.specs.Potential.{PairIn, prefactor, pair_by, pair_at_entry, potential_by, first_order, second_order, quantum_d, q1, q2, u_mie, u_quantum, potential};
+ghost use Rattle.saftvrqmie_potential.specs.Shared.{alone, IsTerm, Sharing, Shares, powers_by, both, both_inside, exponents_inside, mie_from, first_from, second_from, after_factors, finished_from};
 
-use binary_log::Log;
-use number::Refusal;
-use power::FixedExponent;
+use dual_num::DualNum;
+use number::{Arithmetic, Refusal};
 use saftvrqmie_parameters::{FeynmanHibbsOrder, OrderRecord};
 use sizes::quantum_set::{C_IJ, EPSILON_K_IJ, LAMBDA_A_IJ, LAMBDA_R_IJ, MASS_IJ};
 use sizes::{SHEET, SHEETS};
 
-const D_QM_PREFACTOR: f64 = 6.712554014896364e-27;
-
 // The parameters of a pair, and the temperature.
 #[derive(Clone, Copy)]
-pub struct Pair {
-    pub sigma: f64,
-    pub epsilon_k: f64,
-    pub c: f64,
-    pub lr: f64,
-    pub la: f64,
-    pub mass: f64,
+pub struct Pair<D, P> {
+    pub sigma: P,
+    pub epsilon_k: P,
+    pub c: P,
+    pub lr: P,
+    pub la: P,
+    pub mass: P,
     pub order: FeynmanHibbsOrder,
-    pub temperature: f64,
+    pub temperature: D,
 }
+
+pub type FloatPair = Pair<f64, f64>;
 
 // The potential and its two derivatives by the radius.
 #[derive(Clone, Copy)]
-pub struct QMiePotential {
-    pub u: f64,
-    pub u_r: f64,
-    pub u_rr: f64,
+pub struct QMiePotential<D> {
+    pub u: D,
+    pub u_r: D,
+    pub u_rr: D,
 }
 
 // One of the two terms: its exponent, its factors, sigma to its exponent, and the exponents of its lines.
-#[derive(Clone, Copy)]
-pub struct Term {
-    pub lambda: f64,
-    pub q1: f64,
-    pub q2: f64,
-    pub power: f64,
-    pub e0: FixedExponent,
-    pub e1: FixedExponent,
-    pub e2: FixedExponent,
-    pub e3: FixedExponent,
-    pub e4: FixedExponent,
-    pub e5: FixedExponent,
-    pub e6: FixedExponent,
+#[derive(Drop)]
+pub struct Term<D: DualNum> {
+    pub lambda: D::Plain,
+    pub q1: D::Plain,
+    pub q2: D::Plain,
+    pub power: D::Plain,
+    pub e0: D::Exponent,
+    pub e1: D::Exponent,
+    pub e2: D::Exponent,
+    pub e3: D::Exponent,
+    pub e4: D::Exponent,
+    pub e5: D::Exponent,
+    pub e6: D::Exponent,
 }
 
-// What all radii of a pair share.
-#[derive(Clone, Copy)]
-pub struct Shared {
-    pub r: Term,
-    pub a: Term,
-    pub d: f64,
-    pub d2: f64,
-    pub ce: f64,
+// What all radii of a pair share, and whether the exponents of its order lie within the power's domain.
+#[derive(Drop)]
+pub struct Shared<D: DualNum> {
+    pub r: Term<D>,
+    pub a: Term<D>,
+    pub d: D,
+    pub d2: D,
+    pub ce: D::Plain,
     pub first: bool,
     pub second: bool,
+    pub inside: bool,
+}
+
+// A line's two powers of the radius.
+#[derive(Clone, Copy)]
+pub struct LinePowers<D> {
+    pub rr: D,
+    pub ra: D,
 }
 
 // The pair at entry e of a set's sheets. All that works pairs reads them here; an entry comes from indexes that were tested, or are turns of loops over a count that was.
-pub fn pair_at(s: &[f64; SHEETS], orders: [OrderRecord; SHEET], t: f64, e: usize) -> Pair
+pub fn pair_at(s: &[f64; SHEETS], orders: [OrderRecord; SHEET], t: f64, e: usize) -> FloatPair
     requires { e < sheet }
     ensures { result ≡ pair_at_entry s.now orders t e }
 {
@@ -109,30 +113,64 @@ pub fn second_order(order: FeynmanHibbsOrder) -> bool
     }
 }
 
+// D_QM_PREFACTOR.
+fn d_qm_prefactor<D: DualNum>() -> D::Plain
+    ensures { (w : Bool) → D.plain w result ≡ prefactor (D.beside w) (D.functions w) }
+{
+    let planck = D::Plain::lit(6.62607015e-34);
+    let kb = D::Plain::lit(1.380649e-23);
+    let tau = D::tau();
+    planck * planck / (tau * tau) / D::Plain::lit(12.0) * D::Plain::lit(1e20) / kb
+}
+
 // `quantum_d_mass`.
-pub fn quantum_d(mass: f64, temperature: f64) -> f64
-    ensures { result ≡ quantum_d floats (calls floats port) mass temperature }
+pub fn quantum_d<D: DualNum>(mass: D::Plain, temperature: D) -> D
+    ensures { (w : Bool) → D.of w result ≡ quantum_d (D.beside w) (D.functions w) (D.plain w mass) (D.of w temperature) }
 {
-    1.0 / temperature / mass * D_QM_PREFACTOR
+    temperature.recip() / mass * d_qm_prefactor::<D>()
 }
 
-pub fn q1_of(l: f64) -> f64
-    ensures { result ≡ q1 floats l }
+pub fn q1_of<D: DualNum>(l: D::Plain) -> D::Plain
+    ensures { (w : Bool) → D.plain w result ≡ q1 (D.beside w) (D.plain w l) }
 {
-    l * (l - 1.0)
+    l * (l - D::Plain::lit(1.0))
 }
 
-pub fn q2_of(l: f64) -> f64
-    ensures { result ≡ q2 floats l }
+pub fn q2_of<D: DualNum>(l: D::Plain) -> D::Plain
+    ensures { (w : Bool) → D.plain w result ≡ q2 (D.beside w) (D.plain w l) }
 {
-    0.5 * (l + 2.0) * (l + 1.0) * l * (l - 1.0)
+    D::Plain::lit(0.5)
+        * (l + D::Plain::lit(2.0))
+        * (l + D::Plain::lit(1.0))
+        * l
+        * (l - D::Plain::lit(1.0))
+}
+
+// No value where sigma has no power.
+fn term_of<D: DualNum>(sigma: D::Plain, l: D::Plain) -> Result<Term<D>, Refusal>
+    ensures { (w : Bool) → IsTerm (D.beside w) (D.functions w) (D.plain w) (D.power_at w) (D.power_by w) (D.plain w sigma) (D.plain w l) result }
+{
+    let power = D::plain_powf(sigma, l)?;
+    Ok(Term {
+        lambda: l,
+        q1: q1_of::<D>(l),
+        q2: q2_of::<D>(l),
+        power,
+        e0: D::exponent(l),
+        e1: D::exponent(l + D::Plain::lit(1.0)),
+        e2: D::exponent(l + D::Plain::lit(2.0)),
+        e3: D::exponent(l + D::Plain::lit(3.0)),
+        e4: D::exponent(l + D::Plain::lit(4.0)),
+        e5: D::exponent(l + D::Plain::lit(5.0)),
+        e6: D::exponent(l + D::Plain::lit(6.0)),
+    })
 }
 
 // A line's two exponents.
-fn both_inside(er: f64, ea: f64) -> bool
-    ensures { result ≡ both_inside er ea }
+fn both_inside<D: DualNum>(er: D::Exponent, ea: D::Exponent) -> bool
+    ensures { result ≡ both_inside D.exponent_in er ea }
 {
-    power::exponent_inside(er) & power::exponent_inside(ea)
+    D::exponent_inside(er) & D::exponent_inside(ea)
 }
 
 // A test that counts only where it is wanted.
@@ -142,208 +180,220 @@ fn if_wanted(wanted: bool, test: bool) -> bool
     if wanted { test } else { true }
 }
 
-fn exponents_inside(first: bool, second: bool, lr: f64, la: f64) -> bool
-    ensures { result ≡ exponents_inside first second lr la }
+fn exponents_inside<D: DualNum>(first: bool, second: bool, r: &Term<D>, a: &Term<D>) -> bool
+    ensures { result ≡ exponents_inside D.exponent_in first second r.now a.now }
 {
-    let at2 = both_inside(lr + 2.0, la + 2.0);
-    let at4 = both_inside(lr + 4.0, la + 4.0);
-    let mie = both_inside(lr, la) & (both_inside(lr + 1.0, la + 1.0) & at2);
-    let one = at2 & (both_inside(lr + 3.0, la + 3.0) & at4);
-    let two = at4 & (both_inside(lr + 5.0, la + 5.0) & both_inside(lr + 6.0, la + 6.0));
-    mie & if_wanted(first, one & if_wanted(second, two))
+    let at2 = both_inside::<D>(r.e2, a.e2);
+    let at4 = both_inside::<D>(r.e4, a.e4);
+    let mie = both_inside::<D>(r.e0, a.e0) & (both_inside::<D>(r.e1, a.e1) & at2);
+    let one = at2 & (both_inside::<D>(r.e3, a.e3) & at4);
+    let two = at4 & (both_inside::<D>(r.e5, a.e5) & both_inside::<D>(r.e6, a.e6));
+    mie & (if_wanted(first, one) & if_wanted(second, two))
 }
 
-fn term_of(s: Log, l: f64) -> Term
-    ensures { result ≡ term_of s l }
+// No value where sigma has no power: then no radius has a potential.
+pub fn share<D: DualNum>(p: &Pair<D, D::Plain>) -> Result<Shared<D>, Refusal>
+    ensures { (w : Bool) → Shares (D.beside w) (D.functions w) (D.plain w) (D.power_at w) (D.power_by w) (D.of w) D.exponent_in (pair_by (D.plain w) (D.of w) p.now) result }
 {
-    let e0 = power::exponent(l);
-    Term {
-        lambda: l,
-        q1: q1_of(l),
-        q2: q2_of(l),
-        power: power::raise(s, e0),
-        e0: e0,
-        e1: power::exponent(l + 1.0),
-        e2: power::exponent(l + 2.0),
-        e3: power::exponent(l + 3.0),
-        e4: power::exponent(l + 4.0),
-        e5: power::exponent(l + 5.0),
-        e6: power::exponent(l + 6.0),
-    }
-}
-
-// No value where sigma or an exponent is outside: then no radius has a potential.
-pub fn share(p: Pair) -> Result<Shared, Refusal>
-    ensures { answer result ≡ shared_of p }
-{
-    if !binary_log::base_inside(p.sigma) {
-        return Err(Refusal::Domain);
-    }
+    let r = term_of::<D>(p.sigma, p.lr)?;
+    let a = term_of::<D>(p.sigma, p.la)?;
     let order = p.order;
     let first = first_order(order);
     let second = second_order(order);
-    if !exponents_inside(first, second, p.lr, p.la) {
-        return Err(Refusal::Domain);
-    }
-    let s = binary_log::log_base(p.sigma);
+    let inside = exponents_inside(first, second, &r, &a);
     let d = quantum_d(p.mass, p.temperature);
     Ok(Shared {
-        r: term_of(s, p.lr),
-        a: term_of(s, p.la),
-        d: d,
-        d2: number::pow_up(d, 2),
+        r,
+        a,
+        d,
+        d2: d.powi(2),
         ce: p.c * p.epsilon_k,
-        first: first,
-        second: second,
+        first,
+        second,
+        inside,
     })
 }
 
-// The lines of order 0. The powers that the next order has too are handed in.
-fn mie(w: Shared, l: Log, r2: f64, a2: f64) -> QMiePotential
-    ensures { potential_in result ≡ mie_at w l r2 a2 }
+fn line_at<D: DualNum>(
+    base: D::Base,
+    er: D::Exponent,
+    ea: D::Exponent,
+) -> Result<LinePowers<D>, Refusal>
+    ensures { (w : Bool) → answer_by (powers_by (D.of w)) result ≡ both (D.power_by w base er) (D.power_by w base ea) }
 {
-    let r0 = power::raise(l, w.r.e0);
-    let a0 = power::raise(l, w.a.e0);
-    let r1 = power::raise(l, w.r.e1);
-    let a1 = power::raise(l, w.a.e1);
-    let lr = w.r.lambda;
-    let la = w.a.lambda;
-    let sr = w.r.power;
-    let sa = w.a.power;
+    let rr = D::raise(base, er)?;
+    let ra = D::raise(base, ea)?;
+    Ok(LinePowers { rr, ra })
+}
+
+// u of order 0, and what each further order adds to it, before d or its square.
+fn u_mie<D: DualNum>(s: &Shared<D>, l: LinePowers<D>) -> D
+    ensures { (w : Bool) → D.of w result ≡ u_mie (D.beside w) (D.of w l.rr) (D.plain w s.now.r.power) (D.of w l.ra) (D.plain w s.now.a.power) }
+{
+    let sr = s.r.power;
+    let sa = s.a.power;
+    l.rr.recip() * sr - l.ra.recip() * sa
+}
+
+fn u_quantum<D: DualNum>(s: &Shared<D>, qr: D::Plain, qa: D::Plain, l: LinePowers<D>) -> D
+    ensures { (w : Bool) → D.of w result ≡ u_quantum (D.beside w) (D.plain w qr) (D.plain w qa) (D.of w l.rr) (D.plain w s.now.r.power) (D.of w l.ra) (D.plain w s.now.a.power) }
+{
+    let sr = s.r.power;
+    let sa = s.a.power;
+    l.rr.recip() * qr * sr - l.ra.recip() * qa * sa
+}
+
+// The lines of order 0, from their powers.
+fn mie<D: DualNum>(
+    s: &Shared<D>,
+    l0: LinePowers<D>,
+    l1: LinePowers<D>,
+    l2: LinePowers<D>,
+) -> QMiePotential<D>
+    ensures { (w : Bool) → potential_by (D.of w) result ≡ mie_from (D.beside w) (D.plain w) (D.of w) s.now l0 l1 l2 }
+{
+    let one = D::Plain::lit(1.0);
+    let lr = s.r.lambda;
+    let la = s.a.lambda;
+    let sr = s.r.power;
+    let sa = s.a.power;
     QMiePotential {
-        u: 1.0 / r0 * sr - 1.0 / a0 * sa,
-        u_r: -(1.0 / r1) * lr * sr + 1.0 / a1 * la * sa,
-        u_rr: 1.0 / r2 * lr * (lr + 1.0) * sr - 1.0 / a2 * la * (la + 1.0) * sa,
+        u: u_mie(s, l0),
+        u_r: -l1.rr.recip() * lr * sr + l1.ra.recip() * la * sa,
+        u_rr: l2.rr.recip() * lr * (lr + one) * sr - l2.ra.recip() * la * (la + one) * sa,
     }
 }
 
 // The lines of the first order, added.
-fn add_first(
-    w: Shared,
-    l: Log,
-    r2: f64,
-    a2: f64,
-    r4: f64,
-    a4: f64,
-    v: QMiePotential,
-) -> QMiePotential
-    ensures { potential_in result ≡ first_at w l r2 a2 r4 a4 (potential_in v) }
+fn add_first<D: DualNum>(
+    s: &Shared<D>,
+    l2: LinePowers<D>,
+    l3: LinePowers<D>,
+    l4: LinePowers<D>,
+    v: QMiePotential<D>,
+) -> QMiePotential<D>
+    ensures { potential_by (D.of false) result ≡ first_from (D.beside false) (D.plain false) (D.of false) s.now l2 l3 l4 (potential_by (D.of false) v) }
 {
-    let r3 = power::raise(l, w.r.e3);
-    let a3 = power::raise(l, w.a.e3);
-    let lr = w.r.lambda;
-    let la = w.a.lambda;
-    let sr = w.r.power;
-    let sa = w.a.power;
-    let qr = w.r.q1;
-    let qa = w.a.q1;
+    let two = D::Plain::lit(2.0);
+    let three = D::Plain::lit(3.0);
+    let lr = s.r.lambda;
+    let la = s.a.lambda;
+    let sr = s.r.power;
+    let sa = s.a.power;
+    let qr = s.r.q1;
+    let qa = s.a.q1;
+    let d = s.d;
     QMiePotential {
-        u: v.u + w.d * (1.0 / r2 * qr * sr - 1.0 / a2 * qa * sa),
-        u_r: v.u_r + w.d * (1.0 / r3 * -qr * (lr + 2.0) * sr + 1.0 / a3 * qa * (la + 2.0) * sa),
+        u: v.u + d * u_quantum(s, qr, qa, l2),
+        u_r: v.u_r
+            + d * (l3.rr.recip() * -qr * (lr + two) * sr + l3.ra.recip() * qa * (la + two) * sa),
         u_rr: v.u_rr
-            + w.d
-                * (1.0 / r4 * qr * (lr + 2.0) * (lr + 3.0) * sr
-                    - 1.0 / a4 * qa * (la + 2.0) * (la + 3.0) * sa),
+            + d * (l4.rr.recip() * qr * (lr + two) * (lr + three) * sr
+                - l4.ra.recip() * qa * (la + two) * (la + three) * sa),
     }
 }
 
 // The lines of the second order, added.
-fn add_second(w: Shared, l: Log, r4: f64, a4: f64, v: QMiePotential) -> QMiePotential
-    ensures { potential_in result ≡ second_at w l r4 a4 (potential_in v) }
+fn add_second<D: DualNum>(
+    s: &Shared<D>,
+    l4: LinePowers<D>,
+    l5: LinePowers<D>,
+    l6: LinePowers<D>,
+    v: QMiePotential<D>,
+) -> QMiePotential<D>
+    ensures { (w : Bool) → potential_by (D.of w) result ≡ second_from (D.beside w) (D.plain w) (D.of w) s.now l4 l5 l6 (potential_by (D.of w) v) }
 {
-    let r5 = power::raise(l, w.r.e5);
-    let a5 = power::raise(l, w.a.e5);
-    let r6 = power::raise(l, w.r.e6);
-    let a6 = power::raise(l, w.a.e6);
-    let lr = w.r.lambda;
-    let la = w.a.lambda;
-    let sr = w.r.power;
-    let sa = w.a.power;
-    let qr = w.r.q2;
-    let qa = w.a.q2;
+    let four = D::Plain::lit(4.0);
+    let five = D::Plain::lit(5.0);
+    let lr = s.r.lambda;
+    let la = s.a.lambda;
+    let sr = s.r.power;
+    let sa = s.a.power;
+    let qr = s.r.q2;
+    let qa = s.a.q2;
+    let d2 = s.d2;
     QMiePotential {
-        u: v.u + w.d2 * (1.0 / r4 * qr * sr - 1.0 / a4 * qa * sa),
-        u_r: v.u_r + w.d2 * (-(1.0 / r5) * qr * (lr + 4.0) * sr + 1.0 / a5 * qa * (la + 4.0) * sa),
+        u: v.u + d2 * u_quantum(s, qr, qa, l4),
+        u_r: v.u_r
+            + d2 * (-l5.rr.recip() * qr * (lr + four) * sr + l5.ra.recip() * qa * (la + four) * sa),
         u_rr: v.u_rr
-            + w.d2
-                * (1.0 / r6 * qr * (lr + 4.0) * (lr + 5.0) * sr
-                    - 1.0 / a6 * qa * (la + 4.0) * (la + 5.0) * sa),
+            + d2 * (l6.rr.recip() * qr * (lr + four) * (lr + five) * sr
+                - l6.ra.recip() * qa * (la + four) * (la + five) * sa),
     }
 }
 
-fn scaled_by(ce: f64, v: QMiePotential) -> QMiePotential
-    ensures { potential_in result ≡ scaled floats ce (potential_in v) }
+// The factors are worked at every order, whether used or not.
+fn after_shared<D: DualNum>(s: &Shared<D>, u: D) -> D
+    ensures { (w : Bool) → D.of w result ≡ after_factors (D.beside w) (D.plain w) (D.of w) s.now (D.of w u) }
 {
+    let after_q2 = u.after(s.d).after_plain(s.a.q2).after_plain(s.r.q2);
+    after_q2.after_plain(s.a.q1).after_plain(s.r.q1)
+}
+
+// What a radius ends with, at every order.
+fn finished<D: DualNum>(s: &Shared<D>, v: QMiePotential<D>) -> QMiePotential<D>
+    ensures { (w : Bool) → potential_by (D.of w) result ≡ finished_from (D.beside w) (D.plain w) (D.of w) s.now (potential_by (D.of w) v) }
+{
+    let ce = s.ce;
     QMiePotential {
-        u: v.u * ce,
+        u: after_shared(s, v.u * ce),
         u_r: v.u_r * ce,
         u_rr: v.u_rr * ce,
     }
 }
 
-fn values_at(w: Shared, l: Log) -> QMiePotential
-    ensures { potential_in result ≡ values_at w l }
+// The potential at a radius, from what the pair's radii share. Powers that two orders have are handed on.
+pub fn potential_at<D: DualNum>(s: &Shared<D>, r: D) -> Result<QMiePotential<D>, Refusal>
+    ensures { (p : PairIn (D.beside false).Num) → Sharing (D.beside false) (D.functions false) (D.plain false) (D.power_at false) (D.power_by false) (D.of false) D.exponent_in p s.now
+        → answer_by (potential_by (D.of false)) result ≡ potential (D.beside false) (D.functions false) p (D.of false r) }
 {
-    let r2 = power::raise(l, w.r.e2);
-    let a2 = power::raise(l, w.a.e2);
-    let v = mie(w, l, r2, a2);
-    if !w.first {
-        return scaled_by(w.ce, v);
+    let base = r.base();
+    let l0 = line_at::<D>(base, s.r.e0, s.a.e0)?;
+    let l1 = line_at::<D>(base, s.r.e1, s.a.e1)?;
+    let l2 = line_at::<D>(base, s.r.e2, s.a.e2)?;
+    let v = mie(s, l0, l1, l2);
+    if !s.first {
+        return Ok(finished(s, v));
     }
-    let r4 = power::raise(l, w.r.e4);
-    let a4 = power::raise(l, w.a.e4);
-    let v1 = add_first(w, l, r2, a2, r4, a4, v);
-    if !w.second {
-        return scaled_by(w.ce, v1);
+    let l3 = line_at::<D>(base, s.r.e3, s.a.e3)?;
+    let l4 = line_at::<D>(base, s.r.e4, s.a.e4)?;
+    let v1 = add_first(s, l2, l3, l4, v);
+    if !s.second {
+        return Ok(finished(s, v1));
     }
-    scaled_by(w.ce, add_second(w, l, r4, a4, v1))
+    let l5 = line_at::<D>(base, s.r.e5, s.a.e5)?;
+    let l6 = line_at::<D>(base, s.r.e6, s.a.e6)?;
+    Ok(finished(s, add_second(s, l4, l5, l6, v1)))
 }
 
-pub fn potential_at(w: Shared, r: f64) -> Result<QMiePotential, Refusal>
-    ensures { potential_answer result ≡ potential_at w r }
+// The potential alone, where nothing reads its derivatives. Their powers need not be worked: what they refuse was tested once for the pair.
+pub fn u_at<D: DualNum>(s: &Shared<D>, r: D) -> Result<D, Refusal>
+    ensures { (w : Bool) (p : PairIn (D.beside w).Num) → Sharing (D.beside w) (D.functions w) (D.plain w) (D.power_at w) (D.power_by w) (D.of w) D.exponent_in p s.now
+        → answer_by (D.of w) result ≡ alone (potential (D.beside w) (D.functions w) p (D.of w r)) }
 {
-    if !binary_log::base_inside(r) {
+    let base = r.base();
+    if !s.inside {
         return Err(Refusal::Domain);
     }
-    Ok(values_at(w, binary_log::log_base(r)))
-}
-
-// The potential alone, where nothing reads its derivatives. Their powers need not be worked: what they refuse is tested once for the pair.
-fn u_value(w: Shared, l: Log) -> f64
-    ensures { result ≡ (values_at w l).u }
-{
-    let sr = w.r.power;
-    let sa = w.a.power;
-    let r0 = power::raise(l, w.r.e0);
-    let a0 = power::raise(l, w.a.e0);
-    let u = 1.0 / r0 * sr - 1.0 / a0 * sa;
-    if !w.first {
-        return u * w.ce;
+    let l0 = line_at::<D>(base, s.r.e0, s.a.e0)?;
+    let u = u_mie(s, l0);
+    if !s.first {
+        return Ok(after_shared(s, u * s.ce));
     }
-    let r2 = power::raise(l, w.r.e2);
-    let a2 = power::raise(l, w.a.e2);
-    let u1 = u + w.d * (1.0 / r2 * w.r.q1 * sr - 1.0 / a2 * w.a.q1 * sa);
-    if !w.second {
-        return u1 * w.ce;
+    let l2 = line_at::<D>(base, s.r.e2, s.a.e2)?;
+    let u1 = u + s.d * u_quantum(s, s.r.q1, s.a.q1, l2);
+    if !s.second {
+        return Ok(after_shared(s, u1 * s.ce));
     }
-    let r4 = power::raise(l, w.r.e4);
-    let a4 = power::raise(l, w.a.e4);
-    (u1 + w.d2 * (1.0 / r4 * w.r.q2 * sr - 1.0 / a4 * w.a.q2 * sa)) * w.ce
-}
-
-pub fn u_at(w: Shared, r: f64) -> Result<f64, Refusal>
-    ensures { answer result ≡ u_at w r }
-{
-    if !binary_log::base_inside(r) {
-        return Err(Refusal::Domain);
-    }
-    Ok(u_value(w, binary_log::log_base(r)))
+    let l4 = line_at::<D>(base, s.r.e4, s.a.e4)?;
+    let u2 = u1 + s.d2 * u_quantum(s, s.r.q2, s.a.q2, l4);
+    Ok(after_shared(s, u2 * s.ce))
 }
 
 // `qmie_potential_ij`.
-pub fn qmie_potential(pair: Pair, r: f64) -> Result<QMiePotential, Refusal>
-    ensures { potential_answer result ≡ potential floats (calls floats port) (pair_in pair) r }
+pub fn qmie_potential<D: DualNum>(p: &Pair<D, D::Plain>, r: D) -> Result<QMiePotential<D>, Refusal>
+    ensures { answer_by (potential_by (D.of false)) result ≡ potential (D.beside false) (D.functions false) (pair_by (D.plain false) (D.of false) p.now) (D.of false r) }
 {
-    let w = share(pair)?;
-    potential_at(w, r)
+    let s = share(p)?;
+    potential_at(&s, r)
 }

@@ -10,7 +10,7 @@ ghost use Rattle.saftvrqmie_searches.specs.Searches.{search_in};
 ghost use Rattle.saftvrqmie_properties.specs.Properties.{pair_properties_answer, radius_of, last_of, pair_properties};
 
 use number::Refusal;
-use saftvrqmie_potential::Pair;
+use saftvrqmie_potential::FloatPair;
 use saftvrqmie_searches::Search;
 
 #[derive(Clone, Copy)]
@@ -42,17 +42,17 @@ pub fn last_potential(s: Search) -> f64
     }
 }
 
-pub fn pair_properties(pair: Pair) -> Result<PairProperties, Refusal>
+pub fn pair_properties(pair: FloatPair) -> Result<PairProperties, Refusal>
     ensures { pair_properties_answer result ≡ pair_properties floats (calls floats port) (pair_in pair) }
 {
-    let w = saftvrqmie_potential::share(pair)?;
+    let w = saftvrqmie_potential::share(&pair)?;
     let sigma = 1.0 * pair.sigma;
-    let (s, sigma_count) = saftvrqmie_searches::sigma_search(w, sigma)?;
+    let (s, sigma_count) = saftvrqmie_searches::sigma_search(&w, sigma)?;
     let t = pair.temperature;
     let sigma_eff = radius(s);
-    let (z, zero_count) = saftvrqmie_searches::zero_search(w, t, sigma_eff)?;
-    let d = saftvrqmie_searches::diameter_by(w, t, sigma_eff, radius(z))?;
-    let (e, depth_count) = saftvrqmie_searches::depth_search(w, sigma)?;
+    let (z, zero_count) = saftvrqmie_searches::zero_search(&w, t, sigma_eff)?;
+    let d = saftvrqmie_searches::diameter_by(&w, t, sigma_eff, radius(z))?;
+    let (e, depth_count) = saftvrqmie_searches::depth_search(&w, sigma)?;
     Ok(PairProperties {
         sigma_eff: sigma_eff,
         hs_diameter: d,

@@ -10,11 +10,9 @@ use Rattle.number.specs.Arith.{floats, decimal, epsilon64}
 use Rattle.number.specs.Functions.{calls, answered}
 use Rattle.elementary.specs.Port.{port}
 use Rattle.elementary.proofs.Promised.{promised}
-use Rattle.saftvrqmie_potential.specs.Potential.{PotentialIn}
-use Rattle.saftvrqmie_potential.specs.Staged.{potential_at}
-use Rattle.saftvrqmie_potential.specs.declared.Shared.{Shared}
+use Rattle.saftvrqmie_potential.specs.Potential.{PairIn, PotentialIn, potential}
 use Rattle.saftvrqmie_searches.specs.declared.SearchKind.TheVariants.{Sigma, Zero, Depth}
-use Rattle.saftvrqmie_searches.specs.Searches.{Counted, found, spent, small, search_from, searched, zero_value, zero_tested, sigma_search, depth_search, zero_search, search_by}
+use Rattle.saftvrqmie_searches.specs.Searches.{Counted, found, spent, small, search_from, searched, zero_value, zero_tested, sigma_search, depth_search, zero_search, sigma_eff, zero_integrand, epsilon_k_eff, search_by}
 
 -- ---- at the loop: k evaluations done; what is left, run on from here, is the whole search
 module _ (U : Float → Ans (PotentialIn Float)) (tested : PotentialIn Float → Float) (moved : Float → PotentialIn Float → Float → Float) where
@@ -63,6 +61,22 @@ module _ (n : ℕ) where
   unfolding zero_search searched search_from ◌>>=◌
   zero_none t s = refl
 
+module _ (p : PairIn Float) (n : ℕ) (h : (r : Float) → potential floats (calls floats port) p r ≡ refused n) where
+  no_potential : potential floats (calls floats port) p ≡ none n
+  no_potential = fun_ext h
+
+  pub no_sigma_eff : refused n ≡ sigma_eff floats (calls floats port) p
+  unfolding sigma_eff
+  no_sigma_eff = rw no_potential (sigma_none n _)
+
+  pub no_epsilon_k_eff : refused n ≡ epsilon_k_eff floats (calls floats port) p
+  unfolding epsilon_k_eff
+  no_epsilon_k_eff = rw no_potential (depth_none n _)
+
+  pub no_zero_integrand : (s : Float) → refused n ≡ zero_integrand floats (calls floats port) p s
+  unfolding zero_integrand
+  no_zero_integrand s = rw no_potential (zero_none n _ s)
+
 -- ---- two searches read no temperature and no logarithm
 module _ (U : Float → Ans (PotentialIn Float)) (t l s : Float) where
   pub sigma_by : search_by floats Sigma U t l s ≡ sigma_search floats U s
@@ -87,14 +101,14 @@ log_there n e = never n ((promised.ln epsilon64 tt).0.inside tt).0 (sym e ∙ ((
     never : (n : ℕ) (r : Float) → refused n ≡ held r → ⊥
     never n r p = let z : ◌≡◌ {A = ℕ} 0 1 = cc in omega arith
 
-module _ (w : Shared) (t s : Float) where
+module _ (U : Float → Ans (PotentialIn Float)) (t s : Float) where
   tested_held : (l : Float) → port.ln epsilon64 ≡ held l → zero_tested floats (calls floats port) t ≡ (λ v. held (zero_value floats t l v))
   unfolding zero_tested ◌>>=◌
   tested_held l e = fun_ext (λ v. rw (once (port.ln epsilon64) epsilon64, e))
 
-  pub log_held : (l : Float) → port.ln epsilon64 ≡ held l → search_by floats Zero (potential_at w) t l (floats.mul s (decimal false 7 1)) ≡ zero_search floats (potential_at w) (calls floats port) t s
+  pub log_held : (l : Float) → port.ln epsilon64 ≡ held l → search_by floats Zero U t l (floats.mul s (decimal false 7 1)) ≡ zero_search floats U (calls floats port) t s
   unfolding zero_search search_by
   log_held l e = rw (tested_held l e)
 
-  pub log_refused : (n : ℕ) → port.ln epsilon64 ≡ refused n → refused n ≡ zero_search floats (potential_at w) (calls floats port) t s
+  pub log_refused : (n : ℕ) → port.ln epsilon64 ≡ refused n → refused n ≡ zero_search floats U (calls floats port) t s
   log_refused n e = absurd (log_there n e)

@@ -1,18 +1,18 @@
 // The three radius searches of a pair and its diameter (saftvrqmie/eos/hard_sphere.rs), in floats.
 #![tactic(auto)]
 
-ghost use Rattle.std.specs.Prelude.{◌≡◌, ◌<◌};
+ghost use Rattle.std.specs.Prelude.{Float, ◌≡◌, ◌<◌};
 ghost use Rattle.number.specs.Answer.{answer};
 ghost use Rattle.number.specs.Arith.{floats};
 ghost use Rattle.number.specs.Functions.{calls, entry};
 ghost use Rattle.elementary.specs.Port.{port};
-ghost use Rattle.saftvrqmie_potential.specs.Potential.{pair_in, potential_in};
-ghost use Rattle.saftvrqmie_potential.specs.Staged.{potential_at};
+ghost use Rattle.saftvrqmie_potential.specs.Potential.{PairIn, pair_in, potential_in, potential};
+ghost use Rattle.saftvrqmie_potential.specs.Shared.{FloatSharing};
 ghost use Rattle.saftvrqmie_searches.specs.Searches.{search_answer, small, clamped, tested_by, step_by, search_by, sigma_search, zero_search, depth_search, sigma_eff, zero_integrand, epsilon_k_eff};
 ghost use Rattle.saftvrqmie_searches.specs.Diameter.{abscissas, weights, node_turn, diameter_by, diameter};
 
 use number::Refusal;
-use saftvrqmie_potential::{Pair, QMiePotential, Shared};
+use saftvrqmie_potential::{FloatPair, QMiePotential, Shared};
 
 // f64::EPSILON
 const EPSILON: f64 = 2.220446049250313e-16;
@@ -100,7 +100,7 @@ fn clamp(dr: f64) -> f64
 }
 
 // The value that a search tests; l is the logarithm of EPSILON.
-fn tested(kind: SearchKind, temperature: f64, l: f64, v: QMiePotential) -> f64
+fn tested(kind: SearchKind, temperature: f64, l: f64, v: QMiePotential<f64>) -> f64
     ensures { result ≡ tested_by floats kind temperature l (potential_in v) }
 {
     match kind {
@@ -111,7 +111,7 @@ fn tested(kind: SearchKind, temperature: f64, l: f64, v: QMiePotential) -> f64
 }
 
 // The next radius, from the radius, its potential and the tested value.
-fn stepped(kind: SearchKind, temperature: f64, r: f64, v: QMiePotential, f: f64) -> f64
+fn stepped(kind: SearchKind, temperature: f64, r: f64, v: QMiePotential<f64>, f: f64) -> f64
     ensures { result ≡ step_by floats kind temperature r (potential_in v) f }
 {
     match kind {
@@ -124,12 +124,12 @@ fn stepped(kind: SearchKind, temperature: f64, r: f64, v: QMiePotential, f: f64)
 // One search. The logarithm of EPSILON is handed in: it is the same at every evaluation.
 fn radius_search(
     kind: SearchKind,
-    w: Shared,
+    w: &Shared<f64>,
     temperature: f64,
     l: f64,
     start: f64,
 ) -> Result<(Search, u8), Refusal>
-    ensures { search_answer result ≡ search_by floats kind (potential_at w) temperature l start }
+    ensures { (p : PairIn Float) → FloatSharing p w.now → search_answer result ≡ search_by floats kind (potential floats (calls floats port) p) temperature l start }
 {
     let mut r = start;
     let mut u = 0.0;
@@ -147,47 +147,51 @@ fn radius_search(
 }
 
 // The three searches from what a pair's radii share.
-pub fn sigma_search(w: Shared, sigma: f64) -> Result<(Search, u8), Refusal>
-    ensures { search_answer result ≡ sigma_search floats (potential_at w) sigma }
+pub fn sigma_search(w: &Shared<f64>, sigma: f64) -> Result<(Search, u8), Refusal>
+    ensures { (p : PairIn Float) → FloatSharing p w.now → search_answer result ≡ sigma_search floats (potential floats (calls floats port) p) sigma }
 {
     radius_search(SearchKind::Sigma, w, 0.0, 0.0, sigma)
 }
 
-pub fn zero_search(w: Shared, temperature: f64, sigma_eff: f64) -> Result<(Search, u8), Refusal>
-    ensures { search_answer result ≡ zero_search floats (potential_at w) (calls floats port) temperature sigma_eff }
+pub fn zero_search(
+    w: &Shared<f64>,
+    temperature: f64,
+    sigma_eff: f64,
+) -> Result<(Search, u8), Refusal>
+    ensures { (p : PairIn Float) → FloatSharing p w.now → search_answer result ≡ zero_search floats (potential floats (calls floats port) p) (calls floats port) temperature sigma_eff }
 {
     let l = elementary::ln(EPSILON)?;
     radius_search(SearchKind::Zero, w, temperature, l, sigma_eff * 0.7)
 }
 
-pub fn depth_search(w: Shared, sigma: f64) -> Result<(Search, u8), Refusal>
-    ensures { search_answer result ≡ depth_search floats (potential_at w) sigma }
+pub fn depth_search(w: &Shared<f64>, sigma: f64) -> Result<(Search, u8), Refusal>
+    ensures { (p : PairIn Float) → FloatSharing p w.now → search_answer result ≡ depth_search floats (potential floats (calls floats port) p) sigma }
 {
     radius_search(SearchKind::Depth, w, 0.0, 0.0, sigma)
 }
 
 // `calc_sigma_eff_ij`.
-pub fn calc_sigma_eff(pair: Pair) -> Result<(Search, u8), Refusal>
+pub fn calc_sigma_eff(pair: FloatPair) -> Result<(Search, u8), Refusal>
     ensures { search_answer result ≡ sigma_eff floats (calls floats port) (pair_in pair) }
 {
-    let w = saftvrqmie_potential::share(pair)?;
-    sigma_search(w, 1.0 * pair.sigma)
+    let w = saftvrqmie_potential::share(&pair)?;
+    sigma_search(&w, 1.0 * pair.sigma)
 }
 
 // `zero_integrand`.
-pub fn zero_integrand(pair: Pair, sigma_eff: f64) -> Result<(Search, u8), Refusal>
+pub fn zero_integrand(pair: FloatPair, sigma_eff: f64) -> Result<(Search, u8), Refusal>
     ensures { search_answer result ≡ zero_integrand floats (calls floats port) (pair_in pair) sigma_eff }
 {
-    let w = saftvrqmie_potential::share(pair)?;
-    zero_search(w, pair.temperature, sigma_eff)
+    let w = saftvrqmie_potential::share(&pair)?;
+    zero_search(&w, pair.temperature, sigma_eff)
 }
 
 // `calc_epsilon_k_eff_ij`; epsilon_k_eff is minus the last potential.
-pub fn calc_epsilon_k_eff(pair: Pair) -> Result<(Search, u8), Refusal>
+pub fn calc_epsilon_k_eff(pair: FloatPair) -> Result<(Search, u8), Refusal>
     ensures { search_answer result ≡ epsilon_k_eff floats (calls floats port) (pair_in pair) }
 {
-    let w = saftvrqmie_potential::share(pair)?;
-    depth_search(w, 1.0 * pair.sigma)
+    let w = saftvrqmie_potential::share(&pair)?;
+    depth_search(&w, 1.0 * pair.sigma)
 }
 
 // The tables' entries; beyond the nodes 0. A match, since a table read at a variable place would be rebuilt at every node.
@@ -251,7 +255,7 @@ pub fn weight(k: usize) -> f64
 
 // One node's part, added. Nothing reads the derivatives there.
 fn node(
-    w: Shared,
+    w: &Shared<f64>,
     temperature: f64,
     sigma_eff: f64,
     r0: f64,
@@ -259,7 +263,7 @@ fn node(
     d_hs: f64,
 ) -> Result<f64, Refusal>
     requires { k < 21 }
-    ensures { answer result ≡ node_turn floats (calls floats port) (potential_at w) temperature sigma_eff r0 k d_hs }
+    ensures { (p : PairIn Float) → FloatSharing p w.now → answer result ≡ node_turn floats (calls floats port) (potential floats (calls floats port) p) temperature sigma_eff r0 k d_hs }
 {
     let width = (sigma_eff - r0) * 0.5;
     let r = width * abscissa(k) + width + r0;
@@ -268,8 +272,13 @@ fn node(
     Ok(d_hs + width * (-e + 1.0) * weight(k))
 }
 
-pub fn diameter_by(w: Shared, temperature: f64, sigma_eff: f64, r0: f64) -> Result<f64, Refusal>
-    ensures { answer result ≡ diameter_by floats (calls floats port) (potential_at w) temperature sigma_eff r0 }
+pub fn diameter_by(
+    w: &Shared<f64>,
+    temperature: f64,
+    sigma_eff: f64,
+    r0: f64,
+) -> Result<f64, Refusal>
+    ensures { (p : PairIn Float) → FloatSharing p w.now → answer result ≡ diameter_by floats (calls floats port) (potential floats (calls floats port) p) temperature sigma_eff r0 }
 {
     let mut d_hs = r0;
     for k in 0usize..21usize {
@@ -280,9 +289,9 @@ pub fn diameter_by(w: Shared, temperature: f64, sigma_eff: f64, r0: f64) -> Resu
 }
 
 // `hs_diameter_ij`, from the searched radii.
-pub fn hs_diameter(pair: Pair, sigma_eff: f64, r0: f64) -> Result<f64, Refusal>
+pub fn hs_diameter(pair: FloatPair, sigma_eff: f64, r0: f64) -> Result<f64, Refusal>
     ensures { answer result ≡ diameter floats (calls floats port) (pair_in pair) sigma_eff r0 }
 {
-    let w = saftvrqmie_potential::share(pair)?;
-    diameter_by(w, pair.temperature, sigma_eff, r0)
+    let w = saftvrqmie_potential::share(&pair)?;
+    diameter_by(&w, pair.temperature, sigma_eff, r0)
 }

@@ -1,9 +1,37 @@
 -- `saftvrqmie_potential::mie` meets its contract. Assumes nothing.
-use Rattle.saftvrqmie_potential.specs.Staged.{mie_at}
 use lib.Ieee.{of_bits}
 use Rattle.number.specs.Arith.{decimal}
+use Rattle.saftvrqmie_potential.specs.Shared.{mie_from}
+use Rattle.saftvrqmie_potential.proofs.Parts.{by_parts}
 use Rattle.saftvrqmie_potential.proofs.mie.Goals as goal
 
 pub returns : goal.returns
-unfolding mie_at decimal of_bits
-returns c = rw (c.raise-r0.ensures, c.raise-a0.ensures, c.raise-r1.ensures, c.raise-a1.ensures)
+unfolding mie_from decimal of_bits
+returns g c w =
+    let m = g.met.D.DualNum in
+    by_parts
+    (rw (c.u_mie.ensures w))
+    (rw (
+      m.add_law w _ _ _ c.add.ensures,
+      m.mul_plain_law w _ _ _ c.mul-4.ensures,
+      m.mul_plain_law w _ _ _ c.mul-3.ensures,
+      c.recip-2.ensures w,
+      m.mul_plain_law w _ _ _ c.mul-2.ensures,
+      m.mul_plain_law w _ _ _ c.mul.ensures,
+      m.neg_law w _ _ c.neg.ensures,
+      c.recip.ensures w,
+    ))
+    (rw (
+      m.sub_law w _ _ _ c.sub.ensures,
+      m.mul_plain_law w _ _ _ c.mul-10.ensures,
+      m.mul_plain_law w _ _ _ c.mul-9.ensures,
+      m.plain_add_law w _ _ _ c.add-3.ensures,
+      m.mul_plain_law w _ _ _ c.mul-8.ensures,
+      c.recip-4.ensures w,
+      m.mul_plain_law w _ _ _ c.mul-7.ensures,
+      m.mul_plain_law w _ _ _ c.mul-6.ensures,
+      m.plain_add_law w _ _ _ c.add-2.ensures,
+      m.mul_plain_law w _ _ _ c.mul-5.ensures,
+      c.recip-3.ensures w,
+      m.plain_lit_law w _ _ c.lit-one.ensures,
+    ))

@@ -1,10 +1,15 @@
 -- `saftvrqmie_potential::q1_of` meets its contract. Assumes nothing.
-use Rattle.saftvrqmie_potential.specs.Potential.{q1}
 use lib.Ieee.{of_bits}
 use Rattle.number.specs.Arith.{decimal}
-use mathlib.Core.Path.{refl}
+use Rattle.saftvrqmie_potential.specs.Potential.{q1}
 use Rattle.saftvrqmie_potential.proofs.q1_of.Goals as goal
 
 pub returns : goal.returns
 unfolding q1 decimal of_bits
-returns c = refl
+returns g c w =
+    let m = g.met.D.DualNum in
+    rw (
+      m.plain_mul_law w _ _ _ c.mul.ensures,
+      m.plain_sub_law w _ _ _ c.sub.ensures,
+      m.plain_lit_law w _ _ c.lit.ensures,
+    )

@@ -1,12 +1,16 @@
 -- `saftvrqmie_potential::qmie_potential` meets its contract. Assumes nothing.
-use Rattle.std.proofs.Common.{◌∙◌}
-use Rattle.number.specs.Answer.{answer}
-use Rattle.saftvrqmie_potential.proofs.Staged.{shared_held, shared_refused}
-use Rattle.number.proofs.Walk.{via, handed_on}
+use mathlib.Core.Bool.{false}
+use mathlib.Core.Path.{subst, sym}
+use Rattle.number.proofs.Walk.{handed_on}
+use Rattle.saftvrqmie_potential.specs.Shared.{Shares}
 use Rattle.saftvrqmie_potential.proofs.qmie_potential.Goals as goal
 
-pub returns-in_err-w : goal.returns-in_err-w
-returns-in_err-w c = rw (handed_on _ c.from_residual.ensures, shared_refused _ _ (via answer c.share.ensures c.in_err-w.was))
+pub returns-in_err-s : goal.returns-in_err-s
+returns-in_err-s g c =
+    let d = g.D.DualNum in
+    rw (handed_on _ c.from_residual.ensures) (sym (subst (Shares (d.beside false) (d.functions false) (d.plain false) (d.power_at false) (d.power_by false) (d.of false) d.exponent_in _) c.in_err-s.was (c.share.ensures false) _))
 
 pub returns : goal.returns
-returns c = c.potential_at.ensures ∙ rw (shared_held _ _ (via answer c.share.ensures c.in_ok-w.was))
+returns g c =
+    let d = g.D.DualNum in
+    c.potential_at.ensures _ (subst (Shares (d.beside false) (d.functions false) (d.plain false) (d.power_at false) (d.power_by false) (d.of false) d.exponent_in _) c.in_ok-s.was (c.share.ensures false))

@@ -1,17 +1,33 @@
 -- `saftvrqmie_potential::share` meets its contract. Assumes nothing.
-use Rattle.saftvrqmie_potential.specs.Staged.{shared_of}
-use Rattle.number.specs.Ans.{◌>>=◌, demand}
-use Rattle.number.proofs.Walk.{told}
+use mathlib.Core.Path.{subst}
+use Rattle.number.proofs.Walk.{handed_on}
+use Rattle.saftvrqmie_potential.specs.Shared.{IsTerm}
+use Rattle.saftvrqmie_potential.proofs.Lines.{first_outside, second_outside}
 use Rattle.saftvrqmie_potential.proofs.share.Goals as goal
 
-pub returns-then-not-base_inside : goal.returns-then-not-base_inside
-unfolding shared_of demand ◌>>=◌
-returns-then-not-base_inside c = rw (told c.base_inside.ensures c.if-not-base_inside.true)
+pub returns-in_err-r : goal.returns-in_err-r
+returns-in_err-r g c w =
+    let d = g.D.DualNum in
+    let q = subst (IsTerm (d.beside w) (d.functions w) (d.plain w) (d.power_at w) (d.power_by w) _ _) c.in_err-r.was (c.term_of.ensures w) in
+    rw (handed_on _ c.from_residual.ensures) (λ x. first_outside (d.beside w) (d.functions w) (g.met.D.DualNum.powf_law w) _ x q)
 
-pub returns-then-not-exponents_inside : goal.returns-then-not-exponents_inside
-unfolding shared_of demand ◌>>=◌
-returns-then-not-exponents_inside c = rw (told c.base_inside.ensures c.if-not-base_inside.false, ← c.first_order-first.ensures, ← c.second_order-second.ensures, told c.exponents_inside.ensures c.if-not-exponents_inside.true)
+pub returns-in_err-a : goal.returns-in_err-a
+returns-in_err-a g c w =
+    let d = g.D.DualNum in
+    let q = subst (IsTerm (d.beside w) (d.functions w) (d.plain w) (d.power_at w) (d.power_by w) _ _) c.in_err-a.was (c.term_of-2.ensures w) in
+    rw (handed_on _ c.from_residual-in_err-a.ensures) (λ x. second_outside (d.beside w) (d.functions w) (g.met.D.DualNum.powf_law w) _ x q)
 
 pub returns : goal.returns
-unfolding shared_of demand ◌>>=◌
-returns c = rw (c.term_of-2.ensures, c.term_of.ensures, c.pow_up.ensures, c.log_base-s.ensures, c.quantum_d-d.ensures, told c.base_inside.ensures c.if-not-base_inside.false, ← c.first_order-first.ensures, ← c.second_order-second.ensures, told c.exponents_inside.ensures c.if-not-exponents_inside.false)
+returns g c w =
+    let d = g.D.DualNum in
+    let m = g.met.D.DualNum in
+    record {
+      r = subst (IsTerm (d.beside w) (d.functions w) (d.plain w) (d.power_at w) (d.power_by w) _ _) c.in_ok-r.was (c.term_of.ensures w);
+      a = subst (IsTerm (d.beside w) (d.functions w) (d.plain w) (d.power_at w) (d.power_by w) _ _) c.in_ok-a.was (c.term_of-2.ensures w);
+      d = c.quantum_d-d.ensures w;
+      d2 = rw (c.quantum_d-d.ensures w) at (c.powi.ensures w);
+      ce = m.plain_mul_law w _ _ _ c.mul.ensures;
+      first = c.first_order-first.ensures;
+      second = c.second_order-second.ensures;
+      inside = c.exponents_inside-inside.ensures;
+    }

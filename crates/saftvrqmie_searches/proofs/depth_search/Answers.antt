@@ -4,4 +4,4 @@ use mathlib.Core.Path.{◌∙◌}
 use Rattle.saftvrqmie_searches.proofs.depth_search.Goals as goal
 
 pub returns : goal.returns
-returns c = c.radius_search.ensures ∙ depth_by _ _ _ _
+returns c = λ p h. c.radius_search.ensures p h ∙ depth_by _ _ _ _

@@ -1,15 +1,16 @@
 -- `saftvrqmie_searches::hs_diameter` meets its contract. Assumes nothing.
-use Rattle.saftvrqmie_searches.proofs.Nodes.{diameter_none}
+use mathlib.Core.Path.{subst}
+use mathlib.Core.Bool.{true}
+use Rattle.number.proofs.Walk.{handed_on}
+use Rattle.saftvrqmie_potential.specs.Potential.{pair_in}
+use Rattle.saftvrqmie_potential.specs.Shared.{FloatShares}
 use Rattle.saftvrqmie_searches.specs.Diameter.{diameter}
-use Rattle.saftvrqmie_potential.proofs.Staged.{shared_held, shared_refused}
-use Rattle.number.proofs.Walk.{via, handed_on}
-use Rattle.number.specs.Answer.{answer}
+use Rattle.saftvrqmie_searches.proofs.Nodes.{no_diameter}
 use Rattle.saftvrqmie_searches.proofs.hs_diameter.Goals as goal
 
 pub returns-in_err-w : goal.returns-in_err-w
-unfolding diameter
-returns-in_err-w c = rw (handed_on _ c.from_residual.ensures, shared_refused _ _ (via answer c.share.ensures c.in_err-w.was)) (diameter_none _ _ _ _)
+returns-in_err-w c = rw (handed_on _ c.from_residual.ensures) (no_diameter _ _ (subst (FloatShares (pair_in c.args.pair)) c.in_err-w.was (c.share.ensures true)) _ _)
 
 pub returns : goal.returns
 unfolding diameter
-returns c = rw (shared_held _ _ (via answer c.share.ensures c.in_ok-w.was)) c.diameter_by.ensures
+returns c = c.diameter_by.ensures _ (subst (FloatShares (pair_in c.args.pair)) c.in_ok-w.was (c.share.ensures true))

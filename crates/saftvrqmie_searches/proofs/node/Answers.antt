@@ -1,4 +1,5 @@
 -- `saftvrqmie_searches::node` meets its contract. Assumes nothing.
+use mathlib.Core.Bool.{true}
 use Rattle.saftvrqmie_searches.proofs.Nodes.{node_outside, node_no_exp, node_value}
 use lib.Ieee.{of_bits}
 use Rattle.number.specs.Arith.{decimal}
@@ -8,12 +9,12 @@ use Rattle.saftvrqmie_searches.proofs.node.Goals as goal
 
 pub returns-in_err-u : goal.returns-in_err-u
 unfolding decimal of_bits
-returns-in_err-u c = rw (handed_on _ c.from_residual.ensures) (node_outside _ _ _ _ _ _ _ c.abscissa.ensures _ (via answer c.u_at.ensures c.in_err-u.was))
+returns-in_err-u c = λ p h. rw (handed_on _ c.from_residual.ensures) (node_outside _ _ _ _ _ _ _ c.abscissa.ensures _ (via answer (c.u_at.ensures true p h) c.in_err-u.was))
 
 pub returns-in_err-e : goal.returns-in_err-e
 unfolding decimal of_bits
-returns-in_err-e c = rw (handed_on _ c.from_residual-in_err-e.ensures) (node_no_exp _ _ _ _ _ _ _ c.abscissa.ensures _ (via answer c.u_at.ensures c.in_ok-u.was) _ (via answer c.exp.ensures c.in_err-e.was))
+returns-in_err-e c = λ p h. rw (handed_on _ c.from_residual-in_err-e.ensures) (node_no_exp _ _ _ _ _ _ _ c.abscissa.ensures _ (via answer (c.u_at.ensures true p h) c.in_ok-u.was) _ (via answer c.exp.ensures c.in_err-e.was))
 
 pub returns : goal.returns
 unfolding decimal of_bits
-returns c = node_value _ _ _ _ _ _ _ c.abscissa.ensures _ (via answer c.u_at.ensures c.in_ok-u.was) _ _ (via answer c.exp.ensures c.in_ok-e.was) c.weight.ensures
+returns c = λ p h. node_value _ _ _ _ _ _ _ c.abscissa.ensures _ (via answer (c.u_at.ensures true p h) c.in_ok-u.was) _ _ (via answer c.exp.ensures c.in_ok-e.was) c.weight.ensures

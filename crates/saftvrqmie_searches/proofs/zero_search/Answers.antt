@@ -8,8 +8,8 @@ use Rattle.number.specs.Arith.{decimal}
 use Rattle.saftvrqmie_searches.proofs.zero_search.Goals as goal
 
 pub returns-in_err-l : goal.returns-in_err-l
-returns-in_err-l c = rw (handed_on _ c.from_residual.ensures) (log_refused _ _ _ _ (via answer c.ln.ensures c.in_err-l.was))
+returns-in_err-l c = λ p h. rw (handed_on _ c.from_residual.ensures) (log_refused _ _ _ _ (via answer c.ln.ensures c.in_err-l.was))
 
 pub returns : goal.returns
 unfolding decimal of_bits
-returns c = c.radius_search.ensures ∙ log_held _ _ _ _ (via answer c.ln.ensures c.in_ok-l.was)
+returns c = λ p h. c.radius_search.ensures p h ∙ log_held _ _ _ _ (via answer c.ln.ensures c.in_ok-l.was)

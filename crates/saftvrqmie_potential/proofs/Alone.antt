@@ -1,0 +1,183 @@
+-- The potential alone: where the exponents of its order are inside, the first line's powers say whether it is refused. Assumes nothing.
+use Prim.Native.Nat.{ℕ}
+use native.Mathlib.Omega.{arith}
+use mathlib.Core.Path.{◌≡◌, refl, sym, ap, ◌∙◌}
+use mathlib.Core.Bool.{Bool, true, false, ◌&&◌, cond}
+use Rattle.number.specs.Ans.{Ans, held, refused, ◌>>=◌}
+use Rattle.number.specs.Arith.{Arith}
+use Rattle.number.specs.Functions.{Functions}
+use Rattle.number.proofs.Walk.{told, held_inj}
+use Rattle.saftvrqmie_potential.specs.Potential.{PairIn, PotentialIn, first_order, second_order, quantum_d, q1, q2, u_mie, ur_mie, urr_mie, u_quantum, ur_first, urr_first, ur_second, urr_second, corrected, scaled, line, mie, add_first, add_second, after_shared, potential}
+use Rattle.saftvrqmie_potential.specs.Shared.{Stands, Sharing, both, both_inside, exponents_inside, powers_by, alone, after_factors}
+use Rattle.saftvrqmie_potential.specs.declared.LinePowers.{LinePowers}
+use Rattle.saftvrqmie_potential.specs.declared.Shared.{Shared}
+use Rattle.saftvrqmie_potential.proofs.Lines.{line_by, line_refused}
+use Rattle.saftvrqmie_potential.proofs.Orders.{not_first}
+
+-- ---- an answer that holds x if t, and is refused with 6 otherwise
+record Tested {S : Type 0} (t : Bool) (x : S) (a : Ans S) : Type 0 where
+  is : a ≡ cond t (held x) (refused 6)
+
+tested : {S : Type 0} (t : Bool) (x : S) (a : Ans S) → a ≡ cond t (held x) (refused 6) → Tested t x a
+tested t x a e = record { is = e }
+
+then_tested : {S T : Type 0} (t u : Bool) (x : S) (y : T) (a : Ans S) (f : S → Ans T) → Tested t x a → Tested u y (f x) → Tested (t && u) y (a >>= f)
+unfolding ◌>>=◌
+then_tested true u x y a f p q = tested u y _ (rw p.is q.is)
+then_tested false u x y a f p q = tested false y _ (rw p.is)
+
+then_value : {S T : Type 0} (t : Bool) (x : S) (y : T) (a : Ans S) (f : S → Ans T) → Tested t x a → f x ≡ held y → Tested t y (a >>= f)
+unfolding ◌>>=◌
+then_value true x y a f p q = tested true y _ (rw p.is q)
+then_value false x y a f p q = tested false y _ (rw p.is)
+
+choice_tested : {S : Type 0} (b t : Bool) (x y : S) (a : Ans S) → Tested t y a → Tested (cond b t true) (cond b y x) (cond b a (held x))
+choice_tested true t x y a p = p
+choice_tested false t x y a p = tested true x _ refl
+
+and_left : (a b : Bool) → (a && b) ≡ true → a ≡ true
+and_left true b p = refl
+and_left false b p = p
+
+and_right : (a b : Bool) → (a && b) ≡ true → b ≡ true
+and_right true b p = p
+and_right false b p = absurd (mathlib.Core.Bool.false≢true p)
+
+-- ---- two powers of one base
+module _ {N : Type 0} (v w : N) where
+  of_tests : (s t u : Bool) → both (cond (s && t) (held v) (refused 6)) (cond (s && u) (held w) (refused 6)) ≡ cond s (cond (t && u) (held (v, w)) (refused 6)) (refused 6)
+  unfolding ◌>>=◌
+  of_tests true true true = refl
+  of_tests true true false = refl
+  of_tests true false u = refl
+  of_tests false t u = refl
+
+  held_tests : {x y : N} (s t : Bool) → cond {A = Ans (N × N)} s (cond t (held (v, w)) (refused 6)) (refused 6) ≡ held (x, y) → (s ≡ true) × (x ≡ v) × (y ≡ w)
+  held_tests true true q = (refl, sym (ap (λ (z : N × N). z.0) (held_inj _ _ q)), sym (ap (λ (z : N × N). z.1) (held_inj _ _ q)))
+  held_tests true false q = (cc, cc, cc)
+  held_tests false t q = (cc, cc, cc)
+
+module _ {A : Arith} {F : Functions A.Num} {D P B E : Type 0} {plain : P → A.Num} {power_at : B → A.Num → Ans A.Num} {power_by : B → E → Ans A.Num} {of : D → A.Num} {exponent_in : E → Bool}
+    (base_in : B → Bool) (raised : B → E → A.Num) (law : (b : B) (n : E) → power_by b n ≡ cond (base_in b && exponent_in n) (held (raised b n)) (refused 6))
+    {p : PairIn A.Num} {s : Shared D P B E} (h : Sharing A F plain power_at power_by of exponent_in p s) {r : A.Num} {b : B} (is-b : power_at b ≡ F.powf r) where
+  abbrev sr : A.Num
+  sr = plain s.r.power
+
+  abbrev sa : A.Num
+  sa = plain s.a.power
+
+  both_is : (n m : E) → both (power_by b n) (power_by b m) ≡ cond (base_in b) (cond (both_inside exponent_in n m) (held (raised b n, raised b m)) (refused 6)) (refused 6)
+  both_is n m = rw (law b n, law b m) (of_tests (raised b n) (raised b m) (base_in b) (exponent_in n) (exponent_in m))
+
+  as_raised : {n m : E} {x y : A.Num} → both (power_by b n) (power_by b m) ≡ held (x, y) → (base_in b ≡ true) × (x ≡ raised b n) × (y ≡ raised b m)
+  as_raised {n = n} {m = m} q = held_tests (raised b n) (raised b m) (base_in b) (both_inside exponent_in n m) (sym (both_is n m) ∙ q)
+
+  module _ (in-b : base_in b ≡ true) where
+    abbrev value : E → E → (A.Num → A.Num → A.Num → A.Num → A.Num) → A.Num
+    value n m f = f (raised b n) sr (raised b m) sa
+
+    made : (t : Bool) (a : A.Num × A.Num) (f : A.Num → A.Num → A.Num → A.Num → A.Num) → (cond t (held a) (refused 6) >>= λ x. held (f x.0 sr x.1 sa)) ≡ cond t (held (f a.0 sr a.1 sa)) (refused 6)
+    unfolding ◌>>=◌
+    made true a f = refl
+    made false a f = refl
+
+    line_tested : {n m : E} {e e' : A.Num} → Stands power_at power_by n e → Stands power_at power_by m e' → (f : A.Num → A.Num → A.Num → A.Num → A.Num) → Tested (both_inside exponent_in n m) (value n m f) (line A F p r e e' f)
+    line_tested {n = n} {m = m} k k' f = tested _ _ _ (line_by h is-b k k' _ (rw in-b at (both_is n m)) f ∙ made (both_inside exponent_in n m) (raised b n, raised b m) f)
+
+    -- three lines, and what is made of them
+    lines_tested : {S : Type 0} {t t' t'' : Bool} {x y z : A.Num} {a a' a'' : Ans A.Num} (g : A.Num → A.Num → A.Num → S) → Tested t x a → Tested t' y a' → Tested t'' z a''
+        → Tested (t && (t' && t'')) (g x y z) (a >>= λ u. a' >>= λ v. a'' >>= λ w. held (g u v w))
+    lines_tested g p q r = then_tested _ _ _ _ _ _ p (then_tested _ _ _ _ _ _ q (then_value _ _ _ _ _ r refl))
+
+    abbrev v₀ : PotentialIn A.Num
+    v₀ = record { u = value s.r.e0 s.a.e0 (u_mie A); u_r = value s.r.e1 s.a.e1 (ur_mie A p.lr p.la); u_rr = value s.r.e2 s.a.e2 (urr_mie A p.lr p.la) }
+
+    abbrev first_at : PotentialIn A.Num → PotentialIn A.Num
+    first_at v = corrected A (quantum_d A F p.mass p.temperature) v (value s.r.e2 s.a.e2 (u_quantum A (q1 A p.lr) (q1 A p.la))) (value s.r.e3 s.a.e3 (ur_first A p.lr p.la (q1 A p.lr) (q1 A p.la))) (value s.r.e4 s.a.e4 (urr_first A p.lr p.la (q1 A p.lr) (q1 A p.la)))
+
+    abbrev second_at : PotentialIn A.Num → PotentialIn A.Num
+    second_at v = corrected A (A.pow (quantum_d A F p.mass p.temperature) 2) v (value s.r.e4 s.a.e4 (u_quantum A (q2 A p.lr) (q2 A p.la))) (value s.r.e5 s.a.e5 (ur_second A p.lr p.la (q2 A p.lr) (q2 A p.la))) (value s.r.e6 s.a.e6 (urr_second A p.lr p.la (q2 A p.lr) (q2 A p.la)))
+
+    abbrev v₁ : PotentialIn A.Num
+    v₁ = cond (first_order p.order) (first_at v₀) v₀
+
+    abbrev v₂ : PotentialIn A.Num
+    v₂ = cond (second_order p.order) (second_at v₁) v₁
+
+    mie_tested : Tested (both_inside exponent_in s.r.e0 s.a.e0 && (both_inside exponent_in s.r.e1 s.a.e1 && both_inside exponent_in s.r.e2 s.a.e2)) v₀ (mie A F p r)
+    unfolding mie
+    mie_tested = lines_tested (λ x y z. record { u = x; u_r = y; u_rr = z }) (line_tested h.r.e0 h.a.e0 _) (line_tested h.r.e1 h.a.e1 _) (line_tested h.r.e2 h.a.e2 _)
+
+    first_tested : (v : PotentialIn A.Num) → Tested (both_inside exponent_in s.r.e2 s.a.e2 && (both_inside exponent_in s.r.e3 s.a.e3 && both_inside exponent_in s.r.e4 s.a.e4)) (first_at v) (add_first A F p r v)
+    unfolding add_first
+    first_tested v = lines_tested (corrected A _ v) (line_tested h.r.e2 h.a.e2 _) (line_tested h.r.e3 h.a.e3 _) (line_tested h.r.e4 h.a.e4 _)
+
+    second_tested : (v : PotentialIn A.Num) → Tested (both_inside exponent_in s.r.e4 s.a.e4 && (both_inside exponent_in s.r.e5 s.a.e5 && both_inside exponent_in s.r.e6 s.a.e6)) (second_at v) (add_second A F p r v)
+    unfolding add_second
+    second_tested v = lines_tested (corrected A _ v) (line_tested h.r.e4 h.a.e4 _) (line_tested h.r.e5 h.a.e5 _) (line_tested h.r.e6 h.a.e6 _)
+
+    whole_tested : Tested (exponents_inside exponent_in (first_order p.order) (second_order p.order) s.r s.a) (after_shared A F p (scaled A (A.mul p.c p.epsilon_k) v₂)) (potential A F p r)
+    unfolding potential exponents_inside
+    whole_tested =
+        then_tested _ _ _ _ _ _ mie_tested
+        (then_tested _ _ _ _ _ _ (choice_tested (first_order p.order) _ _ _ _ (first_tested v₀))
+        (then_value _ _ _ _ _ (choice_tested (second_order p.order) _ _ _ _ (second_tested v₁)) refl))
+
+    potential_tested : (t : Bool) → s.inside ≡ t → potential A F p r ≡ cond t (held (after_shared A F p (scaled A (A.mul p.c p.epsilon_k) v₂))) (refused 6)
+    potential_tested t k = rw (← k, h.inside, h.first, h.second) whole_tested.is
+
+  -- ---- an exponent outside
+  pub outside : s.inside ≡ false → potential A F p r ≡ refused 6
+  unfolding potential mie ◌>>=◌
+  outside k = by (base_in b) refl
+    where
+      by : (t : Bool) → base_in b ≡ t → potential A F p r ≡ refused 6
+      by true e = potential_tested e false k
+      by false e = rw (line_refused h is-b h.r.e0 h.a.e0 (rw e at (both_is s.r.e0 s.a.e0)))
+
+  -- ---- the exponents inside, and the first line held
+  abbrev Powers : E → E → LinePowers D → Type 0
+  Powers n m l = both (power_by b n) (power_by b m) ≡ held (powers_by of l)
+
+  module _ (in-s : s.inside ≡ true) {l0 : LinePowers D} (q0 : Powers s.r.e0 s.a.e0 l0) where
+    inside : exponents_inside exponent_in s.first s.second s.r s.a ≡ true
+    inside = sym h.inside ∙ in-s
+
+    in-2 : both_inside exponent_in s.r.e2 s.a.e2 ≡ true
+    unfolding exponents_inside
+    in-2 = and_right (both_inside exponent_in s.r.e1 s.a.e1) _ (and_right (both_inside exponent_in s.r.e0 s.a.e0) _ (and_left (both_inside exponent_in s.r.e0 s.a.e0 && (both_inside exponent_in s.r.e1 s.a.e1 && both_inside exponent_in s.r.e2 s.a.e2)) _ inside))
+
+    in-4 : s.first ≡ true → both_inside exponent_in s.r.e4 s.a.e4 ≡ true
+    unfolding exponents_inside
+    in-4 k = and_right (both_inside exponent_in s.r.e3 s.a.e3) _ (and_right (both_inside exponent_in s.r.e2 s.a.e2) _ (and_left (both_inside exponent_in s.r.e2 s.a.e2 && (both_inside exponent_in s.r.e3 s.a.e3 && both_inside exponent_in s.r.e4 s.a.e4)) _ (and_right (both_inside exponent_in s.r.e0 s.a.e0 && (both_inside exponent_in s.r.e1 s.a.e1 && both_inside exponent_in s.r.e2 s.a.e2)) _ (rw k at inside))))
+
+    never : (n m : E) (j : ℕ) → both_inside exponent_in n m ≡ true → both (power_by b n) (power_by b m) ≡ refused j → ⊥
+    never n m j k q = let e = sym (rw ((as_raised q0).0, k) at (both_is n m)) ∙ q in let z : ◌≡◌ {A = ℕ} 0 1 = cc in omega arith
+
+    pub never_2 : {j : ℕ} → both (power_by b s.r.e2) (power_by b s.a.e2) ≡ refused j → ⊥
+    never_2 q = never _ _ _ in-2 q
+
+    pub never_4 : {j : ℕ} → s.first ≡ true → both (power_by b s.r.e4) (power_by b s.a.e4) ≡ refused j → ⊥
+    never_4 k q = never _ _ _ (in-4 k) q
+
+    alone_is : held (after_shared A F p (scaled A (A.mul p.c p.epsilon_k) (v₂ (as_raised q0).0))).u ≡ alone (potential A F p r)
+    unfolding ◌>>=◌
+    alone_is = rw (potential_tested (as_raised q0).0 true in-s)
+
+    module _ {u res : A.Num} (is-u : u ≡ u_mie A (of l0.rr) sr (of l0.ra) sa) where
+      pub alone_0 : s.first ≡ false → res ≡ after_factors A plain of s (A.mul u (plain s.ce)) → held res ≡ alone (potential A F p r)
+      unfolding after_shared scaled after_factors ◌>>=◌
+      alone_0 k is-res =
+          let t = told h.first k in
+          rw (is-res, is-u, (as_raised q0).1, (as_raised q0).2, after_factors, h.r.q1, h.a.q1, h.r.q2, h.a.q2, h.d, h.ce) (rw (t, not_first _ t) at alone_is)
+
+      module _ (k : s.first ≡ true) {l2 : LinePowers D} (q2 : Powers s.r.e2 s.a.e2 l2) {u₁ : A.Num} (is-u₁ : u₁ ≡ A.add u (A.mul (of s.d) (u_quantum A (plain s.r.q1) (plain s.a.q1) (of l2.rr) sr (of l2.ra) sa))) where
+        pub alone_1 : s.second ≡ false → res ≡ after_factors A plain of s (A.mul u₁ (plain s.ce)) → held res ≡ alone (potential A F p r)
+        unfolding after_shared scaled after_factors ◌>>=◌
+        alone_1 k' is-res =
+            rw (is-res, is-u₁, is-u, (as_raised q0).1, (as_raised q0).2, (as_raised q2).1, (as_raised q2).2, after_factors, h.r.q1, h.a.q1, h.r.q2, h.a.q2, h.d, h.ce) (rw (told h.first k, told h.second k') at alone_is)
+
+        pub alone_2 : s.second ≡ true → {l4 : LinePowers D} → Powers s.r.e4 s.a.e4 l4 → {u₂ : A.Num} → u₂ ≡ A.add u₁ (A.mul (of s.d2) (u_quantum A (plain s.r.q2) (plain s.a.q2) (of l4.rr) sr (of l4.ra) sa)) → res ≡ after_factors A plain of s (A.mul u₂ (plain s.ce)) → held res ≡ alone (potential A F p r)
+        unfolding after_shared scaled after_factors ◌>>=◌
+        alone_2 k' q4 is-u₂ is-res =
+            rw (is-res, is-u₂, is-u₁, is-u, (as_raised q0).1, (as_raised q0).2, (as_raised q2).1, (as_raised q2).2, (as_raised q4).1, (as_raised q4).2, after_factors, h.r.q1, h.a.q1, h.r.q2, h.a.q2, h.d, h.d2, h.ce) (rw (told h.first k, told h.second k') at alone_is)

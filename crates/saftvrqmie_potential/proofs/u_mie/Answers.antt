@@ -1,0 +1,16 @@
+-- `saftvrqmie_potential::u_mie` meets its contract. Assumes nothing.
+use lib.Ieee.{of_bits}
+use Rattle.number.specs.Arith.{decimal}
+use Rattle.saftvrqmie_potential.proofs.u_mie.Goals as goal
+
+pub returns : goal.returns
+unfolding decimal of_bits
+returns g c w =
+    let m = g.met.D.DualNum in
+    rw (
+      m.sub_law w _ _ _ c.sub.ensures,
+      m.mul_plain_law w _ _ _ c.mul-2.ensures,
+      c.recip-2.ensures w,
+      m.mul_plain_law w _ _ _ c.mul.ensures,
+      c.recip.ensures w,
+    )

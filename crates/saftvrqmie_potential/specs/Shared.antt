@@ -1,0 +1,130 @@
+-- What the code works once for a pair, and what that is: the contracts of helpers alone, which say that what they work from it is the formula's.
+use Rattle.std.specs.Prelude.{Float, ◌≡◌, Bool, true, ◌&&◌, cond, Err, Ok, Result}
+use Rattle.number.specs.declared.refusal.Refusal.{Refusal}
+use Rattle.number.specs.Answer.{code}
+use Rattle.number.specs.Ans.{Ans, held, refused, ◌>>=◌}
+use Rattle.number.specs.Arith.{Arith, floats, whole}
+use Rattle.number.specs.Functions.{Functions, calls}
+use Rattle.elementary.specs.Port.{port}
+use Rattle.dual_num.specs.declared.FloatBase.{FloatBase}
+use Rattle.dual_num.specs.declared.FloatExponent.{FloatExponent}
+use Rattle.dual_num.specs.Base.{float_power, float_power_by}
+use Rattle.saftvrqmie_potential.specs.Potential.{PairIn, PotentialIn, first_order, second_order, quantum_d, q1, q2, u_mie, ur_mie, urr_mie, u_quantum, ur_first, urr_first, ur_second, urr_second, corrected, scaled, potential}
+use Rattle.saftvrqmie_potential.specs.declared.Term.{Term}
+use Rattle.saftvrqmie_potential.specs.declared.Shared.{Shared}
+use Rattle.saftvrqmie_potential.specs.declared.LinePowers.{LinePowers}
+
+-- a line's two powers of the radius
+abbrev pub both : {N : Type 0} → Ans N → Ans N → Ans (N × N)
+both a b = a >>= λ x. b >>= λ y. held (x, y)
+
+abbrev pub powers_by : {D N : Type 0} → (D → N) → LinePowers D → N × N
+powers_by of l = (of l.rr, of l.ra)
+
+-- the potential alone
+abbrev pub alone : {N : Type 0} → Ans (PotentialIn N) → Ans N
+alone a = a >>= λ v. held v.u
+
+-- a line's two exponents lie within the power's domain
+abbrev pub both_inside : {E : Type 0} → (E → Bool) → E → E → Bool
+both_inside exponent_in er ea = exponent_in er && exponent_in ea
+
+-- those of the lines that the order has
+unfoldable pub exponents_inside : {D P B E : Type 0} → (E → Bool) → Bool → Bool → Term D P B E → Term D P B E → Bool
+exponents_inside exponent_in first second r a =
+    let inside = both_inside exponent_in in
+    (inside r.e0 a.e0 && (inside r.e1 a.e1 && inside r.e2 a.e2))
+    && (cond first (inside r.e2 a.e2 && (inside r.e3 a.e3 && inside r.e4 a.e4)) true
+    && cond second (inside r.e4 a.e4 && (inside r.e5 a.e5 && inside r.e6 a.e6)) true)
+
+-- an exponent stands for a number: its power of each base is that at the number
+abbrev pub Stands : {B E N : Type 0} → (B → N → Ans N) → (B → E → Ans N) → E → N → Type 0
+Stands {B = B} power_at power_by n e = (b : B) → power_by b n ≡ power_at b e
+
+-- ---- what is shared: plain numbers read by `plain`, others by `of`, and the powers of a base at a number or by an exponent
+module _ (A : Arith) (F : Functions A.Num) {D P B E : Type 0} (plain : P → A.Num) (power_at : B → A.Num → Ans A.Num) (power_by : B → E → Ans A.Num) where
+  -- the term of the exponent l
+  pub record TermOf (sigma l : A.Num) (t : Term D P B E) : Type 0 where
+    pub lambda : plain t.lambda ≡ l
+    pub q1 : plain t.q1 ≡ q1 A l
+    pub q2 : plain t.q2 ≡ q2 A l
+    pub power : F.powf sigma l ≡ held (plain t.power)
+    pub e0 : Stands power_at power_by t.e0 l
+    pub e1 : Stands power_at power_by t.e1 (A.add l (whole A 1))
+    pub e2 : Stands power_at power_by t.e2 (A.add l (whole A 2))
+    pub e3 : Stands power_at power_by t.e3 (A.add l (whole A 3))
+    pub e4 : Stands power_at power_by t.e4 (A.add l (whole A 4))
+    pub e5 : Stands power_at power_by t.e5 (A.add l (whole A 5))
+    pub e6 : Stands power_at power_by t.e6 (A.add l (whole A 6))
+
+  abbrev pub IsTerm : A.Num → A.Num → Result (Term D P B E) Refusal → Type 0
+  IsTerm sigma l (Ok t) = TermOf sigma l t
+  IsTerm sigma l (Err e) = F.powf sigma l ≡ refused (code e)
+
+  module _ (of : D → A.Num) (exponent_in : E → Bool) where
+    pub record Sharing (p : PairIn A.Num) (s : Shared D P B E) : Type 0 where
+      pub r : TermOf p.sigma p.lr s.r
+      pub a : TermOf p.sigma p.la s.a
+      pub d : of s.d ≡ quantum_d A F p.mass p.temperature
+      pub d2 : of s.d2 ≡ A.pow (quantum_d A F p.mass p.temperature) 2
+      pub ce : plain s.ce ≡ A.mul p.c p.epsilon_k
+      pub first : s.first ≡ first_order p.order
+      pub second : s.second ≡ second_order p.order
+      pub inside : s.inside ≡ exponents_inside exponent_in s.first s.second s.r s.a
+
+    -- what is shared, or that no radius has a potential
+    abbrev pub Shares : PairIn A.Num → Result (Shared D P B E) Refusal → Type 0
+    Shares p (Ok s) = Sharing p s
+    Shares p (Err e) = (r : A.Num) → potential A F p r ≡ refused (code e)
+
+-- in floats
+abbrev pub FloatShared : Type 0
+FloatShared = Shared Float Float FloatBase FloatExponent
+
+abbrev pub FloatSharing : PairIn Float → FloatShared → Type 0
+FloatSharing = Sharing floats (calls floats port) (λ x. x) float_power float_power_by (λ x. x) (λ n. n.inside)
+
+abbrev pub FloatShares : PairIn Float → Result FloatShared Refusal → Type 0
+FloatShares = Shares floats (calls floats port) (λ x. x) float_power float_power_by (λ x. x) (λ n. n.inside)
+
+-- ---- the potential from what is shared, and from the powers of its lines
+module _ (A : Arith) {D P B E : Type 0} (plain : P → A.Num) (of : D → A.Num) (s : Shared D P B E) where
+  abbrev lr : A.Num
+  lr = plain s.r.lambda
+
+  abbrev la : A.Num
+  la = plain s.a.lambda
+
+  abbrev sr : A.Num
+  sr = plain s.r.power
+
+  abbrev sa : A.Num
+  sa = plain s.a.power
+
+  unfoldable pub mie_from : LinePowers D → LinePowers D → LinePowers D → PotentialIn A.Num
+  mie_from l0 l1 l2 =
+      record {
+        u = u_mie A (of l0.rr) sr (of l0.ra) sa;
+        u_r = ur_mie A lr la (of l1.rr) sr (of l1.ra) sa;
+        u_rr = urr_mie A lr la (of l2.rr) sr (of l2.ra) sa;
+      }
+
+  unfoldable pub first_from : LinePowers D → LinePowers D → LinePowers D → PotentialIn A.Num → PotentialIn A.Num
+  first_from l2 l3 l4 v =
+      corrected A (of s.d) v
+      (u_quantum A (plain s.r.q1) (plain s.a.q1) (of l2.rr) sr (of l2.ra) sa)
+      (ur_first A lr la (plain s.r.q1) (plain s.a.q1) (of l3.rr) sr (of l3.ra) sa)
+      (urr_first A lr la (plain s.r.q1) (plain s.a.q1) (of l4.rr) sr (of l4.ra) sa)
+
+  unfoldable pub second_from : LinePowers D → LinePowers D → LinePowers D → PotentialIn A.Num → PotentialIn A.Num
+  second_from l4 l5 l6 v =
+      corrected A (of s.d2) v
+      (u_quantum A (plain s.r.q2) (plain s.a.q2) (of l4.rr) sr (of l4.ra) sa)
+      (ur_second A lr la (plain s.r.q2) (plain s.a.q2) (of l5.rr) sr (of l5.ra) sa)
+      (urr_second A lr la (plain s.r.q2) (plain s.a.q2) (of l6.rr) sr (of l6.ra) sa)
+
+  unfoldable pub after_factors : A.Num → A.Num
+  after_factors u = A.after (plain s.r.q1) (A.after (plain s.a.q1) (A.after (plain s.r.q2) (A.after (plain s.a.q2) (A.after (of s.d) u))))
+
+  unfoldable pub finished_from : PotentialIn A.Num → PotentialIn A.Num
+  finished_from v = let x = scaled A (plain s.ce) v in record { u = after_factors x.u; u_r = x.u_r; u_rr = x.u_rr }
