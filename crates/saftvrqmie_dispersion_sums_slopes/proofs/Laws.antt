@@ -26,15 +26,22 @@ use Rattle.saftvrqmie_dispersion.specs.Alpha.{chi, third_order_ij}
 use Rattle.saftvrqmie_dispersion.specs.Perturbation.{first_order_ij, second_order_ij, k_factor}
 use Rattle.saftvrqmie_energies.specs.State.{SheetsIn, points}
 use Rattle.saftvrqmie_energies.specs.Dispersion.{inv_xs_sum, segment_fractions, lead, packing_turn, packing_row, packing, first_turn, first_row, first, second_pair_turn, second_row, second, third_turn, third_row, third}
-use Rattle.saftvrqmie_dispersion_terms_slopes.specs.Staged.{mixed_of, struct_of}
-use Rattle.saftvrqmie_dispersion_slopes.proofs.Laws.{mul_as}
-use Rattle.saftvrqmie_hard_sphere_slopes.specs.Parts.{duals_at, FirstPlaces, sloped_at, sloped_sheet}
-use Rattle.saftvrqmie_hard_sphere_slopes.proofs.Laws.{begun, filled, back}
+use Rattle.saftvrqmie_hard_sphere_slopes.specs.Parts.{mixed_of, duals_at, FirstPlaces, sloped_at, sloped_sheet}
+use Rattle.saftvrqmie_hard_sphere_slopes.proofs.Laws.{begun, filled, struct_of, back}
 use Rattle.saftvrqmie_dispersion_sums_slopes.specs.declared.SegmentSlopes.{SegmentSlopes}
 use Rattle.saftvrqmie_dispersion_sums_slopes.specs.State.{mixture_in, sloped_list, sloped_sheets}
 
 abbrev F : Functions Mixed
 F = mixed_functions port
+
+-- a D with any number beside it
+mul_as : (x : DualOf Float) (m : Mixed) → mixed_one.mul (sloped x) m ≡ sloped (mul_d floats x (as_dual m))
+mul_as x (plain y) = refl
+mul_as x (sloped y) = refl
+
+-- a power of a D is one
+pub pow_as : (x r : Dual) (n : ℕ) → mixed_of r ≡ mixed_one.pow (mixed_of x) n → dual_of r ≡ pow_d floats (dual_of x) n
+pow_as x r n p = ap as_dual p
 
 -- ---- where the first turn is the same from both beginnings, so is the end
 pub walk_begun : {S : Type 0} (f : ℕ → S → Ans S) (s t : S) → f 0 s ≡ f 0 t → (n : ℕ) → 0 < n → walk n f s ≡ walk n f t
