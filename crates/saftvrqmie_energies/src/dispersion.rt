@@ -96,7 +96,7 @@ fn alpha_row(
         let pair = saftvrqmie_potential::pair_at(sheets, orders, t, e);
         let s = table[SIGMA_EFF + e];
         let depth = table[EPSILON_K_EFF + e];
-        let a = saftvrqmie_dispersion::alpha_ij(pair, s, depth)?;
+        let a = saftvrqmie_dispersion::alpha_ij(&pair, s, depth)?;
         alphas[e] = a;
         alphas[SIDE * (i + k) + i] = a;
     }
@@ -129,7 +129,7 @@ fn perturbed_pair(
     table: &[f64],
     w: SegmentState,
     e: usize,
-) -> DispersionPair
+) -> DispersionPair<f64, f64>
     requires { (e < sheet) × (length table.now ≡ 4 * sheet) }
     ensures { let pair = set_pair_at floats sheets.now orders t e in
         let hs_diameter = sheet_of floats table.now 1 in
@@ -141,7 +141,7 @@ fn perturbed_pair(
     let d = table[HS_DIAMETER + e];
     let s = table[SIGMA_EFF + e];
     let q = table[QUANTUM_D + e];
-    saftvrqmie_dispersion::dispersion_pair(pair, d, s, q, w.zeta)
+    saftvrqmie_dispersion::dispersion_pair(&pair, d, s, q, w.zeta)
 }
 
 // 1.0 on the diagonal, else 2.0.
@@ -180,7 +180,7 @@ fn first_row(
     for k in 0usize..n - i {
         let e = SIDE * i + (i + k);
         let pair = perturbed_pair(sheets, orders, t, table, w, e);
-        let v = saftvrqmie_dispersion::first_order_perturbation_ij(pair)?;
+        let v = saftvrqmie_dispersion::first_order_perturbation_ij(&pair)?;
         let d = table[HS_DIAMETER + e];
         a1 = a1 + lead(i, i + k, xs[i], xs[i + k], w.rho_s, d) * v;
     }
@@ -231,7 +231,7 @@ fn second_row(
     for k in 0usize..n - i {
         let e = SIDE * i + (i + k);
         let pair = perturbed_pair(sheets, orders, t, table, w, e);
-        let v = saftvrqmie_dispersion::second_order_perturbation_ij(pair)?;
+        let v = saftvrqmie_dispersion::second_order_perturbation_ij::<f64, true>(&pair)?;
         let d = table[HS_DIAMETER + e];
         let chi = saftvrqmie_dispersion::chi(alphas[e], w.zeta_bar);
         a2 = a2 + lead(i, i + k, xs[i], xs[i + k], w.rho_s, d) * (chi + 1.0) * v;
