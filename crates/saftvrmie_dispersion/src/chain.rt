@@ -10,7 +10,7 @@ ghost use Rattle.saftvrmie_dispersion.specs.Chain.{k_of, rho_dual, zeta_dual, fl
 ghost use Rattle.saftvrmie_dispersion.specs.Answer.{pair_of, fluid_dual_in, bar_in, orders_dual_in, sums_in, k_in, link_in, sums_answer, k_answer};
 ghost use Rattle.saftvrmie_dispersion.specs.Staged.{k_tested};
 
-use crate::{Bar, FluidDual, KValues, Link, OrdersDual, Sums, Terms, orders, slopes};
+use crate::{Bar, FluidDual, KValues, Link, OrdersDual, Sums, Terms, dual_sums, orders};
 use dual::Dual;
 use mie_parameters::PI;
 use number::Refusal;
@@ -66,7 +66,7 @@ pub fn fluid_dual(zeta_x: f64, rho: f64) -> FluidDual
     FluidDual {
         segment_density: rho_dual(rho),
         zeta_x: z,
-        k_hs: slopes::k_hs_dual(z),
+        k_hs: dual_sums::k_hs_dual(z),
         b1: minus * Dual::plain(0.5) + one,
         b2: z * (z + one) * Dual::plain(4.5),
         b3: (minus + one).pow_down(3),
@@ -138,7 +138,7 @@ fn link_term(
     Ok(-link.fraction * (link.m - 1.0) * ln_g)
 }
 
-fn add_link(s: Sums, l: f64) -> Sums
+fn add_link(s: Sums<f64>, l: f64) -> Sums<f64>
     ensures { sums_in result ≡ add_link floats (sums_in s) l }
 {
     Sums {
@@ -152,23 +152,24 @@ fn add_link(s: Sums, l: f64) -> Sums
 // A component of the chain, added to the sums.
 pub fn chain_pure(
     w: FluidDual,
-    bar: Bar,
+    bar: Bar<f64>,
     k: KValues,
     p: PairParameters,
     d: f64,
     of: Link,
     xs: f64,
-    s: Sums,
-) -> Result<Sums, Refusal>
+    s: Sums<f64>,
+) -> Result<Sums<f64>, Refusal>
     ensures { sums_answer result ≡ chain_pure floats (calls floats port) (fluid_dual_in w) (bar_in bar) (k_in k) (pair_of p) d (link_in of) xs (sums_in s) }
 {
-    let o = slopes::orders_dual(w, p, d)?;
-    let a3 = orders::a3(bar.zeta_x_bar, p.alpha, p.epsilon_k)?;
+    let o = dual_sums::orders_dual(w, p, d)?;
+    let six = orders::six_of::<f64>(p.alpha);
+    let a3 = orders::a3(bar.zeta_x_bar, six, p.epsilon_k)?;
     let terms = Terms {
         a1: o.a1.re,
         a2: o.a2.re,
         a3,
-        xi: orders::xi(bar, p.alpha),
+        xi: orders::xi(bar, six),
     };
     let t = orders::add_pure(xs, terms, s);
     let l = link_term(k, bar.zeta_x_bar, o, w.k_hs.re, p, d, of)?;

@@ -210,12 +210,12 @@ fn pair_turn(
     sheets: &[f64; SHEETS],
     xs: &[f64; SIDE],
     d: &[f64],
-    w: Fluid,
-    bar: Bar,
+    w: Fluid<f64>,
+    bar: Bar<f64>,
     i: usize,
     j: usize,
-    s: Sums,
-) -> Result<Sums, Refusal>
+    s: Sums<f64>,
+) -> Result<Sums<f64>, Refusal>
     requires { (i < side) × (j < side) × (i < length d.now) × (j < length d.now) }
     ensures { let xs = at xs.entry.now in
         let d = at d.entry.now in
@@ -233,11 +233,11 @@ fn pair_row(
     sheets: &[f64; SHEETS],
     xs: &[f64; SIDE],
     d: &[f64],
-    w: Fluid,
-    bar: Bar,
+    w: Fluid<f64>,
+    bar: Bar<f64>,
     i: usize,
-    start: Sums,
-) -> Result<Sums, Refusal>
+    start: Sums<f64>,
+) -> Result<Sums<f64>, Refusal>
     requires { (n ≤ side) × (i < n) × (length d.now ≡ n) }
     ensures { let xs = at xs.entry.now in
         let d = at d.entry.now in
@@ -257,12 +257,12 @@ fn disp_row(
     sheets: &[f64; SHEETS],
     xs: &[f64; SIDE],
     d: &[f64],
-    w: Fluid,
-    bar: Bar,
+    w: Fluid<f64>,
+    bar: Bar<f64>,
     p: PairParameters,
     i: usize,
-    s: Sums,
-) -> Result<Sums, Refusal>
+    s: Sums<f64>,
+) -> Result<Sums<f64>, Refusal>
     requires { (n ≤ side) × (i < n) × (length d.now ≡ n) }
     ensures { let xs = at xs.entry.now in
         let d = at d.entry.now in
@@ -280,15 +280,15 @@ fn chain_row(
     sheets: &[f64; SHEETS],
     xs: &[f64; SIDE],
     d: &[f64],
-    w: Fluid,
-    bar: Bar,
+    w: Fluid<f64>,
+    bar: Bar<f64>,
     v: FluidDual,
     k: KValues,
     p: PairParameters,
     of: Link,
     i: usize,
-    s: Sums,
-) -> Result<Sums, Refusal>
+    s: Sums<f64>,
+) -> Result<Sums<f64>, Refusal>
     requires { (n ≤ side) × (i < n) × (length d.now ≡ n) }
     ensures { let xs = at xs.entry.now in
         let d = at d.entry.now in
@@ -308,9 +308,9 @@ fn disp_rows(
     sheets: &[f64; SHEETS],
     xs: &[f64; SIDE],
     d: &[f64],
-    w: Fluid,
-    bar: Bar,
-) -> Result<Sums, Refusal>
+    w: Fluid<f64>,
+    bar: Bar<f64>,
+) -> Result<Sums<f64>, Refusal>
     requires { (n ≤ side) × (length d.now ≡ n) }
     ensures { let xs = at xs.entry.now in
         let d = at d.entry.now in
@@ -342,12 +342,12 @@ fn chain_rows(
     x: &[f64],
     xs: &[f64; SIDE],
     d: &[f64],
-    w: Fluid,
-    bar: Bar,
+    w: Fluid<f64>,
+    bar: Bar<f64>,
     v: FluidDual,
     k: KValues,
     t_inv: f64,
-) -> Result<Sums, Refusal>
+) -> Result<Sums<f64>, Refusal>
     requires { (n ≤ side) × (length x.now ≡ n) × (length d.now ≡ n) }
     ensures { let xs = at xs.entry.now in
         let d = at d.entry.now in

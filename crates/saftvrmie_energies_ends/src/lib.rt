@@ -12,11 +12,10 @@ ghost use Rattle.enclosure.specs.declared.Enclosure.{Enclosure};
 ghost use Rattle.saftvrmie_parameters.specs.declared.SaftVRMiePars.{SaftVRMiePars};
 ghost use Rattle.saftvrmie_dispersion.specs.Terms.{PairIn};
 ghost use Rattle.saftvrmie_dispersion.specs.Chain.{LinkIn};
-ghost use Rattle.saftvrmie_dispersion.specs.Answer.{pair_in};
 ghost use Rattle.number.specs.Lists.{nth};
 ghost use Rattle.saftvrmie_energies.specs.Dispersion.{pair_turn, pair_row, disp_row, chain_row, disp_rows, chain_rows, dispersion, dispersion_chain};
 ghost use Rattle.saftvrmie_energies.specs.Energies.{pure_at, state_in, energy_run};
-ghost use Rattle.saftvrmie_dispersion_ends.specs.Answer.{fluid_in, bar_in, sums_in, sums_answer};
+ghost use Rattle.saftvrmie_dispersion.specs.Answer.{pair_in, fluid_in, bar_in, sums_in, sums_answer};
 ghost use Rattle.saftvrmie_properties_ends.specs.Answer.{k_in};
 ghost use Rattle.saftvrmie_properties_ends.specs.Points.{points, pairs};
 ghost use Rattle.saftvrmie_chain_ends.specs.Duals.{fluid_dual_in, link_in};
@@ -25,7 +24,7 @@ ghost use Rattle.saftvrmie_energies_ends.specs.Operation.{dispersion_ends};
 use enclosure::{Enclosure, Ends};
 use number::Refusal;
 use saftvrmie_chain_ends::{FluidDuals, LinkEnclosures};
-use saftvrmie_dispersion_ends::{BarEnclosures, FluidEnclosures, SumsEnclosures};
+use saftvrmie_dispersion::{Bar, Fluid, Sums};
 use saftvrmie_parameters::{PairParameters, SaftVRMiePars};
 use saftvrmie_properties_ends::KEnclosures;
 use sizes::{SHEETS, SIDE};
@@ -36,12 +35,12 @@ fn pair_turn(
     sheets: &[f64; SHEETS],
     xs: [Enclosure; SIDE],
     d: &[f64],
-    w: FluidEnclosures,
-    bar: BarEnclosures,
+    w: Fluid<Enclosure>,
+    bar: Bar<Enclosure>,
     i: usize,
     j: usize,
-    s: SumsEnclosures,
-) -> Result<SumsEnclosures, Refusal>
+    s: Sums<Enclosure>,
+) -> Result<Sums<Enclosure>, Refusal>
     requires { (i < side) × (j < side) × (i < length d.now) × (j < length d.now) }
     ensures { let xs = nth enclosures xs in
         let d = points d.entry.now in
@@ -50,10 +49,10 @@ fn pair_turn(
 {
     let p = saftvrmie_energies::pair_at(sheets, i, j);
     let e = saftvrmie_properties_ends::d_ij(d, i, j);
-    let t = saftvrmie_dispersion_ends::pair_terms(w, bar, p, e)?;
+    let t = saftvrmie_dispersion::pair_terms(w, bar, p, e)?;
     let xi = saftvrmie_properties_ends::at_component(xs, i);
     let xj = saftvrmie_properties_ends::at_component(xs, j);
-    Ok(saftvrmie_dispersion_ends::add_pair(xi, xj, t, s))
+    Ok(saftvrmie_dispersion::add_pair(xi, xj, t, s))
 }
 
 // The pairs (i, j) with j > i.
@@ -62,11 +61,11 @@ fn pair_row(
     sheets: &[f64; SHEETS],
     xs: [Enclosure; SIDE],
     d: &[f64],
-    w: FluidEnclosures,
-    bar: BarEnclosures,
+    w: Fluid<Enclosure>,
+    bar: Bar<Enclosure>,
     i: usize,
-    start: SumsEnclosures,
-) -> Result<SumsEnclosures, Refusal>
+    start: Sums<Enclosure>,
+) -> Result<Sums<Enclosure>, Refusal>
     requires { (n ≤ side) × (i < n) × (length d.now ≡ n) }
     ensures { let xs = nth enclosures xs in
         let d = points d.entry.now in
@@ -86,12 +85,12 @@ fn disp_row(
     sheets: &[f64; SHEETS],
     xs: [Enclosure; SIDE],
     d: &[f64],
-    w: FluidEnclosures,
-    bar: BarEnclosures,
+    w: Fluid<Enclosure>,
+    bar: Bar<Enclosure>,
     p: PairParameters,
     i: usize,
-    s: SumsEnclosures,
-) -> Result<SumsEnclosures, Refusal>
+    s: Sums<Enclosure>,
+) -> Result<Sums<Enclosure>, Refusal>
     requires { (n ≤ side) × (i < n) × (length d.now ≡ n) }
     ensures { let xs = nth enclosures xs in
         let d = points d.entry.now in
@@ -99,9 +98,9 @@ fn disp_row(
         sums_answer result ≡ disp_row enclosures (calls enclosures port) n xs d pair (fluid_in w) (bar_in bar) (pair_in point p) i (sums_in s) }
 {
     let e = Enclosure::point(d[i]);
-    let t = saftvrmie_dispersion_ends::pair_terms(w, bar, p, e)?;
+    let t = saftvrmie_dispersion::pair_terms(w, bar, p, e)?;
     let xi = saftvrmie_properties_ends::at_component(xs, i);
-    let next = saftvrmie_dispersion_ends::add_pure(xi, t, s);
+    let next = saftvrmie_dispersion::add_pure(xi, t, s);
     pair_row(n, sheets, xs, d, w, bar, i, next)
 }
 
@@ -111,15 +110,15 @@ fn chain_row(
     sheets: &[f64; SHEETS],
     xs: [Enclosure; SIDE],
     d: &[f64],
-    w: FluidEnclosures,
-    bar: BarEnclosures,
+    w: Fluid<Enclosure>,
+    bar: Bar<Enclosure>,
     v: FluidDuals,
     k: KEnclosures,
     p: PairParameters,
     of: LinkEnclosures,
     i: usize,
-    s: SumsEnclosures,
-) -> Result<SumsEnclosures, Refusal>
+    s: Sums<Enclosure>,
+) -> Result<Sums<Enclosure>, Refusal>
     requires { (n ≤ side) × (i < n) × (length d.now ≡ n) }
     ensures { let xs = nth enclosures xs in
         let d = points d.entry.now in
@@ -141,9 +140,9 @@ fn disp_rows(
     sheets: &[f64; SHEETS],
     xs: [Enclosure; SIDE],
     d: &[f64],
-    w: FluidEnclosures,
-    bar: BarEnclosures,
-) -> Result<SumsEnclosures, Refusal>
+    w: Fluid<Enclosure>,
+    bar: Bar<Enclosure>,
+) -> Result<Sums<Enclosure>, Refusal>
     requires { (n ≤ side) × (length d.now ≡ n) }
     ensures { let xs = nth enclosures xs in
         let d = points d.entry.now in
@@ -152,7 +151,7 @@ fn disp_rows(
         sums_answer result ≡ disp_rows enclosures (calls enclosures port) n xs d pair (fluid_in w) (bar_in bar) pure }
 {
     let zero = Enclosure::point(0.0);
-    let mut s = SumsEnclosures {
+    let mut s = Sums {
         a1: zero,
         a2: zero,
         a3: zero,
@@ -190,12 +189,12 @@ fn chain_rows(
     x: &[f64],
     xs: [Enclosure; SIDE],
     d: &[f64],
-    w: FluidEnclosures,
-    bar: BarEnclosures,
+    w: Fluid<Enclosure>,
+    bar: Bar<Enclosure>,
     v: FluidDuals,
     k: KEnclosures,
     t_inv: Enclosure,
-) -> Result<SumsEnclosures, Refusal>
+) -> Result<Sums<Enclosure>, Refusal>
     requires { (n ≤ side) × (length x.now ≡ n) × (length d.now ≡ n) }
     ensures { let xs = nth enclosures xs in
         let d = points d.entry.now in
@@ -205,7 +204,7 @@ fn chain_rows(
         sums_answer result ≡ chain_rows enclosures (calls enclosures port) n xs d pair (fluid_in w) (bar_in bar) pure (fluid_dual_in v) (k_in k) link }
 {
     let zero = Enclosure::point(0.0);
-    let mut s = SumsEnclosures {
+    let mut s = Sums {
         a1: zero,
         a2: zero,
         a3: zero,
@@ -258,11 +257,11 @@ fn helmholtz_energy_density_disp(
     let mean = saftvrmie_properties_ends::weighted(n, x, m);
     let xs = saftvrmie_properties_ends::xs_of(n, x, m, mean);
     let q = saftvrmie_properties_ends::properties_of(n, m, sheets, xs, rho, d)?;
-    let k_hs = saftvrmie_dispersion_ends::k_hs(q.zeta_x);
-    let w = saftvrmie_dispersion_ends::fluid_of(q.segment_density, q.zeta_x, k_hs);
-    let bar = saftvrmie_dispersion_ends::bar_of(q.zeta_x_bar);
+    let k_hs = saftvrmie_dispersion::k_hs(q.zeta_x);
+    let w = saftvrmie_dispersion::fluid_of(q.segment_density, q.zeta_x, k_hs);
+    let bar = saftvrmie_dispersion::bar_of(q.zeta_x_bar);
     let a = disp_rows(n, sigma, epsilon_k, lr, la, sheets, xs, d, w, bar)?;
-    let orders = saftvrmie_dispersion_ends::orders_sum(a, inverse(temperature));
+    let orders = saftvrmie_dispersion::orders_sum(a, inverse(temperature));
     let all = saftvrmie_properties_ends::total(n, rho);
     let v = all * mean * orders;
     Ok(after_ks(q.k, v))
@@ -290,13 +289,13 @@ fn helmholtz_energy_density_disp_chain(
     let xs = saftvrmie_properties_ends::xs_of(n, x, m, mean);
     let q = saftvrmie_properties_ends::properties_of(n, m, sheets, xs, rho, d)?;
     let v = saftvrmie_chain_ends::fluid_dual(q.zeta_x, q.segment_density);
-    let w = saftvrmie_dispersion_ends::fluid_of(q.segment_density, q.zeta_x, v.k_hs.re);
-    let bar = saftvrmie_dispersion_ends::bar_of(q.zeta_x_bar);
+    let w = saftvrmie_dispersion::fluid_of(q.segment_density, q.zeta_x, v.k_hs.re);
+    let bar = saftvrmie_dispersion::bar_of(q.zeta_x_bar);
     let t_inv = inverse(temperature);
     let a = chain_rows(
         n, m, sigma, epsilon_k, lr, la, sheets, x, xs, d, w, bar, v, q.k, t_inv,
     )?;
-    let orders = saftvrmie_dispersion_ends::orders_sum(a, t_inv);
+    let orders = saftvrmie_dispersion::orders_sum(a, t_inv);
     let all = saftvrmie_properties_ends::total(n, rho);
     let e = mean * orders + a.a_chain;
     Ok(all * e)

@@ -1,4 +1,5 @@
 -- `saftvrmie_energies::helmholtz_energy_density_disp` meets its contract. Assumes nothing.
+use mathlib.Core.Bool.{true}
 use lib.Ieee.{of_bits}
 use Rattle.number.specs.Arith.{decimal}
 use Rattle.number.proofs.Walk.{via, handed_on}
@@ -17,11 +18,11 @@ disp_rows-requires c = (c.requires.0, c.requires.3)
 
 pub returns-in_err-a : goal.returns-in_err-a
 unfolding dispersion ◌>>=◌ decimal of_bits
-returns-in_err-a c = let k = k_some _ _ c.k_inside.ensures c.in_ok-k_inside.was in rw (handed_on _ c.from_residual-in_err-a.ensures, ← c.weighted-mean.ensures, ← c.xs_of-xs.ensures, properties_held _ _ _ _ _ _ _ c.properties_of-q.ensures k.0 k.1, ← c.k_hs-k_hs.ensures, ← c.fluid_of-w.ensures, ← c.bar_of-bar.ensures, via sums_answer c.disp_rows.ensures c.in_err-a.was)
+returns-in_err-a c = let k = k_some _ _ c.k_inside.ensures c.in_ok-k_inside.was in rw (handed_on _ c.from_residual-in_err-a.ensures, ← c.weighted-mean.ensures, ← c.xs_of-xs.ensures, properties_held _ _ _ _ _ _ _ c.properties_of-q.ensures k.0 k.1, ← c.k_hs-k_hs.ensures true, ← c.fluid_of-w.ensures true, ← c.bar_of-bar.ensures true, via sums_answer c.disp_rows.ensures c.in_err-a.was)
 
 pub total-requires : goal.total-requires
 total-requires c = c.requires.2
 
 pub returns : goal.returns
 unfolding dispersion ◌>>=◌ decimal of_bits
-returns c = let k = k_some _ _ c.k_inside.ensures c.in_ok-k_inside.was in rw (← c.weighted-mean.ensures, ← c.xs_of-xs.ensures, properties_held _ _ _ _ _ _ _ c.properties_of-q.ensures k.0 k.1, ← c.k_hs-k_hs.ensures, ← c.fluid_of-w.ensures, ← c.bar_of-bar.ensures, via sums_answer c.disp_rows.ensures c.in_ok-a.was, c.total.ensures, c.orders_sum-orders.ensures)
+returns c = let k = k_some _ _ c.k_inside.ensures c.in_ok-k_inside.was in rw (← c.weighted-mean.ensures, ← c.xs_of-xs.ensures, properties_held _ _ _ _ _ _ _ c.properties_of-q.ensures k.0 k.1, ← c.k_hs-k_hs.ensures true, ← c.fluid_of-w.ensures true, ← c.bar_of-bar.ensures true, via sums_answer c.disp_rows.ensures c.in_ok-a.was, c.total.ensures, c.orders_sum-orders.ensures true)

@@ -2,7 +2,7 @@
 use Rattle.std.proofs.Common.{rules}
 use Rattle.number.specs.Ans.{◌>>=◌}
 use Rattle.number.proofs.Walk.{via}
-use Rattle.saftvrmie_dispersion_ends.specs.Answer.{sums_answer}
+use Rattle.saftvrmie_dispersion.specs.Answer.{sums_answer}
 use Rattle.saftvrmie_energies.specs.Dispersion.{chain_row}
 use Rattle.saftvrmie_energies_ends.proofs.chain_row.Goals as goal
 

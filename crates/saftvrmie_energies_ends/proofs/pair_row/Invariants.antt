@@ -6,7 +6,7 @@ use Rattle.number.specs.Walk.{walk}
 use Rattle.number.specs.Ans.{held}
 use Rattle.number.specs.Functions.{calls}
 use Rattle.elementary.specs.Port.{port}
-use Rattle.saftvrmie_dispersion_ends.specs.Answer.{fluid_in, bar_in, sums_in}
+use Rattle.saftvrmie_dispersion.specs.Answer.{fluid_in, bar_in, sums_in}
 use Rattle.saftvrmie_properties_ends.specs.Points.{points, pairs}
 use Rattle.number.specs.Lists.{nth}
 use Rattle.saftvrmie_energies.specs.Dispersion.{pair_turn}

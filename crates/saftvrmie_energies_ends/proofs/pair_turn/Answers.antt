@@ -1,15 +1,15 @@
 -- `saftvrmie_energies_ends::pair_turn` meets its contract. Assumes nothing.
-use Rattle.std.proofs.Common.{rules}
+use mathlib.Core.Bool.{true}
 use Rattle.number.specs.Ans.{◌>>=◌}
-use Rattle.number.proofs.Walk.{via}
-use Rattle.saftvrmie_dispersion_ends.specs.Answer.{terms_answer}
+use Rattle.number.proofs.Walk.{via, handed_on}
+use Rattle.saftvrmie_dispersion.specs.Answer.{terms_answer}
 use Rattle.saftvrmie_energies.specs.Dispersion.{pair_turn}
 use Rattle.saftvrmie_energies_ends.proofs.pair_turn.Goals as goal
 
 pub returns-in_err-t : goal.returns-in_err-t
 unfolding pair_turn ◌>>=◌
-returns-in_err-t c = search rules
+returns-in_err-t c = rw (handed_on _ c.from_residual.ensures, via terms_answer (rw (c.pair_at-p.ensures, c.d_ij-e.ensures) at c.pair_terms.ensures true) c.in_err-t.was)
 
 pub returns : goal.returns
 unfolding pair_turn ◌>>=◌
-returns c = rw (via terms_answer (rw (c.pair_at-p.ensures, c.d_ij-e.ensures) at c.pair_terms.ensures) c.in_ok-t.was, c.add_pair.ensures, c.at_component-xi.ensures, c.at_component-xj.ensures)
+returns c = rw (via terms_answer (rw (c.pair_at-p.ensures, c.d_ij-e.ensures) at c.pair_terms.ensures true) c.in_ok-t.was, c.add_pair.ensures true, c.at_component-xi.ensures, c.at_component-xj.ensures)
