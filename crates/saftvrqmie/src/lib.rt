@@ -15,7 +15,7 @@ ghost use Rattle.saftvrqmie.specs.Pairs.{searches_answer, pair_searches, radii_i
 
 use number::Refusal;
 use saftvrqmie_parameters::{OrderRecord, SaftVRQMiePars};
-use saftvrqmie_potential::Pair;
+use saftvrqmie_potential::FloatPair;
 use saftvrqmie_properties::PairProperties;
 use saftvrqmie_searches::Search;
 use sizes::counts::{DEPTH, SIGMA, ZERO};
@@ -192,7 +192,7 @@ pub fn temperature_dependent_properties(
     table_of(set.count, &sheets, orders, temperature, table, counts)
 }
 
-fn pair_searches(pair: Pair) -> Result<PairSearches, Refusal>
+fn pair_searches(pair: FloatPair) -> Result<PairSearches, Refusal>
     ensures { searches_answer result ≡ pair_searches floats (calls floats port) (pair_in pair) }
 {
     let (sigma, sigma_count) = saftvrqmie_searches::calc_sigma_eff(pair)?;

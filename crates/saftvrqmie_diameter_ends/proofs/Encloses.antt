@@ -18,8 +18,7 @@ use Rattle.enclosure.specs.Ends.{Fair, Encloses, ends_alone}
 use Rattle.enclosure.proofs.Relations.{Value, values, contains}
 use Rattle.enclosure.proofs.TwoEnds.{operation_1, operation_2, operation_alone, operation_encloses}
 use Rattle.saftvrqmie_parameters.specs.declared.SaftVRQMiePars.{SaftVRQMiePars}
-use Rattle.saftvrqmie_potential.specs.Potential.{PairIn, pair_at_entry, points_of}
-use Rattle.saftvrqmie_potential.specs.declared.Pair.{Pair}
+use Rattle.saftvrqmie_potential.specs.Potential.{FloatPair, PairIn, pair_at_entry, points_of}
 use Rattle.saftvrqmie_potential.proofs.Relation.{PairR}
 use Rattle.saftvrqmie_searches.specs.Diameter.{diameter}
 use Rattle.saftvrqmie_searches.proofs.Relation.{diameter_rel}
@@ -27,7 +26,7 @@ use Rattle.saftvrqmie.specs.Pairs.{diameter_run, diameter_ij_by}
 use Rattle.saftvrqmie_diameter_ends.specs.Operations.{diameter_ends}
 
 -- a pair read by two runs
-points_rel : (A B : Arith) (K : Rel A B) (p : Pair) → PairR K.R (points_of A p) (points_of B p)
+points_rel : (A B : Arith) (K : Rel A B) (p : FloatPair) → PairR K.R (points_of A p) (points_of B p)
 points_rel A B K p =
     record {
       sigma = K.r_lit p.sigma;

@@ -73,8 +73,13 @@ pub struct LinePowers<D> {
     pub ra: D,
 }
 
-// The pair at entry e of a set's sheets. All that works pairs reads them here; an entry comes from indexes that were tested, or are turns of loops over a count that was.
-pub fn pair_at(s: &[f64; SHEETS], orders: [OrderRecord; SHEET], t: f64, e: usize) -> FloatPair
+// The pair at entry e of a set's sheets, at a temperature that may carry a slope. All that works pairs reads them here; an entry comes from indexes that were tested, or are turns of loops over a count that was.
+pub fn pair_at<D: Copy>(
+    s: &[f64; SHEETS],
+    orders: [OrderRecord; SHEET],
+    t: D,
+    e: usize,
+) -> Pair<D, f64>
     requires { e < sheet }
     ensures { result ≡ pair_at_entry s.now orders t e }
 {
@@ -89,6 +94,23 @@ pub fn pair_at(s: &[f64; SHEETS], orders: [OrderRecord; SHEET], t: f64, e: usize
         mass: s[MASS_IJ + e],
         order,
         temperature: t,
+    }
+}
+
+// A set's pair in any run: each number as it is, beside the run's temperature.
+pub fn points<D: DualNum>(p: Pair<D, f64>) -> Pair<D, D::Plain>
+    ensures { (w : Bool) → pair_by (D.plain w) (D.of w) result ≡ pair_by (D.beside w).lit (D.of w) p }
+{
+    let order = p.order;
+    Pair {
+        sigma: D::Plain::lit(p.sigma),
+        epsilon_k: D::Plain::lit(p.epsilon_k),
+        c: D::Plain::lit(p.c),
+        lr: D::Plain::lit(p.lr),
+        la: D::Plain::lit(p.la),
+        mass: D::Plain::lit(p.mass),
+        order,
+        temperature: p.temperature,
     }
 }
 

@@ -2,11 +2,22 @@
 use mathlib.Core.Path.{◌≡◌, refl, ap, ap₂}
 use mathlib.Core.Bool.{Bool, true, false}
 use lib.Dec.{T}
-use Rattle.interval.specs.Interval.{around, outward, add_i, sub_i, mul_i, div_i, neg_i}
+use lib.Ieee.{Float}
+use Rattle.interval.specs.Interval.{around, outward, add_i, mul_i, neg_i}
 use Rattle.enclosure.specs.declared.Enclosure.{Enclosure}
-use Rattle.enclosure.specs.Enclosure.{add_e, sub_e, mul_e, div_e, neg_e}
-use Rattle.saftvrqmie_alone_ends.specs.declared.Sure.{Sure}
-use Rattle.saftvrqmie_alone_ends.specs.Alone.{sure_of, sound_of}
+use Rattle.enclosure.specs.Enclosure.{add_e, mul_e, neg_e}
+
+-- an enclosure without its flag, and one with the flag set
+record Sure : Type 0 where
+  value : Float
+  lower : Float
+  upper : Float
+
+abbrev sure_of : Enclosure → Sure
+sure_of x = record { value = x.value; lower = x.ends.lower; upper = x.ends.upper }
+
+abbrev sound_of : Sure → Enclosure
+sound_of x = record { value = x.value; ends = record { lower = x.lower; upper = x.upper; sound = true } }
 
 pub record Same (x y : Enclosure) : Type 0 where
   pub is : sure_of x ≡ sure_of y
@@ -18,17 +29,9 @@ pub add_same : {a b x y : Enclosure} → Same a x → Same b y → Same (add_e a
 unfolding add_e add_i around outward
 add_same p q = record { is = ap₂ (λ (x y : Sure). sure_of (add_e (sound_of x) (sound_of y))) p.is q.is }
 
-pub sub_same : {a b x y : Enclosure} → Same a x → Same b y → Same (sub_e a b) (sub_e x y)
-unfolding sub_e sub_i around outward
-sub_same p q = record { is = ap₂ (λ (x y : Sure). sure_of (sub_e (sound_of x) (sound_of y))) p.is q.is }
-
 pub mul_same : {a b x y : Enclosure} → Same a x → Same b y → Same (mul_e a b) (mul_e x y)
 unfolding mul_e mul_i around outward
 mul_same p q = record { is = ap₂ (λ (x y : Sure). sure_of (mul_e (sound_of x) (sound_of y))) p.is q.is }
-
-pub div_same : {a b x y : Enclosure} → Same a x → Same b y → Same (div_e a b) (div_e x y)
-unfolding div_e div_i around outward
-div_same p q = record { is = ap₂ (λ (x y : Sure). sure_of (div_e (sound_of x) (sound_of y))) p.is q.is }
 
 pub neg_same : {a x : Enclosure} → Same a x → Same (neg_e a) (neg_e x)
 unfolding neg_e neg_i
