@@ -226,23 +226,17 @@ fn fill_sheets(
     Ok(())
 }
 
-fn larger(a: u8, b: u8) -> u8
-    ensures { result ≡ max a b }
-{
-    if a < b { b } else { a }
-}
-
 // The order of a byte that is at most 2.
-pub fn order_of(n: u8) -> FeynmanHibbsOrder
-    ensures { result ≡ order_of n }
-{
-    if n == 0 {
-        return FeynmanHibbsOrder::FH0;
+impl From<u8> for FeynmanHibbsOrder {
+    ghost from_gives = { λ n r. r ≡ order_of n };
+
+    fn from(n: u8) -> FeynmanHibbsOrder {
+        match n {
+            0 => FeynmanHibbsOrder::FH0,
+            1 => FeynmanHibbsOrder::FH1,
+            _ => FeynmanHibbsOrder::FH2,
+        }
     }
-    if n == 1 {
-        return FeynmanHibbsOrder::FH1;
-    }
-    FeynmanHibbsOrder::FH2
 }
 
 fn orders_row(s: [OrderRecord; SHEET], n: usize, fh: &[u8], i: usize) -> [OrderRecord; SHEET]
@@ -251,7 +245,7 @@ fn orders_row(s: [OrderRecord; SHEET], n: usize, fh: &[u8], i: usize) -> [OrderR
 {
     let mut orders = s;
     for j in 0usize..n {
-        let order = order_of(larger(fh[i], fh[j]));
+        let order = FeynmanHibbsOrder::from(fh[i].max(fh[j]));
         orders[SIDE * i + j] = OrderRecord { order };
     }
     orders
