@@ -19,6 +19,7 @@ use number::Refusal;
 use sizes::mie_set::{ALPHA_IJ, C_IJ, EPSILON_K_IJ, LA_IJ, LR_IJ};
 use sizes::{SHEETS, SIDE};
 
+// Document 01's Forms ask for a struct by value with the count and the flat array: no list of its own length.
 #[derive(Clone, Copy)]
 pub struct SaftVRMiePars {
     pub count: usize,

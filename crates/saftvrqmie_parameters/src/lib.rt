@@ -29,6 +29,7 @@ pub struct OrderRecord {
     pub order: FeynmanHibbsOrder,
 }
 
+// Document 01's Forms ask for a struct by value with the count and the flat array: no list of its own length.
 #[derive(Clone, Copy)]
 pub struct SaftVRQMiePars {
     pub count: usize,
