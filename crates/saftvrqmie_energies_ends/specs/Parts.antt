@@ -7,7 +7,8 @@ use Rattle.elementary.specs.Port.{port}
 use Rattle.enclosure.specs.declared.Enclosure.{Enclosure}
 use Rattle.enclosure.specs.Enclosure.{enclosures}
 use Rattle.saftvrqmie_energies.specs.State.{points, sheet_of, diagonal}
-use Rattle.saftvrqmie_energies.specs.HardSphere.{ZetaIn, Zeta23In, zeta, hard_sphere_from}
+use Rattle.saftvrqmie_hard_sphere.specs.HardSphere.{ZetaIn, Zeta23In}
+use Rattle.saftvrqmie_energies.specs.HardSphere.{zeta, hard_sphere_from}
 use Rattle.saftvrqmie_energies.specs.Dispersion.{MixtureIn}
 use Rattle.saftvrqmie_energies_ends.specs.declared.hard_sphere.ZetaEnclosures.{ZetaEnclosures}
 use Rattle.saftvrqmie_energies_ends.specs.declared.hard_sphere.Zeta23Enclosures.{Zeta23Enclosures}

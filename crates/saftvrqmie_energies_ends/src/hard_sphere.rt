@@ -6,7 +6,8 @@ ghost use Rattle.elementary.specs.Port.{port};
 ghost use Rattle.number.specs.Answer.{answer};
 ghost use Rattle.enclosure.specs.Enclosure.{enclosures, div_e};
 ghost use Rattle.saftvrqmie_energies.specs.State.{diagonal, points, sheet_of};
-ghost use Rattle.saftvrqmie_energies.specs.HardSphere.{zeta_added, frac1mz3, zeta23_added, zeta23, hard_sphere_of};
+ghost use Rattle.saftvrqmie_hard_sphere.specs.HardSphere.{zeta_added, frac1mz3, zeta23_added, hard_sphere_of};
+ghost use Rattle.saftvrqmie_energies.specs.HardSphere.{zeta23};
 ghost use Rattle.saftvrqmie_energies_ends.specs.Parts.{zeta_in, zeta23_in, zetas_of, hard_sphere_at};
 
 use crate::state;

@@ -6,7 +6,8 @@ ghost use Rattle.elementary.specs.Port.{port};
 ghost use Rattle.enclosure.specs.Enclosure.{enclosures};
 ghost use Rattle.number.specs.Lists.{nth};
 ghost use Rattle.saftvrqmie_energies.specs.State.{points, sheet_of};
-ghost use Rattle.saftvrqmie_energies.specs.NonAdditive.{g_hs, non_additive_ij, non_additive_column, non_additive_sum, density_shares, non_additive};
+ghost use Rattle.saftvrqmie_hard_sphere.specs.NonAdditive.{g_hs, non_additive_ij};
+ghost use Rattle.saftvrqmie_energies.specs.NonAdditive.{non_additive_column, non_additive_sum, density_shares, non_additive};
 ghost use Rattle.saftvrqmie_energies_ends.specs.Parts.{zeta_in, zetas_of};
 
 use crate::hard_sphere::ZetaEnclosures;

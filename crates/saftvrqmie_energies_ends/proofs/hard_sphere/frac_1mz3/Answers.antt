@@ -1,5 +1,5 @@
 -- `saftvrqmie_energies_ends::hard_sphere::frac_1mz3` meets its contract. Assumes nothing.
-use Rattle.saftvrqmie_energies.specs.HardSphere.{frac1mz3}
+use Rattle.saftvrqmie_hard_sphere.specs.HardSphere.{frac1mz3}
 use lib.Ieee.{of_bits}
 use Rattle.number.specs.Arith.{decimal}
 use Rattle.saftvrqmie_energies_ends.proofs.hard_sphere.frac_1mz3.Goals as goal

@@ -1,5 +1,5 @@
 -- `saftvrqmie_energies_ends::hard_sphere::hard_sphere_of` meets its contract. Assumes nothing.
-use Rattle.saftvrqmie_energies.specs.HardSphere.{hard_sphere_of}
+use Rattle.saftvrqmie_hard_sphere.specs.HardSphere.{hard_sphere_of}
 use lib.Ieee.{of_bits}
 use Rattle.number.specs.Arith.{decimal}
 use Rattle.saftvrqmie_energies_ends.proofs.hard_sphere.hard_sphere_of.Goals as goal

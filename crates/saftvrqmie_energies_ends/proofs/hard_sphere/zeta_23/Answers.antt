@@ -5,7 +5,8 @@ use Rattle.enclosure.specs.Enclosure.{div_e}
 use Rattle.number.proofs.Walk.{turns_none, turns_next, turns_end}
 use lib.Ieee.{of_bits}
 use Rattle.number.specs.Arith.{decimal}
-use Rattle.saftvrqmie_energies.specs.HardSphere.{Zeta23In, zeta23_sums, zeta23}
+use Rattle.saftvrqmie_hard_sphere.specs.HardSphere.{Zeta23In}
+use Rattle.saftvrqmie_energies.specs.HardSphere.{zeta23_sums, zeta23}
 use Rattle.saftvrqmie_energies_ends.specs.Parts.{zeta23_in}
 use Rattle.enclosure.specs.declared.Enclosure.{Enclosure}
 use borrow.Author.Rules.{rules}

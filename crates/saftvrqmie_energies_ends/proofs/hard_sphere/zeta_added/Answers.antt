@@ -1,5 +1,5 @@
 -- `saftvrqmie_energies_ends::hard_sphere::zeta_added` meets its contract. Assumes nothing.
-use Rattle.saftvrqmie_energies.specs.HardSphere.{zeta_added}
+use Rattle.saftvrqmie_hard_sphere.specs.HardSphere.{zeta_added}
 use lib.Ieee.{of_bits}
 use Rattle.number.specs.Arith.{decimal}
 use Rattle.saftvrqmie_energies_ends.proofs.hard_sphere.zeta_added.Goals as goal

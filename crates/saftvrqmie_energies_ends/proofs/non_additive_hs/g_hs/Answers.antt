@@ -1,5 +1,5 @@
 -- `saftvrqmie_energies_ends::non_additive_hs::g_hs` meets its contract. Assumes nothing.
-use Rattle.saftvrqmie_energies.specs.NonAdditive.{g_hs}
+use Rattle.saftvrqmie_hard_sphere.specs.NonAdditive.{g_hs}
 use lib.Ieee.{of_bits}
 use Rattle.number.specs.Arith.{decimal}
 use Rattle.saftvrqmie_energies_ends.proofs.non_additive_hs.g_hs.Goals as goal

@@ -1,5 +1,5 @@
 -- `saftvrqmie_energies_ends::non_additive_hs::non_additive_ij` meets its contract. Assumes nothing.
-use Rattle.saftvrqmie_energies.specs.NonAdditive.{non_additive_ij}
+use Rattle.saftvrqmie_hard_sphere.specs.NonAdditive.{non_additive_ij}
 use lib.Ieee.{of_bits}
 use Rattle.number.specs.Arith.{decimal}
 use Rattle.saftvrqmie_energies_ends.proofs.non_additive_hs.non_additive_ij.Goals as goal
