@@ -9,7 +9,7 @@ use Rattle.sizes.specs.Sizes.{sheet}
 use Rattle.dual.specs.declared.Dual.{Dual}
 use Rattle.dual.specs.Value.{dual_of}
 use Rattle.slopes.specs.Mixed.{Mixed, sloped}
-use Rattle.saftvrqmie_energies.specs.HardSphere.{ZetaIn, Zeta23In}
+use Rattle.saftvrqmie_hard_sphere.specs.HardSphere.{ZetaIn, Zeta23In}
 use Rattle.saftvrqmie_hard_sphere_slopes.specs.declared.ZetaSlopes.{ZetaSlopes}
 use Rattle.saftvrqmie_hard_sphere_slopes.specs.declared.Zeta23Slopes.{Zeta23Slopes}
 

@@ -12,8 +12,10 @@ ghost use Rattle.slopes.specs.Mixed.{plain, as_dual, mixed, mixed_one};
 ghost use Rattle.slopes.specs.Rules.{mixed_functions};
 ghost use Rattle.mie_parameters.specs.Sums.{weighted};
 ghost use Rattle.saftvrqmie_energies.specs.State.{diagonal, points};
-ghost use Rattle.saftvrqmie_energies.specs.HardSphere.{zeta_added, zeta, frac1mz3, zeta23_added, zeta23, hard_sphere_of, hard_sphere};
-ghost use Rattle.saftvrqmie_energies.specs.NonAdditive.{g_hs, non_additive_ij, non_additive_column, non_additive_sum, density_shares, non_additive};
+ghost use Rattle.saftvrqmie_hard_sphere.specs.HardSphere.{zeta_added, frac1mz3, zeta23_added, hard_sphere_of};
+ghost use Rattle.saftvrqmie_energies.specs.HardSphere.{zeta, zeta23, hard_sphere};
+ghost use Rattle.saftvrqmie_hard_sphere.specs.NonAdditive.{g_hs, non_additive_ij};
+ghost use Rattle.saftvrqmie_energies.specs.NonAdditive.{non_additive_column, non_additive_sum, density_shares, non_additive};
 ghost use Rattle.saftvrqmie_hard_sphere_slopes.specs.Parts.{mixed_of, mixed_answer, duals_at, FirstPlaces, sloped_at, sloped_sheet, zeta_in, zeta23_in};
 
 use dual::Dual;

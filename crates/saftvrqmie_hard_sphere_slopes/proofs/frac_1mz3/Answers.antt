@@ -1,6 +1,6 @@
 -- `saftvrqmie_hard_sphere_slopes::frac_1mz3` meets its contract. Assumes nothing.
 use mathlib.Core.Path.{refl}
-use Rattle.saftvrqmie_energies.specs.HardSphere.{frac1mz3}
+use Rattle.saftvrqmie_hard_sphere.specs.HardSphere.{frac1mz3}
 use Rattle.number.specs.Arith.{decimal}
 use lib.Ieee.{of_bits}
 use Rattle.saftvrqmie_hard_sphere_slopes.proofs.frac_1mz3.Goals as goal

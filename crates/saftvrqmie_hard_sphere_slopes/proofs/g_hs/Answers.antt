@@ -1,6 +1,6 @@
 -- `saftvrqmie_hard_sphere_slopes::g_hs` meets its contract. Assumes nothing.
 use mathlib.Core.Path.{refl}
-use Rattle.saftvrqmie_energies.specs.NonAdditive.{g_hs}
+use Rattle.saftvrqmie_hard_sphere.specs.NonAdditive.{g_hs}
 use Rattle.number.specs.Arith.{decimal}
 use lib.Ieee.{of_bits}
 use Rattle.saftvrqmie_hard_sphere_slopes.proofs.g_hs.Goals as goal

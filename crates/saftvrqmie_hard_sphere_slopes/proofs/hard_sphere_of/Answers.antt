@@ -1,6 +1,6 @@
 -- `saftvrqmie_hard_sphere_slopes::hard_sphere_of` meets its contract. Assumes nothing.
 use mathlib.Core.Path.{refl}
-use Rattle.saftvrqmie_energies.specs.HardSphere.{hard_sphere_of}
+use Rattle.saftvrqmie_hard_sphere.specs.HardSphere.{hard_sphere_of}
 use Rattle.number.specs.Arith.{decimal}
 use lib.Ieee.{of_bits}
 use Rattle.saftvrqmie_hard_sphere_slopes.proofs.hard_sphere_of.Goals as goal

@@ -1,6 +1,6 @@
 -- `saftvrqmie_hard_sphere_slopes::non_additive_ij` meets its contract. Assumes nothing.
 use mathlib.Core.Path.{refl}
-use Rattle.saftvrqmie_energies.specs.NonAdditive.{non_additive_ij}
+use Rattle.saftvrqmie_hard_sphere.specs.NonAdditive.{non_additive_ij}
 use Rattle.number.specs.Arith.{decimal}
 use lib.Ieee.{of_bits}
 use Rattle.saftvrqmie_hard_sphere_slopes.proofs.non_additive_ij.Goals as goal

@@ -5,7 +5,8 @@ use Rattle.number.proofs.Walk.{turns_none, turns_next, turns_end}
 use lib.Ieee.{of_bits}
 use Rattle.number.specs.Arith.{decimal}
 use Rattle.slopes.specs.Mixed.{Mixed, sloped, mixed}
-use Rattle.saftvrqmie_energies.specs.HardSphere.{Zeta23In, zeta23}
+use Rattle.saftvrqmie_hard_sphere.specs.HardSphere.{Zeta23In}
+use Rattle.saftvrqmie_energies.specs.HardSphere.{zeta23}
 use Rattle.saftvrqmie_hard_sphere_slopes.proofs.Laws.{zeta23_begun, zeta23_one}
 use borrow.Author.Rules.{rules}
 use Rattle.saftvrqmie_hard_sphere_slopes.proofs.zeta_23.Goals as goal

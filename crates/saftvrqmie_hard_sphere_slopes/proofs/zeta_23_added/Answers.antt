@@ -1,6 +1,6 @@
 -- `saftvrqmie_hard_sphere_slopes::zeta_23_added` meets its contract. Assumes nothing.
 use mathlib.Core.Path.{refl}
-use Rattle.saftvrqmie_energies.specs.HardSphere.{zeta23_added}
+use Rattle.saftvrqmie_hard_sphere.specs.HardSphere.{zeta23_added}
 use Rattle.number.specs.Arith.{decimal}
 use lib.Ieee.{of_bits}
 use Rattle.saftvrqmie_hard_sphere_slopes.proofs.zeta_23_added.Goals as goal

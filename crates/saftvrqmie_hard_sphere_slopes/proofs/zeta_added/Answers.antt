@@ -1,6 +1,6 @@
 -- `saftvrqmie_hard_sphere_slopes::zeta_added` meets its contract. Assumes nothing.
 use mathlib.Core.Path.{refl}
-use Rattle.saftvrqmie_energies.specs.HardSphere.{zeta_added}
+use Rattle.saftvrqmie_hard_sphere.specs.HardSphere.{zeta_added}
 use Rattle.number.specs.Arith.{decimal}
 use lib.Ieee.{of_bits}
 use Rattle.saftvrqmie_hard_sphere_slopes.proofs.zeta_added.Goals as goal
