@@ -5,7 +5,7 @@ ghost use Rattle.std.specs.Prelude.{◌≡◌, ◌&&◌, Bool, true, false, cond
 ghost use Rattle.std.proofs.Common.{rules};
 ghost use Rattle.number.specs.Ans.{Ans, held, refused};
 ghost use Rattle.number.specs.Answer.{answer_by};
-ghost use Rattle.number.specs.Arith.{Arith, floats, whole};
+ghost use Rattle.number.specs.Arith.{Arith, floats, whole, epsilon64};
 ghost use Rattle.number.specs.Functions.{Functions, calls};
 ghost use Rattle.elementary.specs.Port.{port};
 ghost use Rattle.enclosure.specs.Enclosure.{enclosures};
@@ -15,7 +15,7 @@ ghost use Rattle.slopes.specs.Rules.{mixed_functions};
 ghost use Rattle.dual_num.specs.Way.{mixed_way};
 ghost use Rattle.dual_num.specs.declared.DualBase.{DualBase};
 ghost use Rattle.dual_num.specs.Base.{float_base_of, float_power, enclosure_power, dual_power, float_exponent_of, float_raised, float_power_by, enclosure_raised, enclosure_power_by, dual_raised, dual_power_by};
-ghost use Rattle.dual_num.specs.Laws.{float_power_is, enclosure_power_is, dual_power_is, float_six, enclosure_six, mixed_six};
+ghost use Rattle.dual_num.specs.Laws.{float_power_is, enclosure_power_is, dual_power_is, float_six, enclosure_six, mixed_six, float_epsilon, enclosure_epsilon, mixed_epsilon};
 
 use binary_log::Log;
 use dual::Dual;
@@ -172,6 +172,14 @@ pub trait DualNum: Copy
     fn tau() -> Self::Plain
         ensures { (w : Bool) → plain w result ≡ (functions w).tau };
 
+    // The float run's value, which branches look at.
+    fn re(self) -> f64
+        ensures { (w : Bool) → result ≡ (beside w).val (of w self) };
+
+    // The logarithm of a plain number, which stays plain.
+    fn plain_ln(a: Self::Plain) -> Result<Self::Plain, Refusal>
+        ensures { (w : Bool) → answer_by (plain w) result ≡ (functions w).ln (plain w a) };
+
     ghost can_add_law: { (x y : Self) → ⟦<Self as Add<Self>>⟧.can_add x y };
 
     ghost can_sub_law: { (x y : Self) → ⟦<Self as Sub<Self>>⟧.can_sub x y };
@@ -239,6 +247,9 @@ pub trait DualNum: Copy
     ghost power_law: { (w : Bool) (b : Self.Base) (n : Self.Exponent) → power_by w b n ≡ cond (base_in b && exponent_in n) (held (raised w b n)) (refused 6) };
 
     ghost powf_law: { (w : Bool) (x y : (beside w).Num) (n : ℕ) → (functions w).powf x y ≡ refused n → n ≡ 6 };
+
+    // EPSILON has a logarithm.
+    ghost epsilon_law: { (w : Bool) (n : ℕ) → (functions w).ln ((beside w).lit epsilon64) ≡ refused n → ⊥ };
 }
 
 fn float_base(x: f64) -> FloatBase
@@ -378,6 +389,14 @@ impl DualNum for f64 {
         6.283185307179586
     }
 
+    fn re(self) -> f64 {
+        self
+    }
+
+    fn plain_ln(a: f64) -> Result<f64, Refusal> {
+        elementary::ln(a)
+    }
+
     ghost can_add_law = { Prim.search rules };
 
     ghost can_sub_law = { Prim.search rules };
@@ -441,6 +460,8 @@ impl DualNum for f64 {
     ghost power_law = { λ w b n. float_power_is b n };
 
     ghost powf_law = { λ w x y n. float_six x y n };
+
+    ghost epsilon_law = { λ w n. float_epsilon n };
 }
 
 fn enclosure_base(x: Enclosure) -> EnclosureBase
@@ -577,6 +598,14 @@ impl DualNum for Enclosure {
         Enclosure::tau()
     }
 
+    fn re(self) -> f64 {
+        self.value
+    }
+
+    fn plain_ln(a: Enclosure) -> Result<Enclosure, Refusal> {
+        enclosure::answered(elementary::ln(a.value), a)
+    }
+
     ghost can_add_law = { Prim.search rules };
 
     ghost can_sub_law = { Prim.search rules };
@@ -640,6 +669,8 @@ impl DualNum for Enclosure {
     ghost power_law = { λ w b n. enclosure_power_is b n };
 
     ghost powf_law = { λ w x y n. enclosure_six x y n };
+
+    ghost epsilon_law = { λ w n. enclosure_epsilon n };
 }
 
 fn dual_base(x: Dual) -> DualBase
@@ -784,6 +815,14 @@ impl DualNum for Dual {
         6.283185307179586
     }
 
+    fn re(self) -> f64 {
+        self.re
+    }
+
+    fn plain_ln(a: f64) -> Result<f64, Refusal> {
+        elementary::ln(a)
+    }
+
     ghost can_add_law = { Prim.search rules };
 
     ghost can_sub_law = { Prim.search rules };
@@ -847,4 +886,6 @@ impl DualNum for Dual {
     ghost power_law = { λ w b n. dual_power_is b n };
 
     ghost powf_law = { λ w x y n. mixed_six x y n };
+
+    ghost epsilon_law = { λ w n. mixed_epsilon n };
 }

@@ -60,8 +60,8 @@ pair_by plain of p =
       temperature = of p.temperature;
     }
 
--- what a set holds at entry e of its sheets, and the temperature
-abbrev pub pair_at_entry : List Float → List OrderRecord → Float → ℕ → FloatPair
+-- what a set holds at entry e of its sheets, and the temperature, which may carry a slope
+abbrev pub pair_at_entry : {D : Type 0} → List Float → List OrderRecord → D → ℕ → Pair D Float
 pair_at_entry s orders t e =
     record {
       sigma = at s e;

@@ -73,8 +73,13 @@ pub struct LinePowers<D> {
     pub ra: D,
 }
 
-// The pair at entry e of a set's sheets. All that works pairs reads them here; an entry comes from indexes that were tested, or are turns of loops over a count that was.
-pub fn pair_at(s: &[f64; SHEETS], orders: [OrderRecord; SHEET], t: f64, e: usize) -> FloatPair
+// The pair at entry e of a set's sheets, at a temperature that may carry a slope. All that works pairs reads them here; an entry comes from indexes that were tested, or are turns of loops over a count that was.
+pub fn pair_at<D: Copy>(
+    s: &[f64; SHEETS],
+    orders: [OrderRecord; SHEET],
+    t: D,
+    e: usize,
+) -> Pair<D, f64>
     requires { e < sheet }
     ensures { result ≡ pair_at_entry s.now orders t e }
 {
