@@ -12,7 +12,7 @@ ghost use Rattle.slopes.specs.Mixed.{plain, mixed_one};
 ghost use Rattle.slopes.specs.Rules.{mixed_functions};
 ghost use Rattle.mie_parameters.specs.Answer.{outcome};
 ghost use Rattle.mie_parameters.specs.Sums.{orders_sum};
-ghost use Rattle.saftvrqmie_potential.specs.Potential.{recip, pair_by};
+ghost use Rattle.saftvrqmie_potential.specs.Potential.{recip};
 ghost use Rattle.saftvrqmie_dispersion.specs.Perturbation.{dispersion_by, dispersion_pair};
 ghost use Rattle.saftvrqmie_energies.specs.State.{points};
 ghost use Rattle.saftvrqmie_energies.specs.Dispersion.{inv_xs_sum, segment_fractions, lead, packing_row, packing, alpha_row, first_row, first, second_row, second, third_row, third, mixture, dispersion};
@@ -26,7 +26,6 @@ use number::Refusal;
 use saftvrqmie_dispersion::DispersionPair;
 use saftvrqmie_hard_sphere_slopes::{entry, segment_density};
 use saftvrqmie_parameters::OrderRecord;
-use saftvrqmie_potential::Pair;
 use sizes::{SHEET, SHEETS, SIDE, TABLE};
 
 #[derive(Clone, Copy)]
@@ -153,29 +152,6 @@ fn mixture(
     }
 }
 
-// The pair at entry e. Its numbers are plain; the temperature carries a slope.
-fn pair_at(
-    sheets: &[f64; SHEETS],
-    orders: [OrderRecord; SHEET],
-    t: Dual,
-    e: usize,
-) -> Pair<Dual, f64>
-    requires { e < sheet }
-    ensures { pair_by plain mixed_of result ≡ sloped_pair sheets.now orders (dual_of t) e }
-{
-    let p = saftvrqmie_potential::pair_at(sheets, orders, t.re, e);
-    Pair {
-        sigma: p.sigma,
-        epsilon_k: p.epsilon_k,
-        c: p.c,
-        lr: p.lr,
-        la: p.la,
-        mass: p.mass,
-        order: p.order,
-        temperature: t,
-    }
-}
-
 // `Alpha::new` of a row; 6 where a power is outside.
 fn alpha_row(
     n: usize,
@@ -195,7 +171,7 @@ fn alpha_row(
 {
     for k in 0usize..n - i {
         let e = SIDE * i + (i + k);
-        let pair = pair_at(sheets, orders, t, e);
+        let pair = saftvrqmie_potential::pair_at(sheets, orders, t, e);
         let s = table_entry(table, table_slopes, 0, e);
         let depth = table_entry(table, table_slopes, 2, e);
         let a = saftvrqmie_dispersion::alpha_ij(&pair, s, depth)?;
@@ -253,7 +229,7 @@ fn perturbed_pair(
         let of = sloped_sheet table.now table_slopes.now in
         dispersion_by plain mixed_of result ≡ dispersion_pair mixed_one pair (of 1 e) (of 0 e) (of 3 e) (mixed_of w.zeta) }
 {
-    let pair = pair_at(sheets, orders, t, e);
+    let pair = saftvrqmie_potential::pair_at(sheets, orders, t, e);
     let d = table_entry(table, table_slopes, 1, e);
     let s = table_entry(table, table_slopes, 0, e);
     let q = table_entry(table, table_slopes, 3, e);

@@ -1,6 +1,5 @@
 -- `saftvrqmie_hard_sphere_slopes::zeta_23` meets its contract. Assumes nothing.
 use mathlib.Core.Path.{◌∙◌, ap}
-use Rattle.number.specs.Lists.{at}
 use Rattle.number.proofs.Walk.{turns_none, turns_next, turns_end}
 use lib.Ieee.{of_bits}
 use Rattle.number.specs.Arith.{decimal}
