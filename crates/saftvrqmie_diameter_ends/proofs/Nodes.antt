@@ -87,9 +87,9 @@ module _ (U : Enclosure → Ans (PotentialIn Enclosure)) (temperature r0 width :
       (calls enclosures port).exp (div_e (neg_e u) temperature) >>= λ e.
       held (add_e d-hs (mul_e (mul_e width (add_e (neg_e e) (point (decimal false 1 0)))) (entry (calls enclosures port) weights k)))
 
-  pub turn_is : {sigma_eff : Enclosure} → width ≡ width_of sigma_eff r0 → {a : Ans Enclosure} → turn ≡ a → node_turn enclosures (calls enclosures port) U temperature sigma_eff r0 k d-hs ≡ a
+  pub turn_is : (sigma_eff : Enclosure) → width ≡ width_of sigma_eff r0 → {a : Ans Enclosure} → turn ≡ a → node_turn enclosures (calls enclosures port) U temperature sigma_eff r0 k d-hs ≡ a
   unfolding node_turn
-  turn_is h l = sym (part_after temperature width (entry (calls enclosures port) weights k) d-hs _ ∙ rw h) ∙ l
+  turn_is sigma_eff h l = sym (part_after temperature width (entry (calls enclosures port) weights k) d-hs _ ∙ rw h) ∙ l
 
 pub width_worked : (sigma_eff r0 h d m : Enclosure) → h ≡ point (decimal false 5 1) → d ≡ sub_e sigma_eff r0 → m ≡ mul_e d h → m ≡ width_of sigma_eff r0
 width_worked sigma_eff r0 h d m i j k = rw (k, j, i)
