@@ -12,8 +12,7 @@ use Rattle.binary_log.specs.BinaryLog.{log_of}
 use Rattle.power.specs.Power.{powf_of}
 use Rattle.saftvrmie_dispersion.specs.Sutherland.{FluidIn, a1s_b_of, a1s_b}
 use Rattle.saftvrmie_dispersion.specs.Terms.{five}
-use Rattle.saftvrmie_dispersion.specs.Chain.{k_of}
-use Rattle.saftvrmie_dispersion.specs.Staged.{power_by, three_less, four_less, twice, lambda_inside, five_inside, a1s_b_at, five_at, k_tested}
+use Rattle.saftvrmie_dispersion.specs.Staged.{power_by, three_less, four_less, twice, lambda_inside, five_inside, a1s_b_at, five_at}
 
 -- a call of the float run is the answer itself
 pub once : (a : Ans Float) (x : Float) → answered floats a x ≡ a
@@ -84,12 +83,3 @@ module _ (x : Float) where
       pub five_outside : base_inside x ≡ false → five floats D plain ((calls floats port).powf x) w la lr ≡ refused 6
       unfolding five a1s_b ◌>>=◌
       five_outside e = rw (outside e)
-
--- ---- whether k0 to k3 have a value
-pub k_held : (z v : Float) → (calls floats port).ln (floats.add (floats.neg z) (decimal false 1 0)) ≡ held v → held true ≡ k_tested z
-unfolding k_tested k_of ◌>>=◌
-k_held z v h = rw h
-
-pub k_refused : (z : Float) (k : ℕ) → (calls floats port).ln (floats.add (floats.neg z) (decimal false 1 0)) ≡ refused k → refused k ≡ k_tested z
-unfolding k_tested k_of ◌>>=◌
-k_refused z k h = rw h

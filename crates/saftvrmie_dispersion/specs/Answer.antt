@@ -65,8 +65,11 @@ sums_by of s = record { a1 = of s.a1; a2 = of s.a2; a3 = of s.a3; a_chain = of s
 abbrev pub sums_in : {N : Type 0} → Sums N → SumsIn N
 sums_in s = sums_by (λ x. x) s
 
-abbrev pub k_in : KValues → KIn Float
-k_in k = record { k0 = k.k0; k1 = k.k1; k2 = k.k2; k3 = k.k3 }
+abbrev pub k_by : {S N : Type 0} → (S → N) → KValues S → KIn N
+k_by of k = record { k0 = of k.k0; k1 = of k.k1; k2 = of k.k2; k3 = of k.k3 }
+
+abbrev pub k_in : {N : Type 0} → KValues N → KIn N
+k_in k = k_by (λ x. x) k
 
 abbrev pub link_in : Link → LinkIn Float
 link_in l = record { m = l.m; fraction = l.fraction; t_inv = l.t_inv }
@@ -79,6 +82,3 @@ terms_answer = answer_by terms_in
 
 abbrev pub sums_answer : {N : Type 0} → Result (Sums N) Refusal → Ans (SumsIn N)
 sums_answer = answer_by sums_in
-
-abbrev pub k_answer : Result KValues Refusal → Ans (KIn Float)
-k_answer = answer_by k_in

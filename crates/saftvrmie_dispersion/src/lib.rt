@@ -6,7 +6,7 @@ mod dual_sums;
 mod orders;
 mod sutherland;
 
-pub use crate::chain::{chain_pure, fluid_dual, k_inside, k_values};
+pub use crate::chain::{chain_pure, fluid_dual, k_values};
 pub use crate::dual_sums::{a1s_ij_dual, k_hs_dual, orders_dual, zeta_eff_dual};
 pub use crate::orders::{
     a3, add_pair, add_pure, bar_of, orders_sum, pair_terms, six_of, x0_of, xi,
@@ -112,11 +112,11 @@ pub struct Sums<D> {
 
 // The k-values of the hard spheres' pair correlation function.
 #[derive(Clone, Copy)]
-pub struct KValues {
-    pub k0: f64,
-    pub k1: f64,
-    pub k2: f64,
-    pub k3: f64,
+pub struct KValues<D> {
+    pub k0: D,
+    pub k1: D,
+    pub k2: D,
+    pub k3: D,
 }
 
 // What only the chain reads of a component and of the state; t_inv is 1/T.
