@@ -1,5 +1,5 @@
 -- `saftvrqmie_dispersion_sums_slopes::lead` meets its contract. Assumes nothing.
-use Rattle.saftvrqmie_energies.specs.Dispersion.{lead}
+use Rattle.saftvrqmie_dispersion.specs.Sums.{lead}
 use Rattle.number.specs.Arith.{decimal}
 use lib.Ieee.{of_bits}
 use Rattle.saftvrqmie_dispersion_sums_slopes.proofs.Laws.{fac_plain}
