@@ -25,7 +25,8 @@ use Rattle.saftvrqmie_potential.specs.Potential.{recip}
 use Rattle.saftvrqmie_dispersion.specs.Alpha.{chi, third_order_ij}
 use Rattle.saftvrqmie_dispersion.specs.Perturbation.{first_order_ij, second_order_ij, k_factor}
 use Rattle.saftvrqmie_energies.specs.State.{SheetsIn, points}
-use Rattle.saftvrqmie_energies.specs.Dispersion.{inv_xs_sum, segment_fractions, lead, packing_turn, packing_row, packing, first_turn, first_row, first, second_pair_turn, second_row, second, third_turn, third_row, third}
+use Rattle.saftvrqmie_dispersion.specs.Sums.{lead}
+use Rattle.saftvrqmie_energies.specs.Dispersion.{inv_xs_sum, segment_fractions, packing_turn, packing_row, packing, first_turn, first_row, first, second_pair_turn, second_row, second, third_turn, third_row, third}
 use Rattle.saftvrqmie_hard_sphere_slopes.specs.Parts.{mixed_of, duals_at, FirstPlaces, sloped_at, sloped_sheet}
 use Rattle.saftvrqmie_hard_sphere_slopes.proofs.Laws.{begun, filled, struct_of, back}
 use Rattle.saftvrqmie_dispersion_sums_slopes.specs.declared.SegmentSlopes.{SegmentSlopes}

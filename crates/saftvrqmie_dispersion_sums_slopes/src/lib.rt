@@ -15,7 +15,8 @@ ghost use Rattle.mie_parameters.specs.Sums.{orders_sum};
 ghost use Rattle.saftvrqmie_potential.specs.Potential.{recip};
 ghost use Rattle.saftvrqmie_dispersion.specs.Perturbation.{dispersion_by, dispersion_pair};
 ghost use Rattle.saftvrqmie_energies.specs.State.{points};
-ghost use Rattle.saftvrqmie_energies.specs.Dispersion.{inv_xs_sum, segment_fractions, lead, packing_row, packing, alpha_row, first_row, first, second_row, second, third_row, third, mixture, dispersion};
+ghost use Rattle.saftvrqmie_dispersion.specs.Sums.{lead};
+ghost use Rattle.saftvrqmie_energies.specs.Dispersion.{inv_xs_sum, segment_fractions, packing_row, packing, alpha_row, first_row, first, second_row, second, third_row, third, mixture, dispersion};
 ghost use Rattle.saftvrqmie_hard_sphere_slopes.specs.Parts.{mixed_of, mixed_answer, duals_at, FirstPlaces, sloped_at, sloped_sheet};
 ghost use Rattle.saftvrqmie_dispersion_sums_slopes.specs.State.{mixture_in, sloped_list, sloped_pair, sloped_sheets};
 

@@ -1,6 +1,6 @@
 -- `saftvrqmie_dispersion_sums_slopes::lead` meets its contract. Assumes nothing.
 use mathlib.Core.Bool.{true}
-use Rattle.saftvrqmie_energies.specs.Dispersion.{lead}
+use Rattle.saftvrqmie_dispersion.specs.Sums.{lead}
 use Rattle.number.specs.Arith.{decimal}
 use lib.Ieee.{of_bits}
 use Rattle.saftvrqmie_dispersion_sums_slopes.proofs.Laws.{pow_as, fac_plain}
