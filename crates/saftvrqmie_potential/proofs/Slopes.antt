@@ -6,7 +6,7 @@ use mathlib.Core.Bool.{Bool, true, false, cond}
 use Rattle.number.specs.Ans.{Ans, held, refused, ◌>>=◌}
 use Rattle.number.specs.Functions.{Answers, Functions}
 use Rattle.dual.specs.Dual.{DualOf}
-use Rattle.slopes.specs.Mixed.{Mixed, plain, sloped, as_dual, mixed}
+use Rattle.slopes.specs.Mixed.{Mixed, plain, sloped, mixed}
 use Rattle.slopes.specs.Rules.{real_power, mixed_functions}
 use Rattle.saftvrqmie_potential.specs.Potential.{PotentialIn, FloatPair, q1, q2, quantum_d, prefactor, scaled, after_shared, line, mie, add_first, add_second, potential, first_order, second_order}
 use Rattle.saftvrqmie_potential.specs.Slopes.{mixed_pair, as_duals, potential_slope}
