@@ -19,7 +19,7 @@ returns-in_err-v c = rw (handed_on _ c.from_residual.ensures, ← c.loop-k.invar
 
 pub loop-k-preserved : goal.loop-k-preserved
 unfolding decimal of_bits
-loop-k-preserved c = (c.loop-k.invariant.0, search rules, walk_next _ _ _ _ _ c.loop-k.invariant.2 (second_held floats _ _ _ _ _ _ _ _ _ c.perturbed_pair-pair.ensures _ c.second_order_perturbation_ij.ensures _ _ _ _ _ (ap answer c.in_ok-v.was) c.lead.ensures (c.chi-chi.ensures true) refl refl))
+loop-k-preserved c = (c.loop-k.invariant.0, search rules, walk_next _ _ _ _ _ c.loop-k.invariant.2 (second_held floats _ _ _ _ _ _ _ _ _ c.perturbed_pair-pair.ensures _ c.second_order_perturbation_ij.ensures _ _ _ _ _ (ap answer c.in_ok-v.was) (c.lead.ensures true) (c.chi-chi.ensures true) refl refl))
 
 pub returns : goal.returns
 unfolding second_row

@@ -36,7 +36,7 @@ pub loop-k-smaller : goal.loop-k-smaller
 loop-k-smaller c = omega (arith, c.loop-k-test.true)
 
 pub loop-k-preserved : goal.loop-k-preserved
-loop-k-preserved c = (c.loop-k.invariant.0, omega (arith, c.loop-k-test.true), walk_next _ _ _ _ _ c.loop-k.invariant.2 (first_held enclosures _ _ _ _ _ _ _ _ _ c.perturbed_pair-pair.ensures (c.first_order_perturbation_ij.ensures true) _ _ _ (ap answer c.in_ok-v.was) (rw (c.entry_of-d.ensures, c.at_component-xi.ensures, c.at_component-xj.ensures) at c.lead-c.ensures) c.plus_product-a1.ensures))
+loop-k-preserved c = (c.loop-k.invariant.0, omega (arith, c.loop-k-test.true), walk_next _ _ _ _ _ c.loop-k.invariant.2 (first_held enclosures _ _ _ _ _ _ _ _ _ c.perturbed_pair-pair.ensures (c.first_order_perturbation_ij.ensures true) _ _ _ (ap answer c.in_ok-v.was) (rw (c.entry_of-d.ensures, c.at_component-xi.ensures, c.at_component-xj.ensures) at (c.lead-c.ensures true)) c.plus_product-a1.ensures))
 
 pub returns : goal.returns
 unfolding first_row
