@@ -24,8 +24,7 @@ use Rattle.limits.specs.Limits.{count_within, temperature_within}
 use Rattle.mie_parameters.proofs.Laws.{and_left, and_right, count_high}
 use Rattle.saftvrqmie_parameters.specs.declared.OrderRecord.{OrderRecord}
 use Rattle.saftvrqmie_parameters.specs.declared.SaftVRQMiePars.{SaftVRQMiePars}
-use Rattle.saftvrqmie_potential.specs.Potential.{pair_in, pair_at_entry}
-use Rattle.saftvrqmie_potential.specs.declared.Pair.{Pair}
+use Rattle.saftvrqmie_potential.specs.Potential.{FloatPair, pair_in, pair_at_entry}
 use Rattle.saftvrqmie_properties.specs.Properties.{PairPropertiesIn, pair_properties_in, pair_properties_answer, pair_properties}
 use Rattle.saftvrqmie_properties.specs.declared.PairProperties.{PairProperties}
 use Rattle.saftvrqmie.specs.Table.{Lent, store, work_turn, work_row, work_pairs, blank, table_finite, right_lists, temperature_table}
@@ -58,11 +57,11 @@ part_next v d l a k p q h =
     (sym (append_assoc (take a v) (take k (drop a v)) (drop (a + k) d)))
 
 -- a turn of the work, over plain values
-module _ (s : List Float) (o : List OrderRecord) (t : Float) (i j : ℕ) (x : Lent) (p : Pair) (r : Result PairProperties Refusal) (d : p ≡ pair_at_entry s o t (cell i j)) (q : pair_properties_answer r ≡ pair_properties floats (calls floats port) (pair_in p)) where
+module _ (s : List Float) (o : List OrderRecord) (t : Float) (i j : ℕ) (x : Lent) (p : FloatPair) (r : Result (PairProperties Float) Refusal) (d : p ≡ pair_at_entry s o t (cell i j)) (q : pair_properties_answer r ≡ pair_properties floats (calls floats port) (pair_in p)) where
   told_here : pair_properties_answer r ≡ pair_properties floats (calls floats port) (pair_in (pair_at_entry s o t (cell i j)))
-  told_here = q ∙ ap (λ (p : Pair). pair_properties floats (calls floats port) (pair_in p)) d
+  told_here = q ∙ ap (λ (p : FloatPair). pair_properties floats (calls floats port) (pair_in p)) d
 
-  pub work_held : (y : Lent) (w : PairProperties) → r ≡ Ok w → y ≡ store x (cell i j) (pair_properties_in w) → work_turn s o t i j x ≡ held y
+  pub work_held : (y : Lent) (w : PairProperties Float) → r ≡ Ok w → y ≡ store x (cell i j) (pair_properties_in w) → work_turn s o t i j x ≡ held y
   unfolding work_turn ◌>>=◌
   work_held y w h g = rw (via pair_properties_answer told_here h, g)
 

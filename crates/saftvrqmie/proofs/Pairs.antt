@@ -11,13 +11,12 @@ use Rattle.sizes.specs.Sizes.{cell}
 use Rattle.elementary.specs.Port.{port}
 use Rattle.limits.specs.Limits.{index_within, temperature_within}
 use Rattle.saftvrqmie_parameters.specs.declared.SaftVRQMiePars.{SaftVRQMiePars}
-use Rattle.saftvrqmie_potential.specs.Potential.{pair_in, pair_at_entry}
-use Rattle.saftvrqmie_potential.specs.declared.Pair.{Pair}
+use Rattle.saftvrqmie_potential.specs.Potential.{FloatPair, pair_in, pair_at_entry}
 use Rattle.saftvrqmie_searches.specs.Diameter.{diameter}
 use Rattle.saftvrqmie.specs.Pairs.{SearchesIn, pair_searches, radii_ij, diameter_ij_by, diameter_ij}
 
 module _ (s : SaftVRQMiePars) (i j : ℕ) (t : Float) where
-  abbrev pair : Pair
+  abbrev pair : FloatPair
   pair = pair_at_entry s.sheets s.orders t (cell i j)
 
   pub searches_1 : index_within s.count i j ≡ false → refused 1 ≡ radii_ij s i j t
@@ -34,18 +33,18 @@ module _ (s : SaftVRQMiePars) (i j : ℕ) (t : Float) where
     unfolding radii_ij demand ◌>>=◌
     searches_2 q = rw (p, q)
 
-    pub searches_are : (x : Pair) (a : Ans (SearchesIn Float)) → temperature_within t ≡ true → x ≡ pair → a ≡ pair_searches floats (calls floats port) (pair_in x) → a ≡ radii_ij s i j t
+    pub searches_are : (x : FloatPair) (a : Ans (SearchesIn Float)) → temperature_within t ≡ true → x ≡ pair → a ≡ pair_searches floats (calls floats port) (pair_in x) → a ≡ radii_ij s i j t
     unfolding radii_ij demand ◌>>=◌
-    searches_are x a q e h = rw (p, q) (h ∙ ap (λ (x : Pair). pair_searches floats (calls floats port) (pair_in x)) e)
+    searches_are x a q e h = rw (p, q) (h ∙ ap (λ (x : FloatPair). pair_searches floats (calls floats port) (pair_in x)) e)
 
     module _ (sigma_eff r0 : Float) where
       pub diameter_2 : temperature_within t ≡ false → refused 2 ≡ diameter_ij s i j t sigma_eff r0
       unfolding diameter_ij_by demand ◌>>=◌
       diameter_2 q = rw (p, q)
 
-      module _ (q : temperature_within t ≡ true) (x : Pair) (e : x ≡ pair) (a : Ans Float) (h : a ≡ diameter floats (calls floats port) (pair_in x) sigma_eff r0) where
+      module _ (q : temperature_within t ≡ true) (x : FloatPair) (e : x ≡ pair) (a : Ans Float) (h : a ≡ diameter floats (calls floats port) (pair_in x) sigma_eff r0) where
         here : diameter floats (calls floats port) (pair_in pair) sigma_eff r0 ≡ a
-        here = sym (h ∙ ap (λ (x : Pair). diameter floats (calls floats port) (pair_in x) sigma_eff r0) e)
+        here = sym (h ∙ ap (λ (x : FloatPair). diameter floats (calls floats port) (pair_in x) sigma_eff r0) e)
 
         pub diameter_6 : (k : ℕ) → a ≡ refused k → refused k ≡ diameter_ij s i j t sigma_eff r0
         unfolding diameter_ij_by demand ◌>>=◌
