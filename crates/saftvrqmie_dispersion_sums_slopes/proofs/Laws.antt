@@ -5,7 +5,7 @@ use native.Mathlib.Nat.{not-suc-le-zero}
 use lib.ListN.{length, set, replicate}
 use lib.Ieee.{Float, nan, of_bits}
 use mathlib.Core.Path.{◌≡◌, refl, sym, ap, ◌∙◌}
-use mathlib.Core.Bool.{Bool, true, false, cond}
+use mathlib.Core.Bool.{false}
 use mathlib.Core.List.{List, [], ◌∷◌}
 use Rattle.number.specs.Ans.{Ans, held, refused, ◌>>=◌}
 use Rattle.number.specs.Arith.{floats, zero64, decimal, whole, nearest, frac_pi_6}
@@ -24,8 +24,8 @@ use Rattle.saftvrqmie_parameters.specs.declared.OrderRecord.{OrderRecord}
 use Rattle.saftvrqmie_potential.specs.Potential.{recip}
 use Rattle.saftvrqmie_dispersion.specs.Alpha.{chi, third_order_ij}
 use Rattle.saftvrqmie_dispersion.specs.Perturbation.{first_order_ij, second_order_ij, k_factor}
-use Rattle.saftvrqmie_energies.specs.State.{SheetsIn, points}
 use Rattle.saftvrqmie_dispersion.specs.Sums.{lead}
+use Rattle.saftvrqmie_energies.specs.State.{SheetsIn, points}
 use Rattle.saftvrqmie_energies.specs.Dispersion.{inv_xs_sum, segment_fractions, packing_turn, packing_row, packing, first_turn, first_row, first, second_pair_turn, second_row, second, third_turn, third_row, third}
 use Rattle.saftvrqmie_hard_sphere_slopes.specs.Parts.{mixed_of, duals_at, FirstPlaces, sloped_at, sloped_sheet}
 use Rattle.saftvrqmie_hard_sphere_slopes.proofs.Laws.{begun, filled, struct_of, back}
@@ -181,8 +181,3 @@ module _ (n : ℕ) (inv : Dual) (x x' m : List Float) where
   fractions_are l r k h is-inv p i q =
       let there : nth mixed_one (segment_fractions mixed_one n (sloped_at x x') (points mixed_one m)) i ≡ fraction i = rw (← is-inv) (filled fraction (plain nan) n i (replicate side (plain zero64)) q h) in
       ap (λ (l : List Dual). duals_at l i) p ∙ ap mixed_of (filled fraction_of _ n i l q (rw k h)) ∙ here i ∙ sym there
-
--- ---- fac is plain
-pub fac_plain : (b : Bool) (u : Float) → u ≡ cond b (whole floats 1) (whole floats 2) → cond b (whole mixed_one 1) (whole mixed_one 2) ≡ plain u
-fac_plain true u e = ap plain (sym e)
-fac_plain false u e = ap plain (sym e)

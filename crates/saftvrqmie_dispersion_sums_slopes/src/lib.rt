@@ -1,8 +1,8 @@
 // The dispersion's contribution (saftvrqmie/eos/dispersion.rs) with slopes (document 02, Slip 1): segment and packing fractions, alphas, the sums of the three orders, read at mixed numbers.
 #![tactic(auto)]
 
-ghost use Rattle.std.specs.Prelude.{◌≡◌, cond, ◌*◌, ◌<◌, ◌≤◌, eqb, length};
-ghost use Rattle.number.specs.Arith.{floats, whole};
+ghost use Rattle.std.specs.Prelude.{◌≡◌, ◌*◌, ◌<◌, ◌≤◌, length};
+ghost use Rattle.number.specs.Arith.{whole};
 ghost use Rattle.number.specs.Lists.{nth};
 ghost use Rattle.number.specs.Walk.{walk};
 ghost use Rattle.sizes.specs.Sizes.{side, sheet};
@@ -11,11 +11,8 @@ ghost use Rattle.dual.specs.Value.{dual_of};
 ghost use Rattle.slopes.specs.Mixed.{plain, mixed_one};
 ghost use Rattle.slopes.specs.Rules.{mixed_functions};
 ghost use Rattle.mie_parameters.specs.Answer.{outcome};
-ghost use Rattle.mie_parameters.specs.Sums.{orders_sum};
-ghost use Rattle.saftvrqmie_potential.specs.Potential.{recip};
 ghost use Rattle.saftvrqmie_dispersion.specs.Perturbation.{dispersion_by, dispersion_pair};
 ghost use Rattle.saftvrqmie_energies.specs.State.{points};
-ghost use Rattle.saftvrqmie_dispersion.specs.Sums.{lead};
 ghost use Rattle.saftvrqmie_energies.specs.Dispersion.{inv_xs_sum, segment_fractions, packing_row, packing, alpha_row, first_row, first, second_row, second, third_row, third, mixture, dispersion};
 ghost use Rattle.saftvrqmie_hard_sphere_slopes.specs.Parts.{mixed_of, mixed_answer, duals_at, FirstPlaces, sloped_at, sloped_sheet};
 ghost use Rattle.saftvrqmie_dispersion_sums_slopes.specs.State.{mixture_in, sloped_list, sloped_pair, sloped_sheets};
@@ -237,24 +234,6 @@ fn perturbed_pair(
     saftvrqmie_dispersion::dispersion_pair(&pair, d, s, q, w.zeta)
 }
 
-// 1.0 on the diagonal, else 2.0.
-fn fac(i: usize, j: usize) -> f64
-    ensures { result ≡ cond (eqb i j) (whole floats 1) (whole floats 2) }
-{
-    if i == j {
-        return 1.0;
-    }
-    2.0
-}
-
-fn lead(i: usize, j: usize, xi: Dual, xj: Dual, rho_s: Dual, d: Dual) -> Dual
-    ensures { mixed_of result ≡ lead mixed_one (mixed_functions port) i j (mixed_of xi) (mixed_of xj) (mixed_of rho_s) (mixed_of d) }
-{
-    let a = slopes::times(xi * xj, fac(i, j));
-    let b = slopes::times(a, FRAC_PI_6) * rho_s;
-    b * d.cube()
-}
-
 fn first_row(
     n: usize,
     sheets: &[f64; SHEETS],
@@ -277,7 +256,7 @@ fn first_row(
         let pair = perturbed_pair(sheets, orders, t, table, table_slopes, w, e);
         let v = saftvrqmie_dispersion::first_order_perturbation_ij(&pair)?;
         let d = table_entry(table, table_slopes, 1, e);
-        let f = lead(i, i + k, xs[i], xs[i + k], w.rho_s, d);
+        let f = saftvrqmie_dispersion::lead(i, i + k, xs[i], xs[i + k], w.rho_s, d);
         a1 = a1 + f * v;
     }
     Ok(a1)
@@ -337,7 +316,7 @@ fn second_row(
         let pair = perturbed_pair(sheets, orders, t, table, table_slopes, w, e);
         let v = saftvrqmie_dispersion::second_order_perturbation_ij::<Dual, true>(&pair)?;
         let d = table_entry(table, table_slopes, 1, e);
-        let f = lead(i, i + k, xs[i], xs[i + k], w.rho_s, d);
+        let f = saftvrqmie_dispersion::lead(i, i + k, xs[i], xs[i + k], w.rho_s, d);
         let a = sheet_entry(alphas, alpha_slopes, e);
         let chi = saftvrqmie_dispersion::chi(a, w.zeta_bar);
         a2 = second_added(a2, f, chi, v);
@@ -444,14 +423,6 @@ fn third(
     Ok(a3)
 }
 
-fn perturbation(temperature: Dual, a1: Dual, a2: Dual, a3: Dual) -> Dual
-    ensures { mixed_of result ≡ orders_sum mixed_one (recip mixed_one (mixed_of temperature)) (mixed_of a1) (mixed_of a2) (mixed_of a3) }
-{
-    let inv_t = slopes::recip(temperature);
-    let two = a1 * inv_t + a2 * inv_t.square();
-    two + a3 * inv_t.cube()
-}
-
 pub fn dispersion(
     n: usize,
     m: &[f64; SIDE],
@@ -509,5 +480,5 @@ pub fn dispersion(
         &alpha_slopes,
     )?;
     let n_s = segment_density(n, rho, rho_slopes, m);
-    Ok(n_s * perturbation(t, a1, a2, a3))
+    Ok(n_s * saftvrqmie_dispersion::orders_sum(t, a1, a2, a3))
 }

@@ -1,4 +1,5 @@
 -- `saftvrqmie_dispersion_sums_slopes::dispersion` meets its contract. Assumes nothing.
+use mathlib.Core.Bool.{true}
 use Rattle.saftvrqmie_hard_sphere_slopes.specs.Parts.{mixed_answer}
 use Rattle.dual.specs.Value.{dual_of}
 use Rattle.number.specs.Arith.{decimal}
@@ -34,4 +35,4 @@ segment_density-n_s-requires c = (c.requires.0, c.requires.1, c.requires.4, c.re
 
 pub returns : goal.returns
 unfolding decimal of_bits
-returns c = ways_held c.args.n c.args.sheets.now c.args.orders (dual_of c.args.t) c.args.table.now c.args.table_slopes.now c.args.x.now c.args.x_slopes.now c.args.rho.now c.args.rho_slopes.now c.args.m.now c.requires.1 c.segment_fractions-xs.result c.segment_fractions-xs.ensures c.mixture-w.result c.mixture-w.ensures _ _ _ c.alphas_of.ensures c.in_ok-alphas_of.was _ (via mixed_answer c.first.ensures c.in_ok-a1.was) _ (via mixed_answer c.second.ensures c.in_ok-a2.was) _ _ _ _ (via mixed_answer c.third.ensures c.in_ok-a3.was) c.segment_density-n_s.ensures.at_one c.perturbation.ensures c.mul.ensures
+returns c = ways_held c.args.n c.args.sheets.now c.args.orders (dual_of c.args.t) c.args.table.now c.args.table_slopes.now c.args.x.now c.args.x_slopes.now c.args.rho.now c.args.rho_slopes.now c.args.m.now c.requires.1 c.segment_fractions-xs.result c.segment_fractions-xs.ensures c.mixture-w.result c.mixture-w.ensures _ _ _ c.alphas_of.ensures c.in_ok-alphas_of.was _ (via mixed_answer c.first.ensures c.in_ok-a1.was) _ (via mixed_answer c.second.ensures c.in_ok-a2.was) _ _ _ _ (via mixed_answer c.third.ensures c.in_ok-a3.was) c.segment_density-n_s.ensures.at_one (c.orders_sum.ensures true) c.mul.ensures

@@ -18,7 +18,7 @@ unfolding first_row
 returns-in_err-v c = rw (handed_on _ c.from_residual.ensures, ← c.loop-k.invariant.0) (walk_stop _ _ _ _ _ _ c.loop-k-test.true c.loop-k.invariant.2 (first_outside mixed_one _ _ _ _ _ _ _ _ _ c.perturbed_pair-pair.ensures (c.first_order_perturbation_ij.ensures true) _ (ap mixed_answer c.in_err-v.was)))
 
 pub loop-k-preserved : goal.loop-k-preserved
-loop-k-preserved c = (c.loop-k.invariant.0, search rules, walk_next _ _ _ _ _ c.loop-k.invariant.2 (first_held mixed_one _ _ _ _ _ _ _ _ _ c.perturbed_pair-pair.ensures (c.first_order_perturbation_ij.ensures true) _ _ _ (ap mixed_answer c.in_ok-v.was) (rw c.table_entry-d.ensures at c.lead-f.ensures) (plus_is _ _ _ _ _ c.mul.ensures c.add-a1.ensures)))
+loop-k-preserved c = (c.loop-k.invariant.0, search rules, walk_next _ _ _ _ _ c.loop-k.invariant.2 (first_held mixed_one _ _ _ _ _ _ _ _ _ c.perturbed_pair-pair.ensures (c.first_order_perturbation_ij.ensures true) _ _ _ (ap mixed_answer c.in_ok-v.was) (rw c.table_entry-d.ensures at (c.lead-f.ensures true)) (plus_is _ _ _ _ _ c.mul.ensures c.add-a1.ensures)))
 
 pub returns : goal.returns
 unfolding first_row

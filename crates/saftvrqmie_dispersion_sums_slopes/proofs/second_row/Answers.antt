@@ -21,7 +21,7 @@ pub overflow_step-k : goal.overflow_step-k
 overflow_step-k c = omega (arith, c.loop-k.invariant.0, c.loop-k.invariant.1, c.loop-k-test.true, c.requires.0)
 
 pub loop-k-preserved : goal.loop-k-preserved
-loop-k-preserved c = (c.loop-k.invariant.0, search rules, walk_next _ _ _ _ _ c.loop-k.invariant.2 (second_held mixed_one _ _ _ _ _ _ _ _ _ c.perturbed_pair-pair.ensures _ c.second_order_perturbation_ij.ensures _ _ _ _ _ (ap mixed_answer c.in_ok-v.was) (rw c.table_entry-d.ensures at c.lead-f.ensures) (rw c.sheet_entry-a.ensures at (c.chi-chi.ensures true)) refl c.second_added-a2.ensures))
+loop-k-preserved c = (c.loop-k.invariant.0, search rules, walk_next _ _ _ _ _ c.loop-k.invariant.2 (second_held mixed_one _ _ _ _ _ _ _ _ _ c.perturbed_pair-pair.ensures _ c.second_order_perturbation_ij.ensures _ _ _ _ _ (ap mixed_answer c.in_ok-v.was) (rw c.table_entry-d.ensures at (c.lead-f.ensures true)) (rw c.sheet_entry-a.ensures at (c.chi-chi.ensures true)) refl c.second_added-a2.ensures))
 
 pub returns : goal.returns
 unfolding second_row

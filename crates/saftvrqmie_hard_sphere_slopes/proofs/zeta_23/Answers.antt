@@ -1,4 +1,5 @@
 -- `saftvrqmie_hard_sphere_slopes::zeta_23` meets its contract. Assumes nothing.
+use mathlib.Core.Bool.{false}
 use mathlib.Core.Path.{◌∙◌, ap}
 use Rattle.number.proofs.Walk.{turns_none, turns_next, turns_end}
 use lib.Ieee.{of_bits}
@@ -14,7 +15,7 @@ pub loop-i-init : goal.loop-i-init
 loop-i-init c = (search rules, turns_none _ _)
 
 pub loop-i-preserved : goal.loop-i-preserved
-loop-i-preserved c = (search rules, turns_next _ _ _ _ _ c.loop-i.invariant.1 (rw (c.entry-a.ensures, c.diameter-d.ensures) at c.zeta_23_added-y.ensures.at_mixed))
+loop-i-preserved c = (search rules, turns_next _ _ _ _ _ c.loop-i.invariant.1 (rw (c.entry-a.ensures, c.diameter-d.ensures) at (c.zeta_23_added-y.ensures false)))
 
 pub returns : goal.returns
 unfolding zeta23 decimal of_bits
