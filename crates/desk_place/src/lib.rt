@@ -23,7 +23,7 @@ use number::Refusal;
 use saftvrqmie_energies::QuantumEnergies;
 use saftvrqmie_parameters::FeynmanHibbsOrder;
 use saftvrqmie_potential::{FloatPair, Pair};
-use saftvrqmie_properties::PairProperties;
+use saftvrqmie_properties::FloatProperties;
 use sizes::table::{EPSILON_K_EFF, HS_DIAMETER, QUANTUM_D};
 use sizes::{SIDE, TABLE};
 
@@ -81,7 +81,7 @@ fn pair_here(floats: &[f64], bytes: &[u8], e: usize) -> FloatPair
 }
 
 // A pair's four numbers into the table.
-fn store(table: &mut [f64], e: usize, p: PairProperties)
+fn store(table: &mut [f64], e: usize, p: FloatProperties)
     requires { (length table.old ≡ 4 * sheet) × (e < sheet) }
     ensures { table.new ≡ (store (record { values = table.old; numbers = [] }) e (pair_properties_in p)).values }
 {
