@@ -6,17 +6,15 @@ ghost use Rattle.number.specs.Answer.{answer};
 ghost use Rattle.enclosure.specs.Enclosure.{enclosures, point};
 ghost use Rattle.enclosure_dual.specs.Value.{dual_of};
 ghost use Rattle.saftvrmie_dispersion.specs.Chain.{rho_dual, zeta_dual, fluid_dual, g1_of, g2_of, link_pref, g_hs, gamma_of, ln_g_mie, link_of, add_link, chain_pure};
-ghost use Rattle.saftvrmie_dispersion.specs.Answer.{pair_in, bar_in, sums_in, sums_answer};
-ghost use Rattle.saftvrmie_properties_ends.specs.Answer.{k_in};
+ghost use Rattle.saftvrmie_dispersion.specs.Answer.{pair_in, bar_in, sums_in, k_in, sums_answer};
 ghost use Rattle.saftvrmie_chain_ends.specs.Duals.{fluid_dual_in, orders_dual_in, link_in};
 
 use crate::{FluidDuals, LinkEnclosures, OrdersDuals, orders, sutherland};
 use enclosure::Enclosure;
 use enclosure_dual::EnclosureDual;
 use number::Refusal;
-use saftvrmie_dispersion::{Bar, Sums, Terms};
+use saftvrmie_dispersion::{Bar, KValues, Sums, Terms};
 use saftvrmie_parameters::PairParameters;
-use saftvrmie_properties_ends::KEnclosures;
 
 fn rho_dual(rho: Enclosure) -> EnclosureDual
     ensures { dual_of result ≡ rho_dual enclosures rho }
@@ -89,7 +87,7 @@ fn link_pref(d3: Enclosure, eps_k: Enclosure) -> Enclosure
     d3 * eps_k * two * pi
 }
 
-fn g_hs(k: KEnclosures, x0: Enclosure) -> Result<Enclosure, Refusal>
+fn g_hs(k: KValues<Enclosure>, x0: Enclosure) -> Result<Enclosure, Refusal>
     ensures { answer result ≡ g_hs enclosures (calls enclosures port) (k_in k) x0 }
 {
     let first = k.k0 + k.k1 * x0;
@@ -130,7 +128,7 @@ fn ln_g_mie(
 
 // What a component adds to a_chain.
 fn link_term(
-    k: KEnclosures,
+    k: KValues<Enclosure>,
     zeta_x_bar: Enclosure,
     o: OrdersDuals,
     k_hs: Enclosure,
@@ -172,7 +170,7 @@ fn add_link(s: Sums<Enclosure>, l: Enclosure) -> Sums<Enclosure>
 pub fn chain_pure(
     w: FluidDuals,
     bar: Bar<Enclosure>,
-    k: KEnclosures,
+    k: KValues<Enclosure>,
     p: PairParameters,
     d: Enclosure,
     of: LinkEnclosures,

@@ -64,14 +64,24 @@ pub fn xs_of<D: PlainNum>(n: usize, x: &[f64], m: &[f64; SIDE], mean: D) -> [D; 
     requires { (n ≤ side) × (length x.now ≡ n) }
     ensures { (w : Bool) → map (D.of w) result ≡ xs_of (D.beside w) n (entries (D.beside w) x.now) (entries (D.beside w) m.now) (D.of w mean) }
 {
-    let mut xs = [D::entered(0.0); SIDE];
+    let zero = D::entered(0.0);
+    let mut xs = [zero; SIDE];
     for i in 0usize..n {
-        xs[i] = D::entered(x[i]) * D::Plain::lit(m[i]) / mean;
+        let p = D::entered(x[i]) * D::Plain::lit(m[i]) / mean;
+        xs[i] = p;
     }
     xs
 }
 
 // ---- sums over pairs; indexes are turns of loops over the count
+
+// Entry i of a run's own list.
+pub fn component<D: PlainNum>(xs: &[D; SIDE], i: usize) -> D
+    requires { i < side }
+    ensures { (w : Bool) → D.of w result ≡ read (D.beside w) (D.of w) xs.now i }
+{
+    xs[i]
+}
 
 fn d_ij<D: PlainNum>(d: &[f64], i: usize, j: usize) -> D
     requires { (i < length d.now) × (j < length d.now) }
@@ -138,12 +148,12 @@ fn zeta_row<D: PlainNum>(n: usize, xs: &[D; SIDE], d: &[f64], i: usize, start: D
     requires { (n ≤ side) × (i < n) × (length d.now ≡ n) }
     ensures { (w : Bool) → D.of w result ≡ zeta_row (D.beside w) n (read (D.beside w) (D.of w) xs.now) (d3_ij (D.beside w) (entries (D.beside w) d.now)) i (D.of w start) }
 {
-    let xi = xs[i];
+    let xi = component(xs, i);
     let two = D::Plain::lit(2.0);
     let mut s = start + xi.square() * d3_ij::<D>(d, i, i);
     for k in 0usize..n - (i + 1) {
         let j = i + 1 + k;
-        s = s + xi * xs[j] * d3_ij::<D>(d, i, j) * two;
+        s = s + xi * component(xs, j) * d3_ij::<D>(d, i, j) * two;
     }
     s
 }
@@ -170,12 +180,12 @@ fn zeta_bar_row<D: PlainNum>(
     requires { (n ≤ side) × (i < n) }
     ensures { (w : Bool) → D.of w result ≡ zeta_row (D.beside w) n (read (D.beside w) (D.of w) xs.now) (s3_ij (D.beside w) (pairs (D.beside w) sheets.now)) i (D.of w start) }
 {
-    let xi = xs[i];
+    let xi = component(xs, i);
     let two = D::Plain::lit(2.0);
     let mut s = start + xi.square() * s3_ij::<D>(sheets, i, i);
     for k in 0usize..n - (i + 1) {
         let j = i + 1 + k;
-        s = s + xi * xs[j] * s3_ij::<D>(sheets, i, j) * two;
+        s = s + xi * component(xs, j) * s3_ij::<D>(sheets, i, j) * two;
     }
     s
 }
@@ -265,7 +275,7 @@ fn pair_turn<D: PlainNum>(
 {
     let p = pair_at(sheets, i, j);
     let t = saftvrmie_dispersion::pair_terms(fluid, bar, p, d_ij::<D>(d, i, j))?;
-    Ok(saftvrmie_dispersion::add_pair(xs[i], xs[j], t, s))
+    Ok(saftvrmie_dispersion::add_pair(component(xs, i), component(xs, j), t, s))
 }
 
 // The pairs (i, j) with j > i.
@@ -311,43 +321,11 @@ fn disp_row<D: PlainNum>(
         answer_by (sums_by (D.of w)) result ≡ disp_row A (D.functions w) n xs d (pairs A sheets.now) (fluid_by (D.of w) fluid) (bar_by (D.of w) bar) (pair_in A.lit p) i (sums_by (D.of w) s) }
 {
     let t = saftvrmie_dispersion::pair_terms(fluid, bar, p, D::entered(d[i]))?;
-    let next = saftvrmie_dispersion::add_pure(xs[i], t, s);
+    let next = saftvrmie_dispersion::add_pure(component(xs, i), t, s);
     pair_row(n, sheets, xs, d, fluid, bar, i, next)
 }
 
-fn disp_rows<D: PlainNum>(
-    n: usize,
-    sigma: &[f64; SIDE],
-    epsilon_k: &[f64; SIDE],
-    lr: &[f64; SIDE],
-    la: &[f64; SIDE],
-    sheets: &[f64; SHEETS],
-    xs: &[D; SIDE],
-    d: &[f64],
-    fluid: Fluid<D>,
-    bar: Bar<D>,
-) -> Result<Sums<D>, Refusal>
-    requires { (n ≤ side) × (length d.now ≡ n) }
-    ensures { (w : Bool) → let A = D.beside w in
-        let xs = read A (D.of w) xs.entry.now in
-        let d = entries A d.entry.now in
-        answer_by (sums_by (D.of w)) result ≡ disp_rows A (D.functions w) n xs d (pairs A sheets.now) (fluid_by (D.of w) fluid) (bar_by (D.of w) bar) (λ i. pair_in A.lit (pure_at sigma.now epsilon_k.now lr.now la.now sheets.now i)) }
-{
-    let zero = D::entered(0.0);
-    let mut s = Sums {
-        a1: zero,
-        a2: zero,
-        a3: zero,
-        a_chain: zero,
-    };
-    for i in 0usize..n {
-        let p = pure_at(sigma, epsilon_k, lr, la, sheets, i);
-        s = disp_row(n, sheets, xs, d, fluid, bar, p, i, s)?;
-    }
-    Ok(s)
-}
-
-fn disp_rows<D: PlainNum>(
+pub fn disp_rows<D: PlainNum>(
     n: usize,
     sigma: &[f64; SIDE],
     epsilon_k: &[f64; SIDE],
@@ -388,19 +366,19 @@ fn chain_row(
     w: Fluid<f64>,
     bar: Bar<f64>,
     v: FluidDual,
-    k: KValues,
+    k: KValues<f64>,
     p: PairParameters,
     of: Link,
     i: usize,
     s: Sums<f64>,
 ) -> Result<Sums<f64>, Refusal>
     requires { (n ≤ side) × (i < n) × (length d.now ≡ n) }
-    ensures { let xs = at xs.entry.now in
-        let d = at d.entry.now in
-        let pair : ℕ → ℕ → PairIn Float = λ i j. pair_of (pair_at sheets.now i j) in
+    ensures { let xs = read floats (λ x. x) xs.entry.now in
+        let d = entries floats d.entry.now in
+        let pair = pairs floats sheets.now in
         sums_answer result ≡ chain_row floats (calls floats port) n xs d pair (fluid_in w) (bar_in bar) (fluid_dual_in v) (k_in k) (pair_of p) (link_in of) i (sums_in s) }
 {
-    let t = saftvrmie_dispersion::chain_pure(v, bar, k, p, d[i], of, xs[i], s)?;
+    let t = saftvrmie_dispersion::chain_pure(v, bar, k, p, d[i], of, component(xs, i), s)?;
     pair_row(n, sheets, xs, d, w, bar, i, t)
 }
 
@@ -450,14 +428,14 @@ fn chain_rows(
 // ---- the energies
 
 // The number, where k0 to k3 were worked on the way: `Properties::new` works them, dispersion alone does not use them.
-fn after_ks<D: PlainNum>(k: KValues<D>, x: D) -> D
+pub fn after_ks<D: PlainNum>(k: KValues<D>, x: D) -> D
     ensures { (w : Bool) → let A = D.beside w in
         D.of w result ≡ A.after (D.of w k.k0) (A.after (D.of w k.k1) (A.after (D.of w k.k2) (A.after (D.of w k.k3) (D.of w x)))) }
 {
     x.after(k.k3).after(k.k2).after(k.k1).after(k.k0)
 }
 
-pub fn helmholtz_energy_density_disp<D: PlainNum>(
+fn helmholtz_energy_density_disp(
     n: usize,
     m: &[f64; SIDE],
     sigma: &[f64; SIDE],
@@ -469,21 +447,21 @@ pub fn helmholtz_energy_density_disp<D: PlainNum>(
     x: &[f64],
     rho: &[f64],
     d: &[f64],
-) -> Result<D, Refusal>
+) -> Result<f64, Refusal>
     requires { (n ≤ side) × (length x.now ≡ n) × (length rho.now ≡ n) × (length d.now ≡ n) }
-    ensures { (w : Bool) → let set : SaftVRMiePars =
+    ensures { let set : SaftVRMiePars =
         record { count = n; m = m.now; sigma = sigma.now; epsilon_k = epsilon_k.now; lr = lr.now; la = la.now; sheets = sheets.now } in
-        answer_by (D.of w) result ≡ dispersion (D.beside w) (D.functions w) n (state_in (D.beside w).lit set temperature x.now rho.now d.now) }
+        answer result ≡ dispersion floats (calls floats port) n (state_in (λ v. v) set temperature x.now rho.now d.now) }
 {
-    let mean = weighted::<D>(n, x, m);
+    let mean = weighted::<f64>(n, x, m);
     let xs = xs_of(n, x, m, mean);
     let q = properties_of(n, m, sheets, &xs, rho, d)?;
     let k_hs = saftvrmie_dispersion::k_hs(q.zeta_x);
     let fluid = saftvrmie_dispersion::fluid_of(q.segment_density, q.zeta_x, k_hs);
     let bar = saftvrmie_dispersion::bar_of(q.zeta_x_bar);
     let a = disp_rows(n, sigma, epsilon_k, lr, la, sheets, &xs, d, fluid, bar)?;
-    let orders = saftvrmie_dispersion::orders_sum(a, D::entered(temperature).recip());
-    Ok(after_ks(q.k, total::<D>(n, rho) * mean * orders))
+    let orders = saftvrmie_dispersion::orders_sum(a, 1.0 / temperature);
+    Ok(after_ks(q.k, total::<f64>(n, rho) * mean * orders))
 }
 
 fn helmholtz_energy_density_disp_chain(
