@@ -4,7 +4,7 @@
 
 ghost use Rattle.std.specs.Prelude.{◌≡◌, Bool};
 ghost use Rattle.number.specs.Answer.{answer_by};
-ghost use Rattle.saftvrqmie_dispersion_terms.specs.Terms.{lam_sum, eta_eff, sutherland_of, ilambda_of, jlambda_of, factor_i, factor_j, b_of, combine_sutherland_and_b, terms_by};
+ghost use Rattle.saftvrqmie_dispersion_terms.specs.Terms.{lam_sum, eta_eff, sutherland_from, ilambda_from, jlambda_from, factor_i, factor_j, b_of, combine_sutherland_and_b, terms_by};
 
 use dual_num::DualNum;
 use mie_parameters::LAM_COEFF;
@@ -51,27 +51,25 @@ pub fn eta_eff<D: DualNum>(lambda: D::Plain, zeta: D) -> D
     zeta * (zeta * (zeta * (zeta * c3 + c2) + c1) + c0)
 }
 
-fn sutherland_of<D: DualNum>(lambda: D::Plain, epsilon_k: D::Plain, ef: D, p: D) -> D
-    ensures { (w : Bool) → D.of w result ≡ sutherland_of (D.beside w) (D.plain w lambda) (D.plain w epsilon_k) (D.of w ef) (D.of w p) }
+// l3 is lambda - 3, l4 is lambda - 4, here and below: worked once.
+fn sutherland_of<D: DualNum>(l3: D::Plain, epsilon_k: D::Plain, ef: D, p: D) -> D
+    ensures { (w : Bool) → D.of w result ≡ sutherland_from (D.beside w) (D.plain w l3) (D.plain w epsilon_k) (D.of w ef) (D.of w p) }
 {
     let one = D::Plain::lit(1.0);
     let half = D::Plain::lit(0.5);
-    let three = D::Plain::lit(3.0);
     let d = (-ef + one).cube();
-    (-ef * half + one) * D::Plain::lit(-12.0) * p * epsilon_k / (lambda - three) / d
+    (-ef * half + one) * D::Plain::lit(-12.0) * p * epsilon_k / l3 / d
 }
 
-fn ilambda_of<D: DualNum>(lambda: D::Plain, p3: D) -> D
-    ensures { (w : Bool) → D.of w result ≡ ilambda_of (D.beside w) (D.plain w lambda) (D.of w p3) }
+fn ilambda_of<D: DualNum>(l3: D::Plain, p3: D) -> D
+    ensures { (w : Bool) → D.of w result ≡ ilambda_from (D.beside w) (D.plain w l3) (D.of w p3) }
 {
-    -(p3 - D::Plain::lit(1.0)) / (lambda - D::Plain::lit(3.0))
+    -(p3 - D::Plain::lit(1.0)) / l3
 }
 
-fn jlambda_of<D: DualNum>(lambda: D::Plain, p4: D, p3: D) -> D
-    ensures { (w : Bool) → D.of w result ≡ jlambda_of (D.beside w) (D.plain w lambda) (D.of w p4) (D.of w p3) }
+fn jlambda_of<D: DualNum>(l3: D::Plain, l4: D::Plain, p4: D, p3: D) -> D
+    ensures { (w : Bool) → D.of w result ≡ jlambda_from (D.beside w) (D.plain w l3) (D.plain w l4) (D.of w p4) (D.of w p3) }
 {
-    let l3 = lambda - D::Plain::lit(3.0);
-    let l4 = lambda - D::Plain::lit(4.0);
     -(p4 * l3 - p3 * l4 - D::Plain::lit(1.0)) / (l3 * l4)
 }
 
@@ -115,9 +113,11 @@ pub fn combine_at<D: DualNum>(t: &PairTerms<D>, lambda: D::Plain) -> Result<D, R
     let p = D::powf_at(t.x0, lambda)?;
     let p3 = D::powf_at(t.x0_eff, D::Plain::lit(3.0) - lambda)?;
     let p4 = D::powf_at(t.x0_eff, D::Plain::lit(4.0) - lambda)?;
-    let int_as = sutherland_of(lambda, t.epsilon_k, eta_eff(lambda, t.zeta), p);
-    let i = ilambda_of(lambda, p3);
-    let j = jlambda_of(lambda, p4, p3);
+    let l3 = lambda - D::Plain::lit(3.0);
+    let l4 = lambda - D::Plain::lit(4.0);
+    let int_as = sutherland_of(l3, t.epsilon_k, eta_eff(lambda, t.zeta), p);
+    let i = ilambda_of(l3, p3);
+    let j = jlambda_of(l3, l4, p4, p3);
     let int_b = b_of(t.epsilon_k, t.factor_i, t.factor_j, i, j, p);
     Ok(int_as + int_b)
 }

@@ -4,7 +4,7 @@ use Rattle.number.specs.Ans.{◌>>=◌}
 use Rattle.number.specs.Answer.{answer_by}
 use Rattle.number.specs.Arith.{decimal}
 use Rattle.number.proofs.Walk.{via, handed_on}
-use Rattle.saftvrqmie_dispersion_terms.specs.Terms.{sutherland, ilambda, jlambda, b, combine, terms_by}
+use Rattle.saftvrqmie_dispersion_terms.specs.Terms.{sutherland_of, sutherland, ilambda_of, ilambda, jlambda_of, jlambda, b, combine, terms_by}
 use Rattle.saftvrqmie_dispersion_terms.proofs.combine_at.Goals as goal
 
 pub returns-in_err-p : goal.returns-in_err-p
@@ -31,7 +31,7 @@ returns-in_err-p4 g c w =
     rw (handed_on _ c.from_residual-in_err-p4.ensures, via of (c.powf_at.ensures w) c.in_ok-p.was, l3, l4)
 
 pub returns : goal.returns
-unfolding terms_by combine sutherland b ilambda jlambda ◌>>=◌ decimal of_bits
+unfolding terms_by combine sutherland sutherland_of b ilambda ilambda_of jlambda jlambda_of ◌>>=◌ decimal of_bits
 returns g c w =
     let m = g.met.D.DualNum in
     let of = answer_by (g.D.DualNum.of w) in
@@ -44,6 +44,10 @@ returns g c w =
       c.ilambda_of-i.ensures w,
       c.sutherland_of-int_as.ensures w,
       c.eta_eff.ensures w,
+      m.plain_sub_law w _ _ _ c.sub-l4.ensures,
+      m.plain_lit_law w _ _ c.lit-4.ensures,
+      m.plain_sub_law w _ _ _ c.sub-l3.ensures,
+      m.plain_lit_law w _ _ c.lit-3.ensures,
       via of (c.powf_at.ensures w) c.in_ok-p.was,
       l3,
       l4,

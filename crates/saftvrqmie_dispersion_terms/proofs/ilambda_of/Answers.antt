@@ -1,17 +1,14 @@
 -- `saftvrqmie_dispersion_terms::ilambda_of` meets its contract. Assumes nothing.
 use lib.Ieee.{of_bits, neg}
 use Rattle.number.specs.Arith.{decimal}
-use Rattle.saftvrqmie_dispersion_terms.specs.Terms.{ilambda_of}
 use Rattle.saftvrqmie_dispersion_terms.proofs.ilambda_of.Goals as goal
 
 pub returns : goal.returns
-unfolding ilambda_of decimal of_bits neg
+unfolding decimal of_bits neg
 returns g c w =
     let m = g.met.D.DualNum in
     rw (
       m.div_plain_law w _ _ _ c.div.ensures,
-      m.plain_sub_law w _ _ _ c.sub-2.ensures,
-      m.plain_lit_law w _ _ c.lit-2.ensures,
       m.neg_law w _ _ c.neg.ensures,
       m.sub_plain_law w _ _ _ c.sub.ensures,
       m.plain_lit_law w _ _ c.lit.ensures,

@@ -1,11 +1,10 @@
 -- `saftvrqmie_dispersion_terms::jlambda_of` meets its contract. Assumes nothing.
 use lib.Ieee.{of_bits, neg}
 use Rattle.number.specs.Arith.{decimal}
-use Rattle.saftvrqmie_dispersion_terms.specs.Terms.{jlambda_of}
 use Rattle.saftvrqmie_dispersion_terms.proofs.jlambda_of.Goals as goal
 
 pub returns : goal.returns
-unfolding jlambda_of decimal of_bits neg
+unfolding decimal of_bits neg
 returns g c w =
     let m = g.met.D.DualNum in
     rw (
@@ -13,12 +12,8 @@ returns g c w =
       m.plain_mul_law w _ _ _ c.mul-3.ensures,
       m.neg_law w _ _ c.neg.ensures,
       m.sub_plain_law w _ _ _ c.sub-2.ensures,
-      m.plain_lit_law w _ _ c.lit-3.ensures,
+      m.plain_lit_law w _ _ c.lit.ensures,
       m.sub_law w _ _ _ c.sub.ensures,
       m.mul_plain_law w _ _ _ c.mul-2.ensures,
       m.mul_plain_law w _ _ _ c.mul.ensures,
-      m.plain_sub_law w _ _ _ c.sub-l4.ensures,
-      m.plain_lit_law w _ _ c.lit-2.ensures,
-      m.plain_sub_law w _ _ _ c.sub-l3.ensures,
-      m.plain_lit_law w _ _ c.lit.ensures,
     )
