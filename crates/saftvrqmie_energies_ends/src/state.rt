@@ -37,18 +37,8 @@ pub fn pair_at(
     requires { e < sheet }
     ensures { pair_by (λ x. x) (λ x. x) result ≡ set_pair_at enclosures sheets.now orders t e }
 {
-    let p = saftvrqmie_potential::pair_at(sheets, orders, t, e);
-    let order = p.order;
-    Pair {
-        sigma: Enclosure::point(p.sigma),
-        epsilon_k: Enclosure::point(p.epsilon_k),
-        c: Enclosure::point(p.c),
-        lr: Enclosure::point(p.lr),
-        la: Enclosure::point(p.la),
-        mass: Enclosure::point(p.mass),
-        order,
-        temperature: Enclosure::point(p.temperature),
-    }
+    let p = saftvrqmie_potential::pair_at(sheets, orders, Enclosure::point(t), e);
+    saftvrqmie_potential::points(p)
 }
 
 // Entry i of an array; beyond it is not read.

@@ -1,5 +1,6 @@
 -- `saftvrqmie_energies_ends::state::pair_at` meets its contract. Assumes nothing.
+use mathlib.Core.Bool.{true}
 use Rattle.saftvrqmie_energies_ends.proofs.state.pair_at.Goals as goal
 
 pub returns : goal.returns
-returns c = rw (c.point-7.ensures, c.point-6.ensures, c.point-5.ensures, c.point-4.ensures, c.point-3.ensures, c.point-2.ensures, c.point.ensures, c.pair_at-p.ensures)
+returns c = rw (c.points.ensures true, c.pair_at-p.ensures, c.point.ensures)
