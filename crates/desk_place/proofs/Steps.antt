@@ -21,8 +21,7 @@ use Rattle.saftvrqmie_parameters.specs.declared.OrderRecord.{OrderRecord}
 use Rattle.number.specs.Arith.{floats}
 use Rattle.number.specs.Functions.{calls}
 use Rattle.elementary.specs.Port.{port}
-use Rattle.saftvrqmie_potential.specs.Potential.{pair_in, pair_at_entry}
-use Rattle.saftvrqmie_potential.specs.declared.Pair.{Pair}
+use Rattle.saftvrqmie_potential.specs.Potential.{FloatPair, pair_in, pair_at_entry}
 use Rattle.saftvrqmie_properties.specs.Properties.{PairPropertiesIn, pair_properties_in, pair_properties_answer, pair_properties}
 use Rattle.saftvrqmie_properties.specs.declared.PairProperties.{PairProperties}
 use Rattle.saftvrqmie.proofs.Laws.{work_held, work_outside}
@@ -153,12 +152,12 @@ part_to a n l = let e : a + n - a ≡ n = omega arith in rw e
 
 -- ---- the pair in hand, worked
 module _ (p : Lists) where
-  pub worked_6 : (i j : ℕ) (x : Pair) (r : Result PairProperties Refusal) → i ≡ row_in p.bytes → j ≡ column_in p.bytes
+  pub worked_6 : (i j : ℕ) (x : FloatPair) (r : Result (PairProperties Float) Refusal) → i ≡ row_in p.bytes → j ≡ column_in p.bytes
       → x ≡ pair_at_entry (set_of p).sheets (set_of p).orders (temperature_of p) (12 * i + j) → pair_properties_answer r ≡ pair_properties floats (calls floats port) (pair_in x)
       → {n : Refusal} → r ≡ Err n → turn p ≡ refused (code n)
   worked_6 i j x r e f d q h = rw (← e, ← f) (work_outside (set_of p).sheets (set_of p).orders (temperature_of p) i j (record { values = table_of p; numbers = [] }) x r d q _ h)
 
-  pub worked_held : (i j : ℕ) (x : Pair) (r : Result PairProperties Refusal) (w : PairProperties) → i ≡ row_in p.bytes → j ≡ column_in p.bytes
+  pub worked_held : (i j : ℕ) (x : FloatPair) (r : Result (PairProperties Float) Refusal) (w : PairProperties Float) → i ≡ row_in p.bytes → j ≡ column_in p.bytes
       → x ≡ pair_at_entry (set_of p).sheets (set_of p).orders (temperature_of p) (12 * i + j) → pair_properties_answer r ≡ pair_properties floats (calls floats port) (pair_in x)
       → r ≡ Ok w → turn p ≡ held (store (record { values = table_of p; numbers = [] }) (12 * i + j) (pair_properties_in w))
   worked_held i j x r w e f d q h = rw (← e, ← f) (work_held (set_of p).sheets (set_of p).orders (temperature_of p) i j (record { values = table_of p; numbers = [] }) x r d q _ w h refl)

@@ -21,8 +21,9 @@ use crate::layout::{
 };
 use number::Refusal;
 use saftvrqmie_energies::QuantumEnergies;
-use saftvrqmie_potential::Pair;
-use saftvrqmie_properties::PairProperties;
+use saftvrqmie_parameters::FeynmanHibbsOrder;
+use saftvrqmie_potential::{FloatPair, Pair};
+use saftvrqmie_properties::FloatProperties;
 use sizes::table::{EPSILON_K_EFF, HS_DIAMETER, QUANTUM_D};
 use sizes::{SIDE, TABLE};
 
@@ -61,12 +62,12 @@ pub fn lay_bytes(part: &mut [u8], x: &[u8])
 }
 
 // The pair in hand, at entry e of the sheets where they lie.
-fn pair_here(floats: &[f64], bytes: &[u8], e: usize) -> Pair
+fn pair_here(floats: &[f64], bytes: &[u8], e: usize) -> FloatPair
     requires { (length floats.now ≡ place_floats) × (length bytes.now ≡ place_bytes) × (e < sheet) }
     ensures { let p : Lists = record { floats = floats.entry.now; bytes = bytes.now } in
         result ≡ pair_at_entry (set_of p).sheets (set_of p).orders (temperature_of p) e }
 {
-    let order = saftvrqmie_parameters::order_of(bytes[ORDERS_AT + e]);
+    let order = FeynmanHibbsOrder::from(bytes[ORDERS_AT + e]);
     Pair {
         sigma: floats[SHEETS_AT + e],
         epsilon_k: floats[EPSILON_K_AT + e],
@@ -80,7 +81,7 @@ fn pair_here(floats: &[f64], bytes: &[u8], e: usize) -> Pair
 }
 
 // A pair's four numbers into the table.
-fn store(table: &mut [f64], e: usize, p: PairProperties)
+fn store(table: &mut [f64], e: usize, p: FloatProperties)
     requires { (length table.old ≡ 4 * sheet) × (e < sheet) }
     ensures { table.new ≡ (store (record { values = table.old; numbers = [] }) e (pair_properties_in p)).values }
 {

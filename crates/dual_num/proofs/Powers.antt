@@ -1,17 +1,15 @@
 -- The power of a base by its logarithm is the run's power, as a function of the exponent. Assumes nothing.
 use lib.Ieee.{Float}
-use mathlib.Core.Path.{◌≡◌, refl, sym, ◌∙◌, fun_ext}
-use Prim.Native.Nat.{ℕ}
+use mathlib.Core.Path.{◌≡◌, refl, sym, fun_ext}
 use mathlib.Core.Bool.{Bool, true, false, ◌&&◌, cond}
 use Rattle.number.specs.Ans.{Ans, held, refused, ◌>>=◌, demand}
 use Rattle.number.specs.Arith.{floats}
 use Rattle.std.specs.Prelude.{Result, Ok, Err}
 use Rattle.number.specs.Answer.{answer_by}
 use Rattle.number.specs.declared.refusal.Refusal.{Refusal}
-use Rattle.number.specs.Functions.{calls, answered, answered₂}
+use Rattle.number.specs.Functions.{calls, answered}
 use Rattle.number.specs.Domain.{base_inside}
 use Rattle.elementary.specs.Port.{port}
-use Rattle.binary_log.specs.BinaryLog.{log_of}
 use Rattle.power.specs.Power.{powf_of}
 use Rattle.enclosure.specs.declared.Enclosure.{Enclosure}
 use Rattle.enclosure.specs.Enclosure.{enclosures}
@@ -29,11 +27,8 @@ use Rattle.number.specs.Domain.{exponent_inside}
 use Rattle.dual_num.specs.declared.FloatBase.{FloatBase}
 use Rattle.dual_num.specs.declared.EnclosureBase.{EnclosureBase}
 use Rattle.dual_num.specs.declared.DualBase.{DualBase}
-use Rattle.dual_num.specs.declared.FloatExponent.{FloatExponent}
-use Rattle.dual_num.specs.declared.EnclosureExponent.{EnclosureExponent}
-use Rattle.dual_num.specs.declared.DualExponent.{DualExponent}
 use Rattle.dual_num.specs.Laws.{asked}
-use Rattle.dual_num.specs.Base.{float_base_of, float_power, enclosure_power, dual_power, float_exponent_of, float_raised, float_power_by, enclosure_raised, enclosure_power_by, dual_raised, dual_power_by}
+use Rattle.dual_num.specs.Base.{float_base_of, float_power, enclosure_power, dual_power, float_exponent_of, float_power_by, enclosure_power_by, dual_raised, dual_power_by}
 
 pub float_is : (x : Float) → float_power (float_base_of x) ≡ (calls floats port).powf x
 unfolding float_power powf_of
@@ -87,6 +82,12 @@ enclosure_by b y = rw (float_by b.base y.value)
 pub dual_by : (b : DualBase) (y : Float) → dual_power_by b (record { fixed = slope_exponent_of y; inside = slope_inside y }) ≡ dual_power b (plain y)
 unfolding dual_power_by dual_power
 dual_by b y = sym (two_tests b.base.inside (slope_inside y) (dual_raised b (record { fixed = slope_exponent_of y; inside = slope_inside y })))
+
+-- a function of plain numbers
+pub plain_by : (r : Result Float Refusal) (a : Ans Float) → answer_by (λ v. v) r ≡ a → answer_by plain r ≡ (a >>= λ v. held (plain v))
+unfolding ◌>>=◌
+plain_by (Ok v) a p = rw (← p)
+plain_by (Err e) a p = rw (← p)
 
 -- a power of plain numbers
 pub plain_is : (r : Result Float Refusal) (x y : Float) → answer_by (λ v. v) r ≡ (calls floats port).powf x y → answer_by plain r ≡ (mixed_functions port).powf (plain x) (plain y)

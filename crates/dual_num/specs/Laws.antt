@@ -1,17 +1,20 @@
--- A power is refused with 6 alone, where its base or its exponent is outside: what the runs give to the trait's laws of powers. Assumes nothing.
+-- A power is refused with 6 alone, where its base or its exponent is outside, and EPSILON has a logarithm: what the runs give to the trait's laws. Assumes nothing.
+use lib.Ieee as Ieee
 use lib.Ieee.{Float}
+use native.Mathlib.Omega.{arith}
 use Prim.Native.Nat.{ℕ}
 use mathlib.Core.Path.{◌≡◌, refl, sym, ◌∙◌}
 use mathlib.Core.Bool.{Bool, true, false, ◌&&◌, cond}
 use Rattle.number.specs.Ans.{Ans, held, refused, ◌>>=◌, demand}
-use Rattle.number.specs.Arith.{floats}
-use Rattle.number.specs.Functions.{calls, answered₂}
+use Rattle.number.specs.Arith.{floats, epsilon64}
+use Rattle.number.specs.Functions.{calls, answered, answered₂}
 use Rattle.number.specs.Domain.{base_inside, exponent_inside}
 use Rattle.elementary.specs.Port.{port}
+use Rattle.elementary.proofs.Promised.{promised}
 use Rattle.binary_log.specs.BinaryLog.{log_of}
 use Rattle.power.specs.Power.{exponent_of, power_of, powf_of}
 use Rattle.enclosure.specs.declared.Enclosure.{Enclosure}
-use Rattle.enclosure.specs.Enclosure.{enclosures}
+use Rattle.enclosure.specs.Enclosure.{point, enclosures}
 use Rattle.dual.specs.Dual.{DualOf}
 use Rattle.slopes.specs.Mixed.{Mixed, plain, sloped}
 use Rattle.slopes.specs.Rules.{real_power, mixed_functions}
@@ -80,3 +83,27 @@ mixed_six (plain x) (plain y) n h = then_six (powf_of x y) plain n (port_six x y
 mixed_six (sloped x) (plain y) n h = then_six (real_power port x y) sloped n (λ m e. real_six x y (base_inside x.re) (slope_inside y) m refl refl e) h
 mixed_six (plain x) (sloped y) n h = cc
 mixed_six (sloped x) (sloped y) n h = cc
+
+-- ---- EPSILON has a logarithm
+refused_or_held : {S : Type 0} (n : ℕ) (r : S) → refused n ≡ held r → ⊥
+refused_or_held n r p = let z : ◌≡◌ {A = ℕ} 0 1 = cc in omega arith
+
+port_epsilon : (n : ℕ) → port.ln epsilon64 ≡ refused n → ⊥
+unfolding Ieee.of_bits Ieee.le Ieee.lt Ieee.eq Ieee.is_nan Ieee.fits
+port_epsilon n e = refused_or_held n ((promised.ln epsilon64 tt).0.inside tt).0 (sym e ∙ ((promised.ln epsilon64 tt).0.inside tt).1)
+
+then_refused : {S T : Type 0} (a : Ans S) (f : S → T) (n : ℕ) → ((m : ℕ) → a ≡ refused m → ⊥) → (a >>= λ v. held (f v)) ≡ refused n → ⊥
+unfolding ◌>>=◌
+then_refused (held v) f n h e = refused_or_held n (f v) (sym e)
+then_refused (refused m) f n h e = h m refl
+
+pub float_epsilon : (n : ℕ) → (calls floats port).ln epsilon64 ≡ refused n → ⊥
+unfolding answered
+float_epsilon n h = then_refused (port.ln epsilon64) (λ v. v) n port_epsilon h
+
+pub enclosure_epsilon : (n : ℕ) → (calls enclosures port).ln (enclosures.lit epsilon64) ≡ refused n → ⊥
+unfolding answered point
+enclosure_epsilon n h = then_refused (port.ln epsilon64) (λ v. enclosures.after (enclosures.lit epsilon64) (enclosures.lit v)) n port_epsilon h
+
+pub mixed_epsilon : (n : ℕ) → (mixed_functions port).ln (plain epsilon64) ≡ refused n → ⊥
+mixed_epsilon n h = then_refused (port.ln epsilon64) plain n port_epsilon h

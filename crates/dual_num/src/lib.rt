@@ -1,21 +1,22 @@
 // The numbers that the quantum formulas are written over (the Rust's DualNum beside f64): floats, enclosures, and floats with a slope beside plain ones.
 #![tactic(auto)]
 
-ghost use Rattle.std.specs.Prelude.{◌≡◌, ◌&&◌, Bool, true, false, cond, refl, ℕ, Float};
+ghost use Rattle.std.specs.Prelude.{List, length, ◌<◌, ◌≡◌, ◌&&◌, Bool, true, false, cond, refl, ℕ, Float};
 ghost use Rattle.std.proofs.Common.{rules};
 ghost use Rattle.number.specs.Ans.{Ans, held, refused};
 ghost use Rattle.number.specs.Answer.{answer_by};
-ghost use Rattle.number.specs.Arith.{Arith, floats, whole};
+ghost use Rattle.number.specs.Lists.{at};
+ghost use Rattle.number.specs.Arith.{Arith, floats, whole, epsilon64};
 ghost use Rattle.number.specs.Functions.{Functions, calls};
 ghost use Rattle.elementary.specs.Port.{port};
-ghost use Rattle.enclosure.specs.Enclosure.{enclosures};
+ghost use Rattle.enclosure.specs.Enclosure.{enclosures, point};
 ghost use Rattle.dual.specs.Value.{dual_of};
 ghost use Rattle.slopes.specs.Mixed.{plain, sloped, as_dual};
 ghost use Rattle.slopes.specs.Rules.{mixed_functions};
 ghost use Rattle.dual_num.specs.Way.{mixed_way};
 ghost use Rattle.dual_num.specs.declared.DualBase.{DualBase};
 ghost use Rattle.dual_num.specs.Base.{float_base_of, float_power, enclosure_power, dual_power, float_exponent_of, float_raised, float_power_by, enclosure_raised, enclosure_power_by, dual_raised, dual_power_by};
-ghost use Rattle.dual_num.specs.Laws.{float_power_is, enclosure_power_is, dual_power_is, float_six, enclosure_six, mixed_six};
+ghost use Rattle.dual_num.specs.Laws.{float_power_is, enclosure_power_is, dual_power_is, float_six, enclosure_six, mixed_six, float_epsilon, enclosure_epsilon, mixed_epsilon};
 
 use binary_log::Log;
 use dual::Dual;
@@ -64,6 +65,13 @@ pub struct DualExponent {
     pub inside: bool,
 }
 
+// A list of numbers: floats, points, or floats with their slopes in the second.
+#[derive(Clone, Copy)]
+pub struct NumberList<'a> {
+    pub values: &'a [f64],
+    pub slopes: &'a [f64],
+}
+
 pub trait DualNum: Copy
     + Drop
     + Add<Self, Output = Self>
@@ -104,6 +112,11 @@ pub trait DualNum: Copy
     ghost exponent_in: { Self.Exponent → Bool };
 
     ghost raised: { (w : Bool) → Self.Base → Self.Exponent → (beside w).Num };
+
+    // Whether a list has an entry, and the entry.
+    ghost has: { List Float → List Float → ℕ → Type 0 };
+
+    ghost entry_of: { (w : Bool) → List Float → List Float → ℕ → (beside w).Num };
 
     // A number taken as a D: a plain one has slope +0.
     ghost taken: { (w : Bool) → (beside w).Num → (beside w).Num };
@@ -162,6 +175,10 @@ pub trait DualNum: Copy
     fn recip(self) -> Self
         ensures { (w : Bool) → of w result ≡ (beside w).div (whole (beside w) 1) (of w self) };
 
+    fn entry(l: &NumberList, i: usize) -> Self
+        requires { has l.now.values.now l.now.slopes.now i }
+        ensures { (w : Bool) → of w result ≡ entry_of w l.now.values.now l.now.slopes.now i };
+
     // The constants, as plain numbers.
     fn pi() -> Self::Plain
         ensures { (w : Bool) → plain w result ≡ (functions w).pi };
@@ -171,6 +188,14 @@ pub trait DualNum: Copy
 
     fn tau() -> Self::Plain
         ensures { (w : Bool) → plain w result ≡ (functions w).tau };
+
+    // The float run's value, which branches look at.
+    fn re(self) -> f64
+        ensures { (w : Bool) → result ≡ (beside w).val (of w self) };
+
+    // The logarithm of a plain number, which stays plain.
+    fn plain_ln(a: Self::Plain) -> Result<Self::Plain, Refusal>
+        ensures { (w : Bool) → answer_by (plain w) result ≡ (functions w).ln (plain w a) };
 
     ghost can_add_law: { (x y : Self) → ⟦<Self as Add<Self>>⟧.can_add x y };
 
@@ -239,6 +264,9 @@ pub trait DualNum: Copy
     ghost power_law: { (w : Bool) (b : Self.Base) (n : Self.Exponent) → power_by w b n ≡ cond (base_in b && exponent_in n) (held (raised w b n)) (refused 6) };
 
     ghost powf_law: { (w : Bool) (x y : (beside w).Num) (n : ℕ) → (functions w).powf x y ≡ refused n → n ≡ 6 };
+
+    // EPSILON has a logarithm.
+    ghost epsilon_law: { (w : Bool) (n : ℕ) → (functions w).ln ((beside w).lit epsilon64) ≡ refused n → ⊥ };
 }
 
 fn float_base(x: f64) -> FloatBase
@@ -299,6 +327,10 @@ impl DualNum for f64 {
     ghost exponent_in = { λ n. n.inside };
 
     ghost raised = { λ w b n. float_raised b n };
+
+    ghost has = { λ l s i. i < length l };
+
+    ghost entry_of = { λ w l s i. at l i };
 
     ghost taken = { λ w m. m };
 
@@ -366,6 +398,10 @@ impl DualNum for f64 {
         1.0 / self
     }
 
+    fn entry(l: &NumberList, i: usize) -> f64 {
+        l.values[i]
+    }
+
     fn pi() -> f64 {
         3.141592653589793
     }
@@ -376,6 +412,14 @@ impl DualNum for f64 {
 
     fn tau() -> f64 {
         6.283185307179586
+    }
+
+    fn re(self) -> f64 {
+        self
+    }
+
+    fn plain_ln(a: f64) -> Result<f64, Refusal> {
+        elementary::ln(a)
     }
 
     ghost can_add_law = { Prim.search rules };
@@ -441,6 +485,8 @@ impl DualNum for f64 {
     ghost power_law = { λ w b n. float_power_is b n };
 
     ghost powf_law = { λ w x y n. float_six x y n };
+
+    ghost epsilon_law = { λ w n. float_epsilon n };
 }
 
 fn enclosure_base(x: Enclosure) -> EnclosureBase
@@ -498,6 +544,10 @@ impl DualNum for Enclosure {
     ghost exponent_in = { λ n. n.at.inside };
 
     ghost raised = { λ w b n. enclosure_raised b n };
+
+    ghost has = { λ l s i. i < length l };
+
+    ghost entry_of = { λ w l s i. point (at l i) };
 
     ghost taken = { λ w m. m };
 
@@ -565,6 +615,10 @@ impl DualNum for Enclosure {
         Enclosure::point(1.0) / self
     }
 
+    fn entry(l: &NumberList, i: usize) -> Enclosure {
+        Enclosure::point(l.values[i])
+    }
+
     fn pi() -> Enclosure {
         Enclosure::pi()
     }
@@ -575,6 +629,14 @@ impl DualNum for Enclosure {
 
     fn tau() -> Enclosure {
         Enclosure::tau()
+    }
+
+    fn re(self) -> f64 {
+        self.value
+    }
+
+    fn plain_ln(a: Enclosure) -> Result<Enclosure, Refusal> {
+        enclosure::answered(elementary::ln(a.value), a)
     }
 
     ghost can_add_law = { Prim.search rules };
@@ -640,6 +702,8 @@ impl DualNum for Enclosure {
     ghost power_law = { λ w b n. enclosure_power_is b n };
 
     ghost powf_law = { λ w x y n. enclosure_six x y n };
+
+    ghost epsilon_law = { λ w n. enclosure_epsilon n };
 }
 
 fn dual_base(x: Dual) -> DualBase
@@ -699,6 +763,10 @@ impl DualNum for Dual {
     ghost exponent_in = { λ n. n.inside };
 
     ghost raised = { λ w b n. dual_raised b n };
+
+    ghost has = { λ l s i. (i < length l) × (i < length s) };
+
+    ghost entry_of = { λ w l s i. sloped (record { re = at l i; eps = at s i }) };
 
     ghost taken = { λ w m. sloped (as_dual m) };
 
@@ -772,6 +840,13 @@ impl DualNum for Dual {
         slopes::recip(self)
     }
 
+    fn entry(l: &NumberList, i: usize) -> Dual {
+        Dual {
+            re: l.values[i],
+            eps: l.slopes[i],
+        }
+    }
+
     fn pi() -> f64 {
         3.141592653589793
     }
@@ -782,6 +857,14 @@ impl DualNum for Dual {
 
     fn tau() -> f64 {
         6.283185307179586
+    }
+
+    fn re(self) -> f64 {
+        self.re
+    }
+
+    fn plain_ln(a: f64) -> Result<f64, Refusal> {
+        elementary::ln(a)
     }
 
     ghost can_add_law = { Prim.search rules };
@@ -847,4 +930,6 @@ impl DualNum for Dual {
     ghost power_law = { λ w b n. dual_power_is b n };
 
     ghost powf_law = { λ w x y n. mixed_six x y n };
+
+    ghost epsilon_law = { λ w n. mixed_epsilon n };
 }

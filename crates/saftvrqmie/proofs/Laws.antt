@@ -57,11 +57,11 @@ part_next v d l a k p q h =
     (sym (append_assoc (take a v) (take k (drop a v)) (drop (a + k) d)))
 
 -- a turn of the work, over plain values
-module _ (s : List Float) (o : List OrderRecord) (t : Float) (i j : ℕ) (x : Lent) (p : FloatPair) (r : Result PairProperties Refusal) (d : p ≡ pair_at_entry s o t (cell i j)) (q : pair_properties_answer r ≡ pair_properties floats (calls floats port) (pair_in p)) where
+module _ (s : List Float) (o : List OrderRecord) (t : Float) (i j : ℕ) (x : Lent) (p : FloatPair) (r : Result (PairProperties Float) Refusal) (d : p ≡ pair_at_entry s o t (cell i j)) (q : pair_properties_answer r ≡ pair_properties floats (calls floats port) (pair_in p)) where
   told_here : pair_properties_answer r ≡ pair_properties floats (calls floats port) (pair_in (pair_at_entry s o t (cell i j)))
   told_here = q ∙ ap (λ (p : FloatPair). pair_properties floats (calls floats port) (pair_in p)) d
 
-  pub work_held : (y : Lent) (w : PairProperties) → r ≡ Ok w → y ≡ store x (cell i j) (pair_properties_in w) → work_turn s o t i j x ≡ held y
+  pub work_held : (y : Lent) (w : PairProperties Float) → r ≡ Ok w → y ≡ store x (cell i j) (pair_properties_in w) → work_turn s o t i j x ≡ held y
   unfolding work_turn ◌>>=◌
   work_held y w h g = rw (via pair_properties_answer told_here h, g)
 

@@ -16,8 +16,8 @@ ghost use Rattle.saftvrqmie.specs.Pairs.{searches_answer, pair_searches, radii_i
 use number::Refusal;
 use saftvrqmie_parameters::{OrderRecord, SaftVRQMiePars};
 use saftvrqmie_potential::FloatPair;
-use saftvrqmie_properties::PairProperties;
-use saftvrqmie_searches::Search;
+use saftvrqmie_properties::FloatProperties;
+use saftvrqmie_searches::FloatSearch;
 use sizes::counts::{DEPTH, SIGMA, ZERO};
 use sizes::table::{EPSILON_K_EFF, HS_DIAMETER, QUANTUM_D, SIGMA_EFF};
 use sizes::{COUNTS, SHEET, SHEETS, SIDE, TABLE};
@@ -25,15 +25,15 @@ use sizes::{COUNTS, SHEET, SHEETS, SIDE, TABLE};
 // What the three searches of a pair give, each with its count.
 #[derive(Clone, Copy)]
 pub struct PairSearches {
-    pub sigma: Search,
-    pub zero: Search,
-    pub depth: Search,
+    pub sigma: FloatSearch,
+    pub zero: FloatSearch,
+    pub depth: FloatSearch,
     pub sigma_count: u8,
     pub zero_count: u8,
     pub depth_count: u8,
 }
 
-fn store(values: &mut [f64; TABLE], numbers: &mut [u8; COUNTS], e: usize, p: PairProperties)
+fn store(values: &mut [f64; TABLE], numbers: &mut [u8; COUNTS], e: usize, p: FloatProperties)
     requires { e < sheet }
     ensures { let old : Lent = record { values = values.entry.now; numbers = numbers.old } in
         let new : Lent = record { values = values.exit.now; numbers = numbers.new } in
@@ -89,7 +89,7 @@ fn work_pairs(
     Ok(())
 }
 
-fn all_finite(values: &[f64; TABLE]) -> bool
+pub fn all_finite(values: &[f64; TABLE]) -> bool
     ensures { result ≡ table_finite values.now }
 {
     let mut ok = true;

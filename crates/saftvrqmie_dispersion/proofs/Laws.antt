@@ -1,72 +1,19 @@
--- The perturbations from what is worked once for a pair, and the turns of the second order, over plain values. Assumes nothing.
-use Prim.Native.Nat.{ℕ, ◌+◌, ◌*◌, ◌<◌}
-use native.Mathlib.Omega.{arith}
+-- The turns of the second order, over any arithmetic. Assumes nothing.
+use Prim.Native.Nat.{ℕ}
 use lib.Dec.{eqb}
-use lib.Ieee.{Float}
 use borrow.Author.Tests.{eqb-true}
-use mathlib.Core.Path.{◌≡◌, refl, ap, ◌∙◌}
-use mathlib.Core.Bool.{Bool, true, false}
-use Rattle.number.specs.Ans.{Ans, held, refused, ◌>>=◌}
-use Rattle.number.specs.Arith.{Arith, floats}
-use Rattle.number.specs.Functions.{calls}
-use Rattle.number.proofs.Walk.{walk_none, walk_stop}
-use Rattle.elementary.specs.Port.{port}
+use mathlib.Core.Path.{◌≡◌, refl, ap, sym}
+use mathlib.Core.Bool.{Bool, true, false, not}
+use Rattle.number.specs.Arith.{Arith}
 use Rattle.saftvrqmie_parameters.specs.declared.FeynmanHibbsOrder.{FeynmanHibbsOrder}
-use Rattle.saftvrqmie_parameters.specs.declared.FeynmanHibbsOrder.TheVariants.{FH0, FH1, FH2}
-use Rattle.saftvrqmie_potential.specs.Potential.{second_order, order_number}
-use Rattle.saftvrqmie_dispersion_terms.specs.Staged.{pair_terms_of, combine_at}
-use Rattle.saftvrqmie_dispersion_terms.specs.declared.PairTerms.{PairTerms}
-use Rattle.saftvrqmie_dispersion_terms.proofs.Staged.{combine_held, combine_refused}
-use Rattle.saftvrqmie_dispersion.specs.declared.DispersionPair.{DispersionPair}
-use Rattle.saftvrqmie_dispersion.specs.Perturbation.{QuantumIn, dispersion_in, quantum_of, factors0, factors1, factors2, factors2_more, factors3, factors4, factors, first_mie, first_order_by, second_turn, second_order_by, combine_of, first_order_ij, second_order_ij}
+use Rattle.saftvrqmie_potential.specs.Potential.{second_order}
+use Rattle.saftvrqmie_dispersion.specs.declared.perturbation.Factors.{Factors}
+use Rattle.saftvrqmie_dispersion.specs.Perturbation.{QuantumIn, factors_by, taken_each, factors0, factors1, factors2, factors2_more, factors3, factors4, factors}
 
--- ---- what a pair's bases give or refuse, both perturbations do
-module _ (p : DispersionPair) where
-  abbrev Terms : Ans PairTerms
-  Terms = pair_terms_of p.epsilon_k p.zeta p.x0 p.x0_eff
+-- what is a D already is kept where it is taken as one
+pub each_kept : {D N : Type 0} (of : D → N) (taken : N → N) → ((x : D) → taken (of x) ≡ of x) → (h : Factors D) → factors_by of h ≡ taken_each taken (factors_by of h)
+each_kept of taken kept h = rw (kept h.afac, kept h.rfac, kept h.arfac)
 
-  combine_is : (w : PairTerms) → Terms ≡ held w → combine_of floats (calls floats port) (dispersion_in p) ≡ combine_at w
-  unfolding combine_of
-  combine_is w h = combine_held _ _ _ _ w h
-
-  combine_not : (n : ℕ) → Terms ≡ refused n → combine_of floats (calls floats port) (dispersion_in p) ≡ (λ l. refused n)
-  unfolding combine_of
-  combine_not n h = combine_refused _ _ _ _ n h
-
-  pub first_held : (w : PairTerms) → Terms ≡ held w → first_order_ij floats (calls floats port) (dispersion_in p) ≡ first_order_by floats (dispersion_in p) (combine_at w)
-  unfolding first_order_ij
-  first_held w h = ap (first_order_by floats (dispersion_in p)) (combine_is w h)
-
-  pub second_held : (w : PairTerms) → Terms ≡ held w → second_order_ij floats (calls floats port) (dispersion_in p) ≡ second_order_by floats (dispersion_in p) (combine_at w)
-  unfolding second_order_ij
-  second_held w h = ap (second_order_by floats (dispersion_in p)) (combine_is w h)
-
-  first_none : (n : ℕ) → first_order_by floats (dispersion_in p) (λ l. refused n) ≡ refused n
-  unfolding first_order_by first_mie ◌>>=◌
-  first_none n = refl
-
-  some_turn : (o : FeynmanHibbsOrder) → 0 < order_number o * 2 + 1
-  some_turn FH0 = omega arith
-  some_turn FH1 = omega arith
-  some_turn FH2 = omega arith
-
-  turn_none : (n q : ℕ) (a2 : Float) → second_turn floats (dispersion_in p) (λ l. refused n) (quantum_of floats (dispersion_in p)) q a2 ≡ refused n
-  unfolding second_turn ◌>>=◌
-  turn_none n q a2 = refl
-
-  second_none : (n : ℕ) → second_order_by floats (dispersion_in p) (λ l. refused n) ≡ refused n
-  unfolding second_order_by ◌>>=◌
-  second_none n = rw (← walk_stop _ _ _ 0 n _ (some_turn p.order) (walk_none _ _) (turn_none n 0 _))
-
-  pub first_refused : (n : ℕ) → Terms ≡ refused n → first_order_ij floats (calls floats port) (dispersion_in p) ≡ refused n
-  unfolding first_order_ij
-  first_refused n h = ap (first_order_by floats (dispersion_in p)) (combine_not n h) ∙ first_none n
-
-  pub second_refused : (n : ℕ) → Terms ≡ refused n → second_order_ij floats (calls floats port) (dispersion_in p) ≡ refused n
-  unfolding second_order_ij
-  second_refused n h = ap (second_order_by floats (dispersion_in p)) (combine_not n h) ∙ second_none n
-
--- ---- the factors of each turn
 not_equal : (a b : ℕ) → (a ≡ b → ⊥) → eqb a b ≡ false
 not_equal a b h = go (eqb a b) refl
   where
@@ -74,6 +21,14 @@ not_equal a b h = go (eqb a b) refl
     go true e = absurd (h (eqb-true a b e))
     go false e = e
 
+-- a number that stands for a Bool
+pub stands_true : (n : ℕ) → (n ≡ 0 → ⊥) → true ≡ not (eqb n 0)
+stands_true n h = sym (ap not (not_equal n 0 h))
+
+pub stands_false : (n : ℕ) → n ≡ 0 → false ≡ not (eqb n 0)
+stands_false n h = sym (ap (λ k. not (eqb k 0)) h)
+
+-- ---- the factors of each turn
 module _ (A : Arith) (g : QuantumIn A.Num) (o : FeynmanHibbsOrder) (q : ℕ) where
   pub turn_0 : q ≡ 0 → factors0 A ≡ factors A g o q
   unfolding factors

@@ -1,2 +1,3 @@
 pub mod Alpha
 pub mod Perturbation
+pub mod Sums

@@ -9,9 +9,9 @@ use Rattle.number.specs.Walk.{walk}
 use Rattle.saftvrqmie_parameters.specs.declared.FeynmanHibbsOrder.{FeynmanHibbsOrder}
 use Rattle.saftvrqmie_potential.specs.Potential.{PairIn, order_number, first_order, second_order, recip, q1, q2}
 use Rattle.saftvrqmie_dispersion_terms.specs.Terms.{combine_sutherland_and_b}
-use Rattle.saftvrqmie_dispersion.specs.declared.DispersionPair.{DispersionPair}
-use Rattle.saftvrqmie_dispersion.specs.declared.Quantum.{Quantum}
-use Rattle.saftvrqmie_dispersion.specs.declared.Factors.{Factors}
+use Rattle.saftvrqmie_dispersion.specs.declared.perturbation.DispersionPair.{DispersionPair}
+use Rattle.saftvrqmie_dispersion.specs.declared.perturbation.Quantum.{Quantum}
+use Rattle.saftvrqmie_dispersion.specs.declared.perturbation.Factors.{Factors}
 
 -- what both perturbations of a pair take, in the numbers N
 pub record DispersionIn (N : Type 0) : Type 0 where
@@ -25,19 +25,23 @@ pub record DispersionIn (N : Type 0) : Type 0 where
   pub dq_div_sigma_2 : N
   pub order : FeynmanHibbsOrder
 
-abbrev pub dispersion_in : DispersionPair → DispersionIn Float
-dispersion_in p =
+-- a pair's plain numbers read by `plain`, what hangs on state and table by `of`
+abbrev pub dispersion_by : {D P N : Type 0} → (P → N) → (D → N) → DispersionPair D P → DispersionIn N
+dispersion_by plain of p =
     record {
-      la = p.la;
-      lr = p.lr;
-      epsilon_k = p.epsilon_k;
-      c = p.c;
-      zeta = p.zeta;
-      x0 = p.x0;
-      x0_eff = p.x0_eff;
-      dq_div_sigma_2 = p.dq_div_sigma_2;
+      la = plain p.la;
+      lr = plain p.lr;
+      epsilon_k = plain p.epsilon_k;
+      c = plain p.c;
+      zeta = of p.zeta;
+      x0 = of p.x0;
+      x0_eff = of p.x0_eff;
+      dq_div_sigma_2 = of p.dq_div_sigma_2;
       order = p.order;
     }
+
+abbrev pub dispersion_in : DispersionPair Float Float → DispersionIn Float
+dispersion_in p = dispersion_by (λ x. x) (λ x. x) p
 
 -- the quantum contributions of first and second order to the two exponents
 pub record QuantumIn (N : Type 0) : Type 0 where
@@ -46,8 +50,8 @@ pub record QuantumIn (N : Type 0) : Type 0 where
   pub qa2 : N
   pub qr2 : N
 
-abbrev pub quantum_in : Quantum → QuantumIn Float
-quantum_in g = record { qa1 = g.qa1; qr1 = g.qr1; qa2 = g.qa2; qr2 = g.qr2 }
+abbrev pub quantum_by : {D N : Type 0} → (D → N) → Quantum D → QuantumIn N
+quantum_by of g = record { qa1 = of g.qa1; qr1 = of g.qr1; qa2 = of g.qa2; qr2 = of g.qr2 }
 
 -- the factors of a turn of the second order
 pub record FactorsIn (N : Type 0) : Type 0 where
@@ -55,8 +59,12 @@ pub record FactorsIn (N : Type 0) : Type 0 where
   pub rfac : N
   pub arfac : N
 
-abbrev pub factors_in : Factors → FactorsIn Float
-factors_in g = record { afac = g.afac; rfac = g.rfac; arfac = g.arfac }
+abbrev pub factors_by : {D N : Type 0} → (D → N) → Factors D → FactorsIn N
+factors_by of h = record { afac = of h.afac; rfac = of h.rfac; arfac = of h.arfac }
+
+-- each factor taken as a D
+abbrev pub taken_each : {N : Type 0} → (N → N) → FactorsIn N → FactorsIn N
+taken_each taken h = record { afac = taken h.afac; rfac = taken h.rfac; arfac = taken h.arfac }
 
 module _ (A : Arith) where
   open A use {Num, add as ◌⊕◌, sub as ◌⊖◌, mul as ◌⊗◌, div as ◌⊘◌, neg as ⊖◌, pow, lit, after}

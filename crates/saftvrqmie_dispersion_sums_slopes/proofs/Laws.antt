@@ -5,7 +5,7 @@ use native.Mathlib.Nat.{not-suc-le-zero}
 use lib.ListN.{length, set, replicate}
 use lib.Ieee.{Float, nan, of_bits}
 use mathlib.Core.Path.{◌≡◌, refl, sym, ap, ◌∙◌}
-use mathlib.Core.Bool.{Bool, true, false, cond}
+use mathlib.Core.Bool.{false}
 use mathlib.Core.List.{List, [], ◌∷◌}
 use Rattle.number.specs.Ans.{Ans, held, refused, ◌>>=◌}
 use Rattle.number.specs.Arith.{floats, zero64, decimal, whole, nearest, frac_pi_6}
@@ -24,17 +24,25 @@ use Rattle.saftvrqmie_parameters.specs.declared.OrderRecord.{OrderRecord}
 use Rattle.saftvrqmie_potential.specs.Potential.{recip}
 use Rattle.saftvrqmie_dispersion.specs.Alpha.{chi, third_order_ij}
 use Rattle.saftvrqmie_dispersion.specs.Perturbation.{first_order_ij, second_order_ij, k_factor}
+use Rattle.saftvrqmie_dispersion.specs.Sums.{lead}
 use Rattle.saftvrqmie_energies.specs.State.{SheetsIn, points}
-use Rattle.saftvrqmie_energies.specs.Dispersion.{inv_xs_sum, segment_fractions, lead, packing_turn, packing_row, packing, first_turn, first_row, first, second_pair_turn, second_row, second, third_turn, third_row, third}
-use Rattle.saftvrqmie_dispersion_terms_slopes.specs.Staged.{mixed_of, struct_of}
-use Rattle.saftvrqmie_dispersion_slopes.proofs.Laws.{mul_as}
-use Rattle.saftvrqmie_hard_sphere_slopes.specs.Parts.{duals_at, FirstPlaces, sloped_at, sloped_sheet}
-use Rattle.saftvrqmie_hard_sphere_slopes.proofs.Laws.{begun, filled, back}
+use Rattle.saftvrqmie_energies.specs.Dispersion.{inv_xs_sum, segment_fractions, packing_turn, packing_row, packing, first_turn, first_row, first, second_pair_turn, second_row, second, third_turn, third_row, third}
+use Rattle.saftvrqmie_hard_sphere_slopes.specs.Parts.{mixed_of, duals_at, FirstPlaces, sloped_at, sloped_sheet}
+use Rattle.saftvrqmie_hard_sphere_slopes.proofs.Laws.{begun, filled, struct_of, back}
 use Rattle.saftvrqmie_dispersion_sums_slopes.specs.declared.SegmentSlopes.{SegmentSlopes}
 use Rattle.saftvrqmie_dispersion_sums_slopes.specs.State.{mixture_in, sloped_list, sloped_sheets}
 
 abbrev F : Functions Mixed
 F = mixed_functions port
+
+-- a D with any number beside it
+mul_as : (x : DualOf Float) (m : Mixed) → mixed_one.mul (sloped x) m ≡ sloped (mul_d floats x (as_dual m))
+mul_as x (plain y) = refl
+mul_as x (sloped y) = refl
+
+-- a power of a D is one
+pub pow_as : (x r : Dual) (n : ℕ) → mixed_of r ≡ mixed_one.pow (mixed_of x) n → dual_of r ≡ pow_d floats (dual_of x) n
+pow_as x r n p = ap as_dual p
 
 -- ---- where the first turn is the same from both beginnings, so is the end
 pub walk_begun : {S : Type 0} (f : ℕ → S → Ans S) (s t : S) → f 0 s ≡ f 0 t → (n : ℕ) → 0 < n → walk n f s ≡ walk n f t
@@ -173,8 +181,3 @@ module _ (n : ℕ) (inv : Dual) (x x' m : List Float) where
   fractions_are l r k h is-inv p i q =
       let there : nth mixed_one (segment_fractions mixed_one n (sloped_at x x') (points mixed_one m)) i ≡ fraction i = rw (← is-inv) (filled fraction (plain nan) n i (replicate side (plain zero64)) q h) in
       ap (λ (l : List Dual). duals_at l i) p ∙ ap mixed_of (filled fraction_of _ n i l q (rw k h)) ∙ here i ∙ sym there
-
--- ---- fac is plain
-pub fac_plain : (b : Bool) (u : Float) → u ≡ cond b (whole floats 1) (whole floats 2) → cond b (whole mixed_one 1) (whole mixed_one 2) ≡ plain u
-fac_plain true u e = ap plain (sym e)
-fac_plain false u e = ap plain (sym e)

@@ -29,8 +29,7 @@ use Rattle.saftvrqmie_dispersion.specs.Perturbation.{k_factor}
 use Rattle.saftvrqmie_energies.specs.State.{SheetsIn, points}
 use Rattle.saftvrqmie_energies.specs.Dispersion.{MixtureIn, segment_fractions, packing_turn, packing_row, packing, alpha_row, alphas, first_turn, first_row, first, second_pair_turn, second_row, second, third_turn, third_row, third, mixture, dispersion}
 use Rattle.saftvrqmie_energies.proofs.Turns.{no_alphas, no_first, no_second, no_third, dispersion_is}
-use Rattle.saftvrqmie_dispersion_terms_slopes.specs.Staged.{mixed_of}
-use Rattle.saftvrqmie_hard_sphere_slopes.specs.Parts.{duals_at, FirstPlaces, sloped_at, sloped_sheet}
+use Rattle.saftvrqmie_hard_sphere_slopes.specs.Parts.{mixed_of, duals_at, FirstPlaces, sloped_at, sloped_sheet}
 use Rattle.saftvrqmie_hard_sphere_slopes.proofs.Laws.{turns_same}
 use Rattle.saftvrqmie_dispersion_sums_slopes.specs.declared.SegmentSlopes.{SegmentSlopes}
 use Rattle.saftvrqmie_dispersion_sums_slopes.specs.State.{mixture_in, sloped_list, sloped_sheets}

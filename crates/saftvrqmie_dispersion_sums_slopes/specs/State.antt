@@ -4,11 +4,10 @@ use Rattle.dual.specs.Dual.{DualOf}
 use Rattle.slopes.specs.Mixed.{Mixed, sloped}
 use Rattle.saftvrqmie_parameters.specs.declared.OrderRecord.{OrderRecord}
 use Rattle.saftvrqmie_potential.specs.Potential.{PairIn, pair_at_entry}
-use Rattle.saftvrqmie_potential_slopes.specs.Potential.{mixed_pair}
+use Rattle.saftvrqmie_potential.specs.Slopes.{mixed_pair}
 use Rattle.saftvrqmie_energies.specs.State.{SheetsIn}
 use Rattle.saftvrqmie_energies.specs.Dispersion.{MixtureIn}
-use Rattle.saftvrqmie_dispersion_terms_slopes.specs.Staged.{mixed_of}
-use Rattle.saftvrqmie_hard_sphere_slopes.specs.Parts.{sloped_sheet}
+use Rattle.saftvrqmie_hard_sphere_slopes.specs.Parts.{mixed_of, sloped_sheet}
 use Rattle.saftvrqmie_dispersion_sums_slopes.specs.declared.SegmentSlopes.{SegmentSlopes}
 
 abbrev pub mixture_in : SegmentSlopes → MixtureIn Mixed

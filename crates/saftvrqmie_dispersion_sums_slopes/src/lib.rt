@@ -1,31 +1,27 @@
 // The dispersion's contribution (saftvrqmie/eos/dispersion.rs) with slopes (document 02, Slip 1): segment and packing fractions, alphas, the sums of the three orders, read at mixed numbers.
 #![tactic(auto)]
 
-ghost use Rattle.std.specs.Prelude.{◌≡◌, cond, ◌*◌, ◌<◌, ◌≤◌, eqb, length};
-ghost use Rattle.number.specs.Arith.{floats, whole};
+ghost use Rattle.std.specs.Prelude.{◌≡◌, ◌*◌, ◌<◌, ◌≤◌, length};
+ghost use Rattle.number.specs.Arith.{whole};
 ghost use Rattle.number.specs.Lists.{nth};
 ghost use Rattle.number.specs.Walk.{walk};
 ghost use Rattle.sizes.specs.Sizes.{side, sheet};
 ghost use Rattle.elementary.specs.Port.{port};
 ghost use Rattle.dual.specs.Value.{dual_of};
-ghost use Rattle.slopes.specs.Mixed.{mixed_one};
+ghost use Rattle.slopes.specs.Mixed.{plain, mixed_one};
 ghost use Rattle.slopes.specs.Rules.{mixed_functions};
 ghost use Rattle.mie_parameters.specs.Answer.{outcome};
-ghost use Rattle.mie_parameters.specs.Sums.{orders_sum};
-ghost use Rattle.saftvrqmie_potential.specs.Potential.{recip};
-ghost use Rattle.saftvrqmie_dispersion.specs.Perturbation.{dispersion_pair};
+ghost use Rattle.saftvrqmie_dispersion.specs.Perturbation.{dispersion_by, dispersion_pair};
 ghost use Rattle.saftvrqmie_energies.specs.State.{points};
-ghost use Rattle.saftvrqmie_energies.specs.Dispersion.{inv_xs_sum, segment_fractions, lead, packing_row, packing, alpha_row, first_row, first, second_row, second, third_row, third, mixture, dispersion};
-ghost use Rattle.saftvrqmie_dispersion_terms_slopes.specs.Staged.{mixed_of, sloped_answer};
-ghost use Rattle.saftvrqmie_dispersion_slopes.specs.Values.{dispersion_in};
-ghost use Rattle.saftvrqmie_hard_sphere_slopes.specs.Parts.{duals_at, FirstPlaces, sloped_at, sloped_sheet};
+ghost use Rattle.saftvrqmie_energies.specs.Dispersion.{inv_xs_sum, segment_fractions, packing_row, packing, alpha_row, first_row, first, second_row, second, third_row, third, mixture, dispersion};
+ghost use Rattle.saftvrqmie_hard_sphere_slopes.specs.Parts.{mixed_of, mixed_answer, duals_at, FirstPlaces, sloped_at, sloped_sheet};
 ghost use Rattle.saftvrqmie_dispersion_sums_slopes.specs.State.{mixture_in, sloped_list, sloped_pair, sloped_sheets};
 
 use dual::Dual;
+use dual_num::DualNum;
 use mie_parameters::FRAC_PI_6;
 use number::Refusal;
-use saftvrqmie_dispersion_slopes::DualDispersionPair;
-use saftvrqmie_dispersion_terms_slopes::{cube, square};
+use saftvrqmie_dispersion::DispersionPair;
 use saftvrqmie_hard_sphere_slopes::{entry, segment_density};
 use saftvrqmie_parameters::OrderRecord;
 use sizes::{SHEET, SHEETS, SIDE, TABLE};
@@ -102,7 +98,7 @@ fn packing_row(
     let mut r = sum;
     for j in 0usize..n {
         let d = table_entry(table, table_slopes, k, SIDE * i + j);
-        let v = xs[i] * xs[j] * cube(d);
+        let v = xs[i] * xs[j] * d.cube();
         r = r + v;
     }
     r
@@ -173,10 +169,10 @@ fn alpha_row(
 {
     for k in 0usize..n - i {
         let e = SIDE * i + (i + k);
-        let pair = saftvrqmie_potential::pair_at(sheets, orders, t.re, e);
+        let pair = saftvrqmie_potential::pair_at(sheets, orders, t, e);
         let s = table_entry(table, table_slopes, 0, e);
         let depth = table_entry(table, table_slopes, 2, e);
-        let a = saftvrqmie_alpha_slopes::alpha_ij(pair, t, s, depth)?;
+        let a = saftvrqmie_dispersion::alpha_ij(&pair, s, depth)?;
         alphas[e] = a.re;
         alpha_slopes[e] = a.eps;
         alphas[SIDE * (i + k) + i] = a.re;
@@ -225,35 +221,17 @@ fn perturbed_pair(
     table_slopes: &[f64; TABLE],
     w: SegmentSlopes,
     e: usize,
-) -> DualDispersionPair
+) -> DispersionPair<Dual, f64>
     requires { e < sheet }
     ensures { let pair = sloped_pair sheets.now orders (dual_of t) e in
         let of = sloped_sheet table.now table_slopes.now in
-        dispersion_in result ≡ dispersion_pair mixed_one pair (of 1 e) (of 0 e) (of 3 e) (mixed_of w.zeta) }
+        dispersion_by plain mixed_of result ≡ dispersion_pair mixed_one pair (of 1 e) (of 0 e) (of 3 e) (mixed_of w.zeta) }
 {
-    let pair = saftvrqmie_potential::pair_at(sheets, orders, t.re, e);
+    let pair = saftvrqmie_potential::pair_at(sheets, orders, t, e);
     let d = table_entry(table, table_slopes, 1, e);
     let s = table_entry(table, table_slopes, 0, e);
     let q = table_entry(table, table_slopes, 3, e);
-    saftvrqmie_dispersion_slopes::dispersion_pair(pair, t, d, s, q, w.zeta)
-}
-
-// 1.0 on the diagonal, else 2.0.
-fn fac(i: usize, j: usize) -> f64
-    ensures { result ≡ cond (eqb i j) (whole floats 1) (whole floats 2) }
-{
-    if i == j {
-        return 1.0;
-    }
-    2.0
-}
-
-fn lead(i: usize, j: usize, xi: Dual, xj: Dual, rho_s: Dual, d: Dual) -> Dual
-    ensures { mixed_of result ≡ lead mixed_one (mixed_functions port) i j (mixed_of xi) (mixed_of xj) (mixed_of rho_s) (mixed_of d) }
-{
-    let a = slopes::times(xi * xj, fac(i, j));
-    let b = slopes::times(a, FRAC_PI_6) * rho_s;
-    b * cube(d)
+    saftvrqmie_dispersion::dispersion_pair(&pair, d, s, q, w.zeta)
 }
 
 fn first_row(
@@ -270,15 +248,15 @@ fn first_row(
 ) -> Result<Dual, Refusal>
     requires { (n ≤ side) × (i < n) }
     ensures { let s = sloped_sheets n sheets.now orders (dual_of t) table.now table_slopes.now in
-        sloped_answer result ≡ first_row mixed_one (mixed_functions port) s (duals_at xs) (mixture_in w) i (mixed_of sum) }
+        mixed_answer result ≡ first_row mixed_one (mixed_functions port) s (duals_at xs) (mixture_in w) i (mixed_of sum) }
 {
     let mut a1 = sum;
     for k in 0usize..n - i {
         let e = SIDE * i + (i + k);
         let pair = perturbed_pair(sheets, orders, t, table, table_slopes, w, e);
-        let v = saftvrqmie_dispersion_slopes::first_order_perturbation_ij(pair)?;
+        let v = saftvrqmie_dispersion::first_order_perturbation_ij(&pair)?;
         let d = table_entry(table, table_slopes, 1, e);
-        let f = lead(i, i + k, xs[i], xs[i + k], w.rho_s, d);
+        let f = saftvrqmie_dispersion::lead(i, i + k, xs[i], xs[i + k], w.rho_s, d);
         a1 = a1 + f * v;
     }
     Ok(a1)
@@ -296,7 +274,7 @@ fn first(
 ) -> Result<Dual, Refusal>
     requires { (0 < n) × (n ≤ side) }
     ensures { let s = sloped_sheets n sheets.now orders (dual_of t) table.now table_slopes.now in
-        sloped_answer result ≡ first mixed_one (mixed_functions port) s (duals_at xs) (mixture_in w) }
+        mixed_answer result ≡ first mixed_one (mixed_functions port) s (duals_at xs) (mixture_in w) }
 {
     let mut a1 = Dual::plain(0.0);
     for i in 0usize..n {
@@ -330,17 +308,17 @@ fn second_row(
     requires { (n ≤ side) × (i < n) }
     ensures { let s = sloped_sheets n sheets.now orders (dual_of t) table.now table_slopes.now in
         let alphas = sloped_at alphas.entry.now alpha_slopes.now in
-        sloped_answer result ≡ second_row mixed_one (mixed_functions port) s (duals_at xs) (mixture_in w) alphas i (mixed_of sum) }
+        mixed_answer result ≡ second_row mixed_one (mixed_functions port) s (duals_at xs) (mixture_in w) alphas i (mixed_of sum) }
 {
     let mut a2 = sum;
     for k in 0usize..n - i {
         let e = SIDE * i + (i + k);
         let pair = perturbed_pair(sheets, orders, t, table, table_slopes, w, e);
-        let v = saftvrqmie_dispersion_slopes::second_order_perturbation_ij_one(pair)?;
+        let v = saftvrqmie_dispersion::second_order_perturbation_ij::<Dual, true>(&pair)?;
         let d = table_entry(table, table_slopes, 1, e);
-        let f = lead(i, i + k, xs[i], xs[i + k], w.rho_s, d);
+        let f = saftvrqmie_dispersion::lead(i, i + k, xs[i], xs[i + k], w.rho_s, d);
         let a = sheet_entry(alphas, alpha_slopes, e);
-        let chi = saftvrqmie_alpha_slopes::chi(a, w.zeta_bar);
+        let chi = saftvrqmie_dispersion::chi(a, w.zeta_bar);
         a2 = second_added(a2, f, chi, v);
     }
     Ok(a2)
@@ -361,7 +339,7 @@ fn second(
     requires { (0 < n) × (n ≤ side) }
     ensures { let s = sloped_sheets n sheets.now orders (dual_of t) table.now table_slopes.now in
         let alphas = sloped_at alphas.entry.now alpha_slopes.now in
-        sloped_answer result ≡ second mixed_one (mixed_functions port) s (duals_at xs) (mixture_in w) alphas }
+        mixed_answer result ≡ second mixed_one (mixed_functions port) s (duals_at xs) (mixture_in w) alphas }
 {
     let mut a2 = Dual::plain(0.0);
     for i in 0usize..n {
@@ -381,7 +359,7 @@ fn second(
         )?;
         a2 = next;
     }
-    let k = saftvrqmie_alpha_slopes::k(w.zeta);
+    let k = saftvrqmie_dispersion::k(w.zeta);
     Ok(a2 * k)
 }
 
@@ -399,14 +377,14 @@ fn third_row(
     requires { (n ≤ side) × (i < n) }
     ensures { let depths = sloped_sheet table.now table_slopes.now 2 in
         let alphas = sloped_at alphas.entry.now alpha_slopes.now in
-        sloped_answer result ≡ third_row mixed_one (mixed_functions port) n depths (duals_at xs) (mixed_of zeta_bar) alphas i (mixed_of sum) }
+        mixed_answer result ≡ third_row mixed_one (mixed_functions port) n depths (duals_at xs) (mixed_of zeta_bar) alphas i (mixed_of sum) }
 {
     let mut a3 = sum;
     for j in 0usize..n {
         let e = SIDE * i + j;
         let depth = table_entry(table, table_slopes, 2, e);
         let a = sheet_entry(alphas, alpha_slopes, e);
-        let v = saftvrqmie_alpha_slopes::third_order_perturbation_ij(depth, a, zeta_bar)?;
+        let v = saftvrqmie_dispersion::third_order_perturbation_ij(depth, a, zeta_bar)?;
         let f = xs[i] * xs[j];
         a3 = a3 + f * v;
     }
@@ -425,7 +403,7 @@ fn third(
     requires { (0 < n) × (n ≤ side) }
     ensures { let depths = sloped_sheet table.now table_slopes.now 2 in
         let alphas = sloped_at alphas.entry.now alpha_slopes.now in
-        sloped_answer result ≡ third mixed_one (mixed_functions port) n depths (duals_at xs) (mixed_of zeta_bar) alphas }
+        mixed_answer result ≡ third mixed_one (mixed_functions port) n depths (duals_at xs) (mixed_of zeta_bar) alphas }
 {
     let mut a3 = Dual::plain(0.0);
     for i in 0usize..n {
@@ -443,14 +421,6 @@ fn third(
         a3 = next;
     }
     Ok(a3)
-}
-
-fn perturbation(temperature: Dual, a1: Dual, a2: Dual, a3: Dual) -> Dual
-    ensures { mixed_of result ≡ orders_sum mixed_one (recip mixed_one (mixed_of temperature)) (mixed_of a1) (mixed_of a2) (mixed_of a3) }
-{
-    let inv_t = slopes::recip(temperature);
-    let two = a1 * inv_t + a2 * square(inv_t);
-    two + a3 * cube(inv_t)
 }
 
 pub fn dispersion(
@@ -471,7 +441,7 @@ pub fn dispersion(
         let x = sloped_at x.entry.now x_slopes.now in
         let rho = sloped_at rho.entry.now rho_slopes.now in
         let m = points mixed_one m.entry.now in
-        sloped_answer result ≡ dispersion mixed_one (mixed_functions port) s x rho m (mixed_of t) }
+        mixed_answer result ≡ dispersion mixed_one (mixed_functions port) s x rho m (mixed_of t) }
 {
     let xs = segment_fractions(n, x, x_slopes, m);
     let w = mixture(n, xs, rho, rho_slopes, m, table, table_slopes);
@@ -510,5 +480,5 @@ pub fn dispersion(
         &alpha_slopes,
     )?;
     let n_s = segment_density(n, rho, rho_slopes, m);
-    Ok(n_s * perturbation(t, a1, a2, a3))
+    Ok(n_s * saftvrqmie_dispersion::orders_sum(t, a1, a2, a3))
 }

@@ -16,7 +16,8 @@ use Rattle.saftvrqmie_dispersion.specs.Perturbation.{DispersionIn, first_order_i
 use Rattle.number.specs.Lists.{nth}
 use Rattle.mie_parameters.specs.Sums.{weighted, orders_sum}
 use Rattle.saftvrqmie_energies.specs.State.{SheetsIn, diagonal}
-use Rattle.saftvrqmie_energies.specs.HardSphere.{ZetaIn, zeta, frac1mz3, zeta23, hard_sphere_of, hard_sphere}
+use Rattle.saftvrqmie_hard_sphere.specs.HardSphere.{ZetaIn, frac1mz3, hard_sphere_of}
+use Rattle.saftvrqmie_energies.specs.HardSphere.{zeta, zeta23, hard_sphere}
 use Rattle.saftvrqmie_energies.specs.NonAdditive.{non_additive_sum, density_shares, non_additive}
 use Rattle.saftvrqmie_energies.specs.Dispersion.{MixtureIn, segment_fractions, alphas, first, second, third, mixture, dispersion, alpha_turn, first_turn, second_pair_turn, third_turn, dispersion_pair_at, lead_at}
 

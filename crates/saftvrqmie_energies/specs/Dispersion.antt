@@ -1,5 +1,5 @@
 -- `Dispersion::helmholtz_energy_density` of saftvrqmie/eos/dispersion.rs, over any arithmetic, in the Rust's order of operations: segment fractions, packing fractions, alpha, and the sums of the three orders.
-use Rattle.std.specs.Prelude.{ℕ, ◌+◌, ◌-◌, eqb, Float, set, replicate, List, cond}
+use Rattle.std.specs.Prelude.{ℕ, ◌+◌, ◌-◌, Float, set, replicate, List}
 use Rattle.number.specs.Ans.{Ans, held, ◌>>=◌}
 use Rattle.number.specs.Arith.{Arith, whole}
 use Rattle.number.specs.Functions.{Functions}
@@ -10,6 +10,7 @@ use Rattle.saftvrqmie_potential.specs.Potential.{recip}
 use Rattle.mie_parameters.specs.Places.{in_places}
 use Rattle.mie_parameters.specs.Sums.{weighted, orders_sum}
 use Rattle.saftvrqmie_dispersion.specs.Alpha.{alpha, chi, third_order_ij}
+use Rattle.saftvrqmie_dispersion.specs.Sums.{lead}
 use Rattle.saftvrqmie_dispersion.specs.Perturbation.{DispersionIn, dispersion_pair, first_order_ij, second_order_ij, k_factor}
 use Rattle.saftvrqmie_energies.specs.State.{SheetsIn}
 use Rattle.saftvrqmie_energies.specs.declared.dispersion.SegmentState.{SegmentState}
@@ -35,10 +36,6 @@ module _ (A : Arith) where
   -- x_s after x_s[i] *= inv_x_s_sum
   unfoldable pub segment_fractions : ℕ → (ℕ → Num) → (ℕ → Num) → List Num
   segment_fractions n x m = let inv = inv_xs_sum n x m in in_places A n (λ i. x i ⊗ m i ⊗ inv)
-
-  -- x_s[i] * x_s[j] * fac * FRAC_PI_6 * rho_s * d_hs_ij.powi(3); fac is 1.0 on the diagonal, else 2.0
-  unfoldable pub lead : Functions Num → ℕ → ℕ → Num → Num → Num → Num → Num
-  lead F i j xi xj rho_s d = xi ⊗ xj ⊗ cond (eqb i j) (whole A 1) (whole A 2) ⊗ F.frac_pi_6 ⊗ rho_s ⊗ pow d 3
 
   module _ (F : Functions Num) where
     -- `zeta_saft_vrq_mie` of a sheet; x are the segment fractions
@@ -89,7 +86,7 @@ module _ (A : Arith) where
         dispersion_pair_at e = dispersion_pair A (s.pair e) (s.hs_diameter e) (s.sigma_eff e) (s.quantum_d e) w.zeta
 
         abbrev pub lead_at : ℕ → ℕ → Num
-        lead_at i j = lead F i j (x i) (x j) w.rho_s (s.hs_diameter (cell i j))
+        lead_at i j = lead A F i j (x i) (x j) w.rho_s (s.hs_diameter (cell i j))
 
         -- first order, pairs j >= i
         unfoldable pub first_turn : ℕ → ℕ → Num → Ans Num

@@ -1,76 +1,32 @@
 -- `HardSphere::helmholtz_energy_density`, `zeta` and `zeta_23` of saftvrqmie/eos/hard_sphere.rs, over any arithmetic, in the Rust's order of operations.
-use Rattle.std.specs.Prelude.{ℕ, Float, true}
+use Rattle.std.specs.Prelude.{ℕ, true}
 use Rattle.number.specs.Ans.{Ans, held, ◌>>=◌}
 use Rattle.number.specs.Arith.{Arith, decimal, whole}
 use Rattle.number.specs.Functions.{Functions}
 use Rattle.number.specs.Walk.{turns}
-use Rattle.saftvrqmie_potential.specs.Potential.{recip}
-use Rattle.saftvrqmie_energies.specs.declared.hard_sphere.Zetas.{Zetas}
-use Rattle.saftvrqmie_energies.specs.declared.hard_sphere.Zeta23.{Zeta23}
-
--- zeta[0] to zeta[3]
-pub record ZetaIn (N : Type 0) : Type 0 where
-  pub z0 : N
-  pub z1 : N
-  pub z2 : N
-  pub z3 : N
-
-abbrev pub zeta_in : Zetas → ZetaIn Float
-zeta_in z = record { z0 = z.z0; z1 = z.z1; z2 = z.z2; z3 = z.z3 }
-
--- the two sums of `zeta_23`
-pub record Zeta23In (N : Type 0) : Type 0 where
-  pub y0 : N
-  pub y1 : N
-
-abbrev pub zeta23_in : Zeta23 → Zeta23In Float
-zeta23_in y = record { y0 = y.y0; y1 = y.y1 }
+use Rattle.saftvrqmie_hard_sphere.specs.HardSphere.{ZetaIn, Zeta23In, zeta_added, zeta23_added, hard_sphere_of}
 
 module _ (A : Arith) where
-  open A use {Num, add as ◌⊕◌, sub as ◌⊖◌, mul as ◌⊗◌, div as ◌⊘◌, neg as ⊖◌, pow, lit}
+  open A use {Num, mul as ◌⊗◌, div as ◌⊘◌, lit}
 
-  infixl 60 ◌⊕◌
-  infixl 60 ◌⊖◌
   infixl 70 ◌⊗◌
   infixl 70 ◌⊘◌
-  infix 80 ⊖◌
-  module _ (F : Functions Num) where
-    -- partial_density[i] * diameter[i].powi(k) * (PI / 6.0 * m[i]), added for k = 0 to 3
-    unfoldable pub zeta_added : Num → Num → Num → ZetaIn Num → ZetaIn Num
-    zeta_added rho d m z =
-        let w = F.pi ⊘ whole A 6 ⊗ m in
-        record { z0 = z.z0 ⊕ rho ⊗ pow d 0 ⊗ w; z1 = z.z1 ⊕ rho ⊗ pow d 1 ⊗ w; z2 = z.z2 ⊕ rho ⊗ pow d 2 ⊗ w; z3 = z.z3 ⊕ rho ⊗ pow d 3 ⊗ w }
-
-    -- `zeta`: n, partial densities, diameters, m
-    unfoldable pub zeta : ℕ → (ℕ → Num) → (ℕ → Num) → (ℕ → Num) → ZetaIn Num
-    zeta n rho d m = turns n (λ i z. zeta_added (rho i) (d i) (m i) z) (record { z0 = whole A 0; z1 = whole A 0; z2 = whole A 0; z3 = whole A 0 })
-
-  -- frac_1mz3: -(zeta[3] - 1.0).recip()
-  unfoldable pub frac1mz3 : Num → Num
-  frac1mz3 z3 = ⊖ recip A (z3 ⊖ whole A 1)
-
-  -- molefracs[i] * diameter[i].powi(k + 2) * m[i], added for k = 0 and 1
-  unfoldable pub zeta23_added : Num → Num → Num → Zeta23In Num → Zeta23In Num
-  zeta23_added x d m y = record { y0 = y.y0 ⊕ x ⊗ pow d 2 ⊗ m; y1 = y.y1 ⊕ x ⊗ pow d 3 ⊗ m }
+  -- `zeta`: n, partial densities, diameters, m
+  unfoldable pub zeta : Functions Num → ℕ → (ℕ → Num) → (ℕ → Num) → (ℕ → Num) → ZetaIn Num
+  zeta F n rho d m = turns n (λ i z. zeta_added A F (rho i) (d i) (m i) z) (record { z0 = whole A 0; z1 = whole A 0; z2 = whole A 0; z3 = whole A 0 })
 
   unfoldable pub zeta23_sums : ℕ → (ℕ → Num) → (ℕ → Num) → (ℕ → Num) → Zeta23In Num
-  zeta23_sums n x d m = turns n (λ i y. zeta23_added (x i) (d i) (m i) y) (record { y0 = whole A 0; y1 = whole A 0 })
+  zeta23_sums n x d m = turns n (λ i y. zeta23_added A (x i) (d i) (m i) y) (record { y0 = whole A 0; y1 = whole A 0 })
 
   -- `zeta_23`: n, mole fractions, diameters, m
   unfoldable pub zeta23 : ℕ → (ℕ → Num) → (ℕ → Num) → (ℕ → Num) → Num
   zeta23 n x d m = let y = zeta23_sums n x d m in y.y0 ⊘ y.y1
 
-  -- from zeta, zeta_23 and the logarithm l of 1 - zeta[3]
-  unfoldable pub hard_sphere_of : Functions Num → ZetaIn Num → Num → Num → Num
-  hard_sphere_of F z z23 l =
-      let f = frac1mz3 z.z3 in
-      (z.z1 ⊗ z.z2 ⊗ f ⊗ whole A 3 ⊕ pow z.z2 2 ⊗ pow f 2 ⊗ z23 ⊕ (z.z2 ⊗ pow z23 2 ⊖ z.z0) ⊗ l) ⊗ whole A 6 ⊘ F.pi
-
   -- `helmholtz_energy_density`: n, mole fractions, diameters, m, and the zetas
   abbrev pub hard_sphere_from : Functions Num → ℕ → (ℕ → Num) → (ℕ → Num) → (ℕ → Num) → ZetaIn Num → Ans Num
   hard_sphere_from F n x d m z =
       F.ln1p (z.z3 ⊗ lit (decimal true 1 0)) >>= λ l.
-      held (hard_sphere_of F z (zeta23 n x d m) l)
+      held (hard_sphere_of A F z (zeta23 n x d m) l)
 
   -- the same from partial densities
   unfoldable pub hard_sphere : Functions Num → ℕ → (ℕ → Num) → (ℕ → Num) → (ℕ → Num) → (ℕ → Num) → Ans Num

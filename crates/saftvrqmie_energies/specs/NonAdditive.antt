@@ -1,6 +1,6 @@
 -- `NonAddHardSphere::helmholtz_energy_density` of saftvrqmie/eos/non_additive_hs.rs, over any arithmetic, in the Rust's order of operations. Fractions are taken from the densities.
-use Rattle.std.specs.Prelude.{ℕ, false, List}
-use Rattle.number.specs.Arith.{Arith, decimal, whole}
+use Rattle.std.specs.Prelude.{ℕ, List}
+use Rattle.number.specs.Arith.{Arith, whole}
 use Rattle.number.specs.Functions.{Functions}
 use Rattle.number.specs.Lists.{nth}
 use Rattle.sizes.specs.Sizes.{cell}
@@ -8,33 +8,21 @@ use Rattle.mie_parameters.specs.Places.{in_places}
 use Rattle.mie_parameters.specs.Sums.{weighted}
 use Rattle.number.specs.Walk.{turns}
 use Rattle.saftvrqmie_energies.specs.State.{diagonal}
-use Rattle.saftvrqmie_energies.specs.HardSphere.{zeta, frac1mz3}
+use Rattle.saftvrqmie_hard_sphere.specs.HardSphere.{frac1mz3}
+use Rattle.saftvrqmie_hard_sphere.specs.NonAdditive.{non_additive_ij}
+use Rattle.saftvrqmie_energies.specs.HardSphere.{zeta}
 
 module _ (A : Arith) where
-  open A use {Num, add as ◌⊕◌, sub as ◌⊖◌, mul as ◌⊗◌, div as ◌⊘◌, neg as ⊖◌, pow, lit, after}
+  open A use {Num, add as ◌⊕◌, mul as ◌⊗◌, div as ◌⊘◌, after}
 
   infixl 60 ◌⊕◌
-  infixl 60 ◌⊖◌
   infixl 70 ◌⊗◌
   infixl 70 ◌⊘◌
-  infix 80 ⊖◌
-  -- g_hs_ij of two diameters, from zeta[2] and frac_1mz3
-  unfoldable pub g_hs : Num → Num → Num → Num → Num
-  g_hs di dj z2 f =
-      let mu = di ⊗ dj ⊘ (di ⊕ dj) in
-      f ⊕ mu ⊗ z2 ⊗ pow f 2 ⊗ whole A 3 ⊕ pow (mu ⊗ z2) 2 ⊗ pow f 3 ⊗ whole A 2
-
-  -- the entry of the matrix: rho_s, segment fractions xi and xj, diameters of both and of the pair
-  unfoldable pub non_additive_ij : Functions Num → Num → Num → Num → Num → Num → Num → Num → Num → Num
-  non_additive_ij F rho_s xi xj di dj dij z2 f =
-      let a = (di ⊕ dj) ⊗ lit (decimal false 5 1) in
-      ⊖ rho_s ⊗ xi ⊗ xj ⊗ pow a 2 ⊗ g_hs di dj z2 f ⊗ (a ⊖ dij) ⊗ whole A 2 ⊗ F.pi
-
   module _ (F : Functions Num) (n : ℕ) where
     -- x: segment fractions; d: diameters of the pairs
     module _ (x d : ℕ → Num) (rho_s z2 f : Num) where
       unfoldable pub non_additive_turn : ℕ → ℕ → Num → Num
-      non_additive_turn j i r = r ⊕ non_additive_ij F rho_s (x i) (x j) (diagonal d i) (diagonal d j) (d (cell i j)) z2 f
+      non_additive_turn j i r = r ⊕ non_additive_ij A F rho_s (x i) (x j) (diagonal d i) (diagonal d j) (d (cell i j)) z2 f
 
       -- the matrix is summed column by column
       unfoldable pub non_additive_column : ℕ → Num → Num

@@ -1,17 +1,15 @@
 // The dispersion's contribution (saftvrqmie/eos/dispersion.rs): segment and packing fractions, alphas, the sums of the three orders.
-ghost use Rattle.std.specs.Prelude.{◌≡◌, ◌*◌, ◌<◌, ◌≤◌, length, cond, eqb};
+ghost use Rattle.std.specs.Prelude.{◌≡◌, ◌*◌, ◌<◌, ◌≤◌, length};
 ghost use Rattle.number.specs.Answer.{answer};
-ghost use Rattle.number.specs.Arith.{floats, whole};
+ghost use Rattle.number.specs.Arith.{floats};
 ghost use Rattle.number.specs.Functions.{calls};
 ghost use Rattle.number.specs.Walk.{walk};
 ghost use Rattle.sizes.specs.Sizes.{side, sheet};
 ghost use Rattle.elementary.specs.Port.{port};
-ghost use Rattle.saftvrqmie_potential.specs.Potential.{recip};
 ghost use Rattle.saftvrqmie_dispersion.specs.Perturbation.{dispersion_in, dispersion_pair};
 ghost use Rattle.mie_parameters.specs.Answer.{outcome};
-ghost use Rattle.mie_parameters.specs.Sums.{orders_sum};
 ghost use Rattle.saftvrqmie_energies.specs.State.{points, sheet_of, set_pair_at, sheets_of_state};
-ghost use Rattle.saftvrqmie_energies.specs.Dispersion.{mixture_in, inv_xs_sum, segment_fractions, lead, packing_row, packing, alpha_row, first_row, first, second_row, second, third_row, third, mixture, dispersion};
+ghost use Rattle.saftvrqmie_energies.specs.Dispersion.{mixture_in, inv_xs_sum, segment_fractions, packing_row, packing, alpha_row, first_row, first, second_row, second, third_row, third, mixture, dispersion};
 
 use crate::state;
 use mie_parameters::FRAC_PI_6;
@@ -96,7 +94,7 @@ fn alpha_row(
         let pair = saftvrqmie_potential::pair_at(sheets, orders, t, e);
         let s = table[SIGMA_EFF + e];
         let depth = table[EPSILON_K_EFF + e];
-        let a = saftvrqmie_dispersion::alpha_ij(pair, s, depth)?;
+        let a = saftvrqmie_dispersion::alpha_ij(&pair, s, depth)?;
         alphas[e] = a;
         alphas[SIDE * (i + k) + i] = a;
     }
@@ -129,7 +127,7 @@ fn perturbed_pair(
     table: &[f64],
     w: SegmentState,
     e: usize,
-) -> DispersionPair
+) -> DispersionPair<f64, f64>
     requires { (e < sheet) × (length table.now ≡ 4 * sheet) }
     ensures { let pair = set_pair_at floats sheets.now orders t e in
         let hs_diameter = sheet_of floats table.now 1 in
@@ -141,23 +139,7 @@ fn perturbed_pair(
     let d = table[HS_DIAMETER + e];
     let s = table[SIGMA_EFF + e];
     let q = table[QUANTUM_D + e];
-    saftvrqmie_dispersion::dispersion_pair(pair, d, s, q, w.zeta)
-}
-
-// 1.0 on the diagonal, else 2.0.
-fn fac(i: usize, j: usize) -> f64
-    ensures { result ≡ cond (eqb i j) (whole floats 1) (whole floats 2) }
-{
-    if i == j {
-        return 1.0;
-    }
-    2.0
-}
-
-fn lead(i: usize, j: usize, xi: f64, xj: f64, rho_s: f64, d: f64) -> f64
-    ensures { result ≡ lead floats (calls floats port) i j xi xj rho_s d }
-{
-    xi * xj * fac(i, j) * FRAC_PI_6 * rho_s * number::pow_up(d, 3)
+    saftvrqmie_dispersion::dispersion_pair(&pair, d, s, q, w.zeta)
 }
 
 fn first_row(
@@ -180,9 +162,9 @@ fn first_row(
     for k in 0usize..n - i {
         let e = SIDE * i + (i + k);
         let pair = perturbed_pair(sheets, orders, t, table, w, e);
-        let v = saftvrqmie_dispersion::first_order_perturbation_ij(pair)?;
+        let v = saftvrqmie_dispersion::first_order_perturbation_ij(&pair)?;
         let d = table[HS_DIAMETER + e];
-        a1 = a1 + lead(i, i + k, xs[i], xs[i + k], w.rho_s, d) * v;
+        a1 = a1 + saftvrqmie_dispersion::lead(i, i + k, xs[i], xs[i + k], w.rho_s, d) * v;
     }
     Ok(a1)
 }
@@ -231,10 +213,11 @@ fn second_row(
     for k in 0usize..n - i {
         let e = SIDE * i + (i + k);
         let pair = perturbed_pair(sheets, orders, t, table, w, e);
-        let v = saftvrqmie_dispersion::second_order_perturbation_ij(pair)?;
+        let v = saftvrqmie_dispersion::second_order_perturbation_ij::<f64, true>(&pair)?;
         let d = table[HS_DIAMETER + e];
         let chi = saftvrqmie_dispersion::chi(alphas[e], w.zeta_bar);
-        a2 = a2 + lead(i, i + k, xs[i], xs[i + k], w.rho_s, d) * (chi + 1.0) * v;
+        a2 = a2
+            + saftvrqmie_dispersion::lead(i, i + k, xs[i], xs[i + k], w.rho_s, d) * (chi + 1.0) * v;
     }
     Ok(a2)
 }
@@ -329,13 +312,6 @@ fn mixture(n: usize, xs: &[f64; SIDE], rho: &[f64], m: &[f64; SIDE], table: &[f6
     }
 }
 
-fn perturbation(temperature: f64, a1: f64, a2: f64, a3: f64) -> f64
-    ensures { result ≡ orders_sum floats (recip floats temperature) a1 a2 a3 }
-{
-    let inv_t = 1.0 / temperature;
-    a1 * inv_t + a2 * number::pow_up(inv_t, 2) + a3 * number::pow_up(inv_t, 3)
-}
-
 pub fn dispersion(
     n: usize,
     m: &[f64; SIDE],
@@ -361,5 +337,5 @@ pub fn dispersion(
     let a2 = second(n, sheets, orders, t, table, &xs, w, &alphas)?;
     let a3 = third(n, table, &xs, w, &alphas)?;
     let n_s = state::segment_density(n, rho, m);
-    Ok(n_s * perturbation(t, a1, a2, a3))
+    Ok(n_s * saftvrqmie_dispersion::orders_sum(t, a1, a2, a3))
 }

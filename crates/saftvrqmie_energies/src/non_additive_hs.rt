@@ -5,28 +5,11 @@ ghost use Rattle.number.specs.Functions.{calls};
 ghost use Rattle.sizes.specs.Sizes.{side, sheet};
 ghost use Rattle.elementary.specs.Port.{port};
 ghost use Rattle.saftvrqmie_energies.specs.State.{points, sheet_of};
-ghost use Rattle.saftvrqmie_energies.specs.NonAdditive.{g_hs, non_additive_ij, non_additive_column, non_additive_sum, density_shares, non_additive};
+ghost use Rattle.saftvrqmie_energies.specs.NonAdditive.{non_additive_column, non_additive_sum, density_shares, non_additive};
 
 use crate::{hard_sphere, state};
-use mie_parameters::PI;
 use sizes::SIDE;
 use sizes::table::HS_DIAMETER;
-
-fn g_hs(di: f64, dj: f64, z2: f64, f: f64) -> f64
-    ensures { result ≡ g_hs floats di dj z2 f }
-{
-    let mu = di * dj / (di + dj);
-    f + mu * z2 * number::pow_up(f, 2) * 3.0
-        + number::pow_up(mu * z2, 2) * number::pow_up(f, 3) * 2.0
-}
-
-fn non_additive_ij(rho_s: f64, xi: f64, xj: f64, di: f64, dj: f64, dij: f64, z2: f64, f: f64) -> f64
-    ensures { result ≡ non_additive_ij floats (calls floats port) rho_s xi xj di dj dij z2 f }
-{
-    let a = (di + dj) * 0.5;
-    let g = g_hs(di, dj, z2, f);
-    -rho_s * xi * xj * number::pow_up(a, 2) * g * (a - dij) * 2.0 * PI
-}
 
 // x_s of the non-additive part.
 fn density_shares(n: usize, rho_s: f64, rho: &[f64], m: &[f64; SIDE]) -> [f64; SIDE]
@@ -60,7 +43,7 @@ fn non_additive_column(
         let di = state::diameter_of(table, i);
         let dj = state::diameter_of(table, j);
         let dij = table[HS_DIAMETER + (SIDE * i + j)];
-        r = r + non_additive_ij(rho_s, xs[i], xs[j], di, dj, dij, z2, f);
+        r = r + saftvrqmie_hard_sphere::non_additive_ij(rho_s, xs[i], xs[j], di, dj, dij, z2, f);
     }
     r
 }
@@ -86,7 +69,7 @@ pub fn non_additive(n: usize, rho: &[f64], m: &[f64; SIDE], table: &[f64]) -> f6
         result ≡ non_additive floats (calls floats port) n rho m hs_diameter }
 {
     let z = hard_sphere::zeta(n, rho, table, m);
-    let f = hard_sphere::frac_1mz3(z.z3);
+    let f = saftvrqmie_hard_sphere::frac_1mz3(z.z3);
     let rho_s = state::segment_density(n, rho, m);
     let xs = density_shares(n, rho_s, rho, m);
     rho_s * non_additive_sum(n, &xs, table, rho_s, z.z2, f)

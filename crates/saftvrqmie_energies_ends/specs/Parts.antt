@@ -7,17 +7,10 @@ use Rattle.elementary.specs.Port.{port}
 use Rattle.enclosure.specs.declared.Enclosure.{Enclosure}
 use Rattle.enclosure.specs.Enclosure.{enclosures}
 use Rattle.saftvrqmie_energies.specs.State.{points, sheet_of, diagonal}
-use Rattle.saftvrqmie_energies.specs.HardSphere.{ZetaIn, Zeta23In, zeta, hard_sphere_from}
+use Rattle.saftvrqmie_hard_sphere.specs.HardSphere.{ZetaIn}
+use Rattle.saftvrqmie_energies.specs.HardSphere.{zeta, hard_sphere_from}
 use Rattle.saftvrqmie_energies.specs.Dispersion.{MixtureIn}
-use Rattle.saftvrqmie_energies_ends.specs.declared.hard_sphere.ZetaEnclosures.{ZetaEnclosures}
-use Rattle.saftvrqmie_energies_ends.specs.declared.hard_sphere.Zeta23Enclosures.{Zeta23Enclosures}
 use Rattle.saftvrqmie_energies_ends.specs.declared.dispersion.MixtureEnclosures.{MixtureEnclosures}
-
-abbrev pub zeta_in : ZetaEnclosures → ZetaIn Enclosure
-zeta_in z = record { z0 = z.z0; z1 = z.z1; z2 = z.z2; z3 = z.z3 }
-
-abbrev pub zeta23_in : Zeta23Enclosures → Zeta23In Enclosure
-zeta23_in y = record { y0 = y.y0; y1 = y.y1 }
 
 abbrev pub mixture_in : MixtureEnclosures → MixtureIn Enclosure
 mixture_in w = record { rho_s = w.rho_s; zeta = w.zeta; zeta_bar = w.zeta_bar }

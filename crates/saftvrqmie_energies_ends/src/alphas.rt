@@ -87,10 +87,10 @@ fn alpha_row(
     for k in 0usize..n - i {
         let e = SIDE * i + (i + k);
         let mirrored = SIDE * (i + k) + i;
-        let pair = saftvrqmie_potential_ends::pair_at(sheets, orders, t, e);
+        let pair = state::pair_at(sheets, orders, t, e);
         let s = state::entry_of(table, 0, e);
         let depth = state::entry_of(table, 2, e);
-        let a = saftvrqmie_alpha_ends::alpha_ij(pair, s, depth)?;
+        let a = saftvrqmie_dispersion::alpha_ij(&pair, s, depth)?;
         store(values, lower, upper, sound, e, a);
         store(values, lower, upper, sound, mirrored, a);
     }

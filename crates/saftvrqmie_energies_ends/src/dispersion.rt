@@ -1,24 +1,20 @@
 // The dispersion's contribution in the two-ended run (saftvrqmie/eos/dispersion.rs): segment and packing fractions, alphas, the sums of the three orders.
-ghost use Rattle.std.specs.Prelude.{◌≡◌, ◌*◌, ◌<◌, ◌≤◌, eqb, length, cond};
-ghost use Rattle.number.specs.Arith.{whole};
+ghost use Rattle.std.specs.Prelude.{◌≡◌, ◌*◌, ◌<◌, ◌≤◌, length};
 ghost use Rattle.number.specs.Functions.{calls};
 ghost use Rattle.sizes.specs.Sizes.{side, sheet};
 ghost use Rattle.elementary.specs.Port.{port};
 ghost use Rattle.number.specs.Answer.{answer};
 ghost use Rattle.enclosure.specs.Enclosure.{enclosures, point};
-ghost use Rattle.saftvrqmie_dispersion.specs.Perturbation.{dispersion_pair};
+ghost use Rattle.saftvrqmie_dispersion.specs.Perturbation.{dispersion_by, dispersion_pair};
 ghost use Rattle.number.specs.Lists.{nth};
-ghost use Rattle.mie_parameters.specs.Sums.{orders_sum};
-ghost use Rattle.saftvrqmie_potential.specs.Potential.{recip};
 ghost use Rattle.saftvrqmie_energies.specs.State.{points, sheet_of, set_pair_at, sheets_of_state};
-ghost use Rattle.saftvrqmie_energies.specs.Dispersion.{inv_xs_sum, segment_fractions, lead, packing_row, packing, first_row, first, second_row, second, third_row, third, mixture, dispersion};
-ghost use Rattle.saftvrqmie_dispersion_ends.specs.Pair.{dispersion_in};
+ghost use Rattle.saftvrqmie_energies.specs.Dispersion.{inv_xs_sum, segment_fractions, packing_row, packing, first_row, first, second_row, second, third_row, third, mixture, dispersion};
 ghost use Rattle.saftvrqmie_energies_ends.specs.Parts.{AlphasLent, Whole, alphas_in, mixture_in};
 
 use crate::{alphas, state};
 use enclosure::Enclosure;
 use number::Refusal;
-use saftvrqmie_dispersion_ends::DispersionEnclosures;
+use saftvrqmie_dispersion::DispersionPair;
 use saftvrqmie_parameters::OrderRecord;
 use sizes::{SHEET, SHEETS, SIDE};
 
@@ -120,41 +116,6 @@ fn mixture(
     }
 }
 
-fn perturbation(temperature: Enclosure, a1: Enclosure, a2: Enclosure, a3: Enclosure) -> Enclosure
-    ensures { result ≡ orders_sum enclosures (recip enclosures temperature) a1 a2 a3 }
-{
-    let one = Enclosure::point(1.0);
-    let inv_t = one / temperature;
-    let a = a1 * inv_t;
-    let b = state::plus_product(a, a2, inv_t.pow_up(2));
-    state::plus_product(b, a3, inv_t.pow_up(3))
-}
-
-// 1.0 on the diagonal, else 2.0.
-fn fac(i: usize, j: usize) -> Enclosure
-    ensures { result ≡ cond (eqb i j) (whole enclosures 1) (whole enclosures 2) }
-{
-    if i == j {
-        return Enclosure::point(1.0);
-    }
-    Enclosure::point(2.0)
-}
-
-fn lead(
-    i: usize,
-    j: usize,
-    xi: Enclosure,
-    xj: Enclosure,
-    rho_s: Enclosure,
-    d: Enclosure,
-) -> Enclosure
-    ensures { result ≡ lead enclosures (calls enclosures port) i j xi xj rho_s d }
-{
-    let c = Enclosure::frac_pi_6();
-    let x = xi * xj * fac(i, j);
-    x * c * rho_s * d.pow_up(3)
-}
-
 // What both perturbations of the pair at entry e take.
 fn perturbed_pair(
     sheets: &[f64; SHEETS],
@@ -163,19 +124,19 @@ fn perturbed_pair(
     table: &[f64],
     w: MixtureEnclosures,
     e: usize,
-) -> DispersionEnclosures
+) -> DispersionPair<Enclosure, Enclosure>
     requires { (e < sheet) × (length table.now ≡ 4 * sheet) }
     ensures { let pair = set_pair_at enclosures sheets.now orders t e in
         let hs_diameter = sheet_of enclosures table.now 1 in
         let sigma_eff = sheet_of enclosures table.now 0 in
         let quantum_d = sheet_of enclosures table.now 3 in
-        dispersion_in result ≡ dispersion_pair enclosures pair (hs_diameter e) (sigma_eff e) (quantum_d e) w.zeta }
+        dispersion_by (λ x. x) (λ x. x) result ≡ dispersion_pair enclosures pair (hs_diameter e) (sigma_eff e) (quantum_d e) w.zeta }
 {
-    let pair = saftvrqmie_potential_ends::pair_at(sheets, orders, t, e);
+    let pair = state::pair_at(sheets, orders, t, e);
     let d = state::entry_of(table, 1, e);
     let s = state::entry_of(table, 0, e);
     let q = state::entry_of(table, 3, e);
-    saftvrqmie_dispersion_ends::dispersion_pair(pair, d, s, q, w.zeta)
+    saftvrqmie_dispersion::dispersion_pair(&pair, d, s, q, w.zeta)
 }
 
 fn first_row(
@@ -197,11 +158,11 @@ fn first_row(
     for k in 0usize..n - i {
         let e = SIDE * i + (i + k);
         let pair = perturbed_pair(sheets, orders, t, table, w, e);
-        let v = saftvrqmie_dispersion_ends::first_order_perturbation_ij(pair)?;
+        let v = saftvrqmie_dispersion::first_order_perturbation_ij(&pair)?;
         let d = state::entry_of(table, 1, e);
         let xi = state::at_component(xs, i);
         let xj = state::at_component(xs, i + k);
-        let c = lead(i, i + k, xi, xj, w.rho_s, d);
+        let c = saftvrqmie_dispersion::lead(i, i + k, xi, xj, w.rho_s, d);
         a1 = state::plus_product(a1, c, v);
     }
     Ok(a1)
@@ -255,13 +216,13 @@ fn second_row(
     for k in 0usize..n - i {
         let e = SIDE * i + (i + k);
         let pair = perturbed_pair(sheets, orders, t, table, w, e);
-        let v = saftvrqmie_dispersion_ends::second_order_perturbation_ij(pair)?;
+        let v = saftvrqmie_dispersion::second_order_perturbation_ij::<Enclosure, true>(&pair)?;
         let d = state::entry_of(table, 1, e);
         let a = alphas::alpha_at(values, lower, upper, sound, e);
-        let chi = saftvrqmie_alpha_ends::chi(a, w.zeta_bar);
+        let chi = saftvrqmie_dispersion::chi(a, w.zeta_bar);
         let xi = state::at_component(xs, i);
         let xj = state::at_component(xs, i + k);
-        let c = lead(i, i + k, xi, xj, w.rho_s, d);
+        let c = saftvrqmie_dispersion::lead(i, i + k, xi, xj, w.rho_s, d);
         let f = c * (chi + one);
         a2 = state::plus_product(a2, f, v);
     }
@@ -295,7 +256,7 @@ fn second(
         )?;
         a2 = next;
     }
-    let k = saftvrqmie_dispersion_ends::k(w.zeta);
+    let k = saftvrqmie_dispersion::k(w.zeta);
     Ok(a2 * k)
 }
 
@@ -323,7 +284,7 @@ fn third_row(
         let e = SIDE * i + j;
         let depth = state::entry_of(table, 2, e);
         let a = alphas::alpha_at(values, lower, upper, sound, e);
-        let v = saftvrqmie_alpha_ends::third_order_perturbation_ij(depth, a, zeta_bar)?;
+        let v = saftvrqmie_dispersion::third_order_perturbation_ij(depth, a, zeta_bar)?;
         let xi = state::at_component(xs, i);
         let xj = state::at_component(xs, j);
         let c = xi * xj;
@@ -398,5 +359,5 @@ pub fn dispersion(
     let a3 = third(n, table, xs, w.zeta_bar, &values, &lower, &upper, &sound)?;
     let n_s = state::segment_density(n, rho, m);
     let p = Enclosure::point(t);
-    Ok(n_s * perturbation(p, a1, a2, a3))
+    Ok(n_s * saftvrqmie_dispersion::orders_sum(p, a1, a2, a3))
 }

@@ -13,7 +13,8 @@ ghost use Rattle.enclosure.specs.Ends.{ends_in};
 ghost use Rattle.saftvrqmie_parameters.specs.declared.SaftVRQMiePars.{SaftVRQMiePars};
 ghost use Rattle.saftvrqmie_energies.specs.Energies.{energies_finite};
 ghost use Rattle.saftvrqmie_energies_ends.specs.Operation.{together, values_of, all_sound, sound_ends, energies_enclosed, energies_ends, enclosures_each, enclosures_answer, energies_ends_answer};
-ghost use Rattle.saftvrqmie_energies_ends.specs.Parts.{zeta_in, zetas_of};
+ghost use Rattle.saftvrqmie_hard_sphere.specs.HardSphere.{zeta_in};
+ghost use Rattle.saftvrqmie_energies_ends.specs.Parts.{zetas_of};
 
 mod alphas;
 mod dispersion;
@@ -21,9 +22,9 @@ mod hard_sphere;
 mod non_additive_hs;
 mod state;
 
-use crate::hard_sphere::ZetaEnclosures;
 use enclosure::{Enclosure, Ends};
 use number::Refusal;
+use saftvrqmie_hard_sphere::Zetas;
 use saftvrqmie_parameters::{OrderRecord, SaftVRQMiePars};
 use sizes::{SHEET, SHEETS, SIDE};
 
@@ -49,7 +50,7 @@ fn wanted_part(
     rho: &[f64],
     m: &[f64; SIDE],
     table: &[f64],
-    z: ZetaEnclosures,
+    z: Zetas<Enclosure>,
     wanted: bool,
 ) -> Enclosure
     requires { (n ≤ side) × (length table.now ≡ 4 * sheet) × (length rho.now ≡ n) × (zeta_in z ≡ zetas_of n rho.now table.now m.now) }

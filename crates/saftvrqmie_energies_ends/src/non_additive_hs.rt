@@ -6,47 +6,14 @@ ghost use Rattle.elementary.specs.Port.{port};
 ghost use Rattle.enclosure.specs.Enclosure.{enclosures};
 ghost use Rattle.number.specs.Lists.{nth};
 ghost use Rattle.saftvrqmie_energies.specs.State.{points, sheet_of};
-ghost use Rattle.saftvrqmie_energies.specs.NonAdditive.{g_hs, non_additive_ij, non_additive_column, non_additive_sum, density_shares, non_additive};
-ghost use Rattle.saftvrqmie_energies_ends.specs.Parts.{zeta_in, zetas_of};
+ghost use Rattle.saftvrqmie_hard_sphere.specs.HardSphere.{zeta_in};
+ghost use Rattle.saftvrqmie_energies.specs.NonAdditive.{non_additive_column, non_additive_sum, density_shares, non_additive};
+ghost use Rattle.saftvrqmie_energies_ends.specs.Parts.{zetas_of};
 
-use crate::hard_sphere::ZetaEnclosures;
-use crate::{hard_sphere, state};
+use crate::state;
 use enclosure::Enclosure;
+use saftvrqmie_hard_sphere::Zetas;
 use sizes::SIDE;
-
-fn g_hs(di: Enclosure, dj: Enclosure, z2: Enclosure, f: Enclosure) -> Enclosure
-    ensures { result ≡ g_hs enclosures di dj z2 f }
-{
-    let mu = di * dj / (di + dj);
-    let three = Enclosure::point(3.0);
-    let two = Enclosure::point(2.0);
-    let mz = mu * z2;
-    let a = mz * f.pow_up(2);
-    let b = mz.pow_up(2) * f.pow_up(3);
-    state::plus_product(state::plus_product(f, a, three), b, two)
-}
-
-fn non_additive_ij(
-    rho_s: Enclosure,
-    xi: Enclosure,
-    xj: Enclosure,
-    di: Enclosure,
-    dj: Enclosure,
-    dij: Enclosure,
-    z2: Enclosure,
-    f: Enclosure,
-) -> Enclosure
-    ensures { result ≡ non_additive_ij enclosures (calls enclosures port) rho_s xi xj di dj dij z2 f }
-{
-    let half = Enclosure::point(0.5);
-    let two = Enclosure::point(2.0);
-    let pi = Enclosure::pi();
-    let a = (di + dj) * half;
-    let g = g_hs(di, dj, z2, f);
-    let x = -rho_s * xi * xj;
-    let y = x * a.pow_up(2) * g;
-    y * (a - dij) * two * pi
-}
 
 // x_s of the non-additive part.
 fn density_shares(n: usize, rho_s: Enclosure, rho: &[f64], m: &[f64; SIDE]) -> [Enclosure; SIDE]
@@ -87,7 +54,7 @@ fn non_additive_column(
         let dij = state::entry_of(table, 1, SIDE * i + j);
         let xi = state::at_component(xs, i);
         let xj = state::at_component(xs, j);
-        let v = non_additive_ij(rho_s, xi, xj, di, dj, dij, z2, f);
+        let v = saftvrqmie_hard_sphere::non_additive_ij(rho_s, xi, xj, di, dj, dij, z2, f);
         r = r + v;
     }
     r
@@ -117,7 +84,7 @@ pub fn non_additive(
     rho: &[f64],
     m: &[f64; SIDE],
     table: &[f64],
-    z: ZetaEnclosures,
+    z: Zetas<Enclosure>,
 ) -> Enclosure
     requires { (n ≤ side) × (length table.now ≡ 4 * sheet) × (length rho.now ≡ n) × (zeta_in z ≡ zetas_of n rho.now table.now m.now) }
     ensures { let rho = points enclosures rho.entry.now in
@@ -125,7 +92,7 @@ pub fn non_additive(
         let hs_diameter = sheet_of enclosures table.now 1 in
         result ≡ non_additive enclosures (calls enclosures port) n rho m hs_diameter }
 {
-    let f = hard_sphere::frac_1mz3(z.z3);
+    let f = saftvrqmie_hard_sphere::frac_1mz3(z.z3);
     let rho_s = state::segment_density(n, rho, m);
     let xs = density_shares(n, rho_s, rho, m);
     let v = non_additive_sum(n, xs, table, rho_s, z.z2, f);

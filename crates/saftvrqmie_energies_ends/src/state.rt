@@ -4,10 +4,13 @@ ghost use Rattle.sizes.specs.Sizes.{side, sheet};
 ghost use Rattle.enclosure.specs.Enclosure.{enclosures, add_e, mul_e};
 ghost use Rattle.number.specs.Lists.{nth};
 ghost use Rattle.mie_parameters.specs.Sums.{weighted};
-ghost use Rattle.saftvrqmie_energies.specs.State.{points, sheet_of};
+ghost use Rattle.saftvrqmie_potential.specs.Potential.{pair_by};
+ghost use Rattle.saftvrqmie_energies.specs.State.{points, sheet_of, set_pair_at};
 
 use enclosure::Enclosure;
-use sizes::{SHEET, SIDE};
+use saftvrqmie_parameters::OrderRecord;
+use saftvrqmie_potential::Pair;
+use sizes::{SHEET, SHEETS, SIDE};
 
 // sum + x * y
 pub fn plus_product(sum: Enclosure, x: Enclosure, y: Enclosure) -> Enclosure
@@ -22,6 +25,30 @@ pub fn entry_of(table: &[f64], k: usize, e: usize) -> Enclosure
     ensures { result ≡ sheet_of enclosures table.now k e }
 {
     Enclosure::point(table[k * SHEET + e])
+}
+
+// The pair at entry e of a set's sheets, each number as it is.
+pub fn pair_at(
+    sheets: &[f64; SHEETS],
+    orders: [OrderRecord; SHEET],
+    t: f64,
+    e: usize,
+) -> Pair<Enclosure, Enclosure>
+    requires { e < sheet }
+    ensures { pair_by (λ x. x) (λ x. x) result ≡ set_pair_at enclosures sheets.now orders t e }
+{
+    let p = saftvrqmie_potential::pair_at(sheets, orders, t, e);
+    let order = p.order;
+    Pair {
+        sigma: Enclosure::point(p.sigma),
+        epsilon_k: Enclosure::point(p.epsilon_k),
+        c: Enclosure::point(p.c),
+        lr: Enclosure::point(p.lr),
+        la: Enclosure::point(p.la),
+        mass: Enclosure::point(p.mass),
+        order,
+        temperature: Enclosure::point(p.temperature),
+    }
 }
 
 // Entry i of an array; beyond it is not read.

@@ -28,8 +28,10 @@ use Rattle.slopes.specs.Answer.{dual_answer}
 use Rattle.mie_parameters.specs.Places.{in_places}
 use Rattle.mie_parameters.specs.Sums.{weighted}
 use Rattle.saftvrqmie_energies.specs.State.{diagonal, points}
-use Rattle.saftvrqmie_energies.specs.HardSphere.{ZetaIn, Zeta23In, zeta_added, zeta, frac1mz3, zeta23_added, zeta23_sums, zeta23}
-use Rattle.saftvrqmie_energies.specs.NonAdditive.{g_hs, non_additive_ij, non_additive_turn, non_additive_column, non_additive_sum, density_shares, non_additive}
+use Rattle.saftvrqmie_hard_sphere.specs.HardSphere.{ZetaIn, Zeta23In, zeta_added, frac1mz3, zeta23_added}
+use Rattle.saftvrqmie_energies.specs.HardSphere.{zeta, zeta23_sums, zeta23}
+use Rattle.saftvrqmie_hard_sphere.specs.NonAdditive.{g_hs, non_additive_ij}
+use Rattle.saftvrqmie_energies.specs.NonAdditive.{non_additive_turn, non_additive_column, non_additive_sum, density_shares, non_additive}
 use Rattle.saftvrqmie_hard_sphere_slopes.specs.Parts.{mixed_of, mixed_answer, duals_at, FirstPlaces, sloped_at, sloped_sheet}
 
 abbrev F : Functions Mixed

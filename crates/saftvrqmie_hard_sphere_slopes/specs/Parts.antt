@@ -9,9 +9,6 @@ use Rattle.sizes.specs.Sizes.{sheet}
 use Rattle.dual.specs.declared.Dual.{Dual}
 use Rattle.dual.specs.Value.{dual_of}
 use Rattle.slopes.specs.Mixed.{Mixed, sloped}
-use Rattle.saftvrqmie_energies.specs.HardSphere.{ZetaIn, Zeta23In}
-use Rattle.saftvrqmie_hard_sphere_slopes.specs.declared.ZetaSlopes.{ZetaSlopes}
-use Rattle.saftvrqmie_hard_sphere_slopes.specs.declared.Zeta23Slopes.{Zeta23Slopes}
 
 -- the code's D
 abbrev pub mixed_of : Dual → Mixed
@@ -35,9 +32,3 @@ sloped_at l s i = sloped (record { re = at l i; eps = at s i })
 -- sheet k of a table with that of its slopes
 abbrev pub sloped_sheet : List Float → List Float → ℕ → ℕ → Mixed
 sloped_sheet l s k e = sloped_at l s (k * sheet + e)
-
-abbrev pub zeta_in : ZetaSlopes → ZetaIn Mixed
-zeta_in z = record { z0 = mixed_of z.z0; z1 = mixed_of z.z1; z2 = mixed_of z.z2; z3 = mixed_of z.z3 }
-
-abbrev pub zeta23_in : Zeta23Slopes → Zeta23In Mixed
-zeta23_in y = record { y0 = mixed_of y.y0; y1 = mixed_of y.y1 }

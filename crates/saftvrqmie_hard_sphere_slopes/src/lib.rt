@@ -12,29 +12,16 @@ ghost use Rattle.slopes.specs.Mixed.{plain, as_dual, mixed, mixed_one};
 ghost use Rattle.slopes.specs.Rules.{mixed_functions};
 ghost use Rattle.mie_parameters.specs.Sums.{weighted};
 ghost use Rattle.saftvrqmie_energies.specs.State.{diagonal, points};
-ghost use Rattle.saftvrqmie_energies.specs.HardSphere.{zeta_added, zeta, frac1mz3, zeta23_added, zeta23, hard_sphere_of, hard_sphere};
-ghost use Rattle.saftvrqmie_energies.specs.NonAdditive.{g_hs, non_additive_ij, non_additive_column, non_additive_sum, density_shares, non_additive};
-ghost use Rattle.saftvrqmie_hard_sphere_slopes.specs.Parts.{mixed_of, mixed_answer, duals_at, FirstPlaces, sloped_at, sloped_sheet, zeta_in, zeta23_in};
+ghost use Rattle.saftvrqmie_hard_sphere.specs.HardSphere.{zeta_by};
+ghost use Rattle.saftvrqmie_energies.specs.HardSphere.{zeta, zeta23, hard_sphere};
+ghost use Rattle.saftvrqmie_energies.specs.NonAdditive.{non_additive_column, non_additive_sum, density_shares, non_additive};
+ghost use Rattle.saftvrqmie_hard_sphere_slopes.specs.Parts.{mixed_of, mixed_answer, duals_at, FirstPlaces, sloped_at, sloped_sheet};
 
 use dual::Dual;
-use mie_parameters::PI;
 use number::Refusal;
+use saftvrqmie_hard_sphere::{Zeta23, Zetas};
 use sizes::table::HS_DIAMETER;
 use sizes::{SIDE, TABLE};
-
-#[derive(Clone, Copy)]
-pub struct ZetaSlopes {
-    pub z0: Dual,
-    pub z1: Dual,
-    pub z2: Dual,
-    pub z3: Dual,
-}
-
-#[derive(Clone, Copy)]
-struct Zeta23Slopes {
-    y0: Dual,
-    y1: Dual,
-}
 
 // Entry i of a list, with its slope.
 pub fn entry(l: &[f64], slopes: &[f64], i: usize) -> Dual
@@ -66,23 +53,6 @@ fn plus_times(sum: Dual, x: Dual, c: f64) -> Dual
     sum + slopes::times(x, c)
 }
 
-fn zeta_added(rho: Dual, d: Dual, m: f64, z: ZetaSlopes) -> ZetaSlopes
-    ensures at_mixed { zeta_in result ≡ zeta_added mixed (mixed_functions port) (mixed_of rho) (mixed_of d) (plain m) (zeta_in z) }
-    ensures at_one { zeta_in result ≡ zeta_added mixed_one (mixed_functions port) (mixed_of rho) (mixed_of d) (plain m) (zeta_in z) }
-{
-    let w = PI / 6.0 * m;
-    let t0 = rho * d.pow_up(0);
-    let t1 = rho * d.pow_up(1);
-    let t2 = rho * d.pow_up(2);
-    let t3 = rho * d.pow_up(3);
-    ZetaSlopes {
-        z0: plus_times(z.z0, t0, w),
-        z1: plus_times(z.z1, t1, w),
-        z2: plus_times(z.z2, t2, w),
-        z3: plus_times(z.z3, t3, w),
-    }
-}
-
 pub fn zeta(
     n: usize,
     rho: &[f64],
@@ -90,19 +60,19 @@ pub fn zeta(
     table: &[f64; TABLE],
     table_slopes: &[f64; TABLE],
     m: &[f64; SIDE],
-) -> ZetaSlopes
+) -> Zetas<Dual>
     requires { (0 < n) × (n ≤ side) × (length rho.now ≡ n) × (length rho_slopes.now ≡ n) }
     ensures at_mixed { let rho = sloped_at rho.entry.now rho_slopes.now in
         let d = diagonal (sloped_sheet table.now table_slopes.now 1) in
         let m = points mixed m.entry.now in
-        zeta_in result ≡ zeta mixed (mixed_functions port) n rho d m }
+        zeta_by mixed_of result ≡ zeta mixed (mixed_functions port) n rho d m }
     ensures at_one { let rho = sloped_at rho.entry.now rho_slopes.now in
         let d = diagonal (sloped_sheet table.now table_slopes.now 1) in
         let m = points mixed_one m.entry.now in
-        zeta_in result ≡ zeta mixed_one (mixed_functions port) n rho d m }
+        zeta_by mixed_of result ≡ zeta mixed_one (mixed_functions port) n rho d m }
 {
     let zero = Dual::plain(0.0);
-    let mut z = ZetaSlopes {
+    let mut z = Zetas {
         z0: zero,
         z1: zero,
         z2: zero,
@@ -111,28 +81,9 @@ pub fn zeta(
     for i in 0usize..n {
         let a = entry(rho, rho_slopes, i);
         let d = diameter(table, table_slopes, SIDE * i + i);
-        z = zeta_added(a, d, m[i], z);
+        z = saftvrqmie_hard_sphere::zeta_added(a, d, m[i], z);
     }
     z
-}
-
-fn frac_1mz3(z3: Dual) -> Dual
-    ensures at_mixed { mixed_of result ≡ frac1mz3 mixed (mixed_of z3) }
-    ensures at_one { mixed_of result ≡ frac1mz3 mixed_one (mixed_of z3) }
-{
-    -slopes::recip(slopes::minus(z3, 1.0))
-}
-
-fn zeta_23_added(x: Dual, d: Dual, m: f64, y: Zeta23Slopes) -> Zeta23Slopes
-    ensures at_mixed { zeta23_in result ≡ zeta23_added mixed (mixed_of x) (mixed_of d) (plain m) (zeta23_in y) }
-    ensures at_one { zeta23_in result ≡ zeta23_added mixed_one (mixed_of x) (mixed_of d) (plain m) (zeta23_in y) }
-{
-    let t0 = x * d.pow_up(2);
-    let t1 = x * d.pow_up(3);
-    Zeta23Slopes {
-        y0: plus_times(y.y0, t0, m),
-        y1: plus_times(y.y1, t1, m),
-    }
 }
 
 fn zeta_23(
@@ -154,25 +105,13 @@ fn zeta_23(
         mixed_of result ≡ zeta23 mixed_one n x d m }
 {
     let zero = Dual::plain(0.0);
-    let mut y = Zeta23Slopes { y0: zero, y1: zero };
+    let mut y = Zeta23 { y0: zero, y1: zero };
     for i in 0usize..n {
         let a = entry(x, x_slopes, i);
         let d = diameter(table, table_slopes, SIDE * i + i);
-        y = zeta_23_added(a, d, m[i], y);
+        y = saftvrqmie_hard_sphere::zeta_23_added(a, d, m[i], y);
     }
     y.y0 / y.y1
-}
-
-fn hard_sphere_of(z: ZetaSlopes, z23: Dual, l: Dual) -> Dual
-    ensures at_mixed { mixed_of result ≡ hard_sphere_of mixed (mixed_functions port) (zeta_in z) (mixed_of z23) (mixed_of l) }
-    ensures at_one { mixed_of result ≡ hard_sphere_of mixed_one (mixed_functions port) (zeta_in z) (mixed_of z23) (mixed_of l) }
-{
-    let f = frac_1mz3(z.z3);
-    let a = slopes::times(z.z1 * z.z2 * f, 3.0);
-    let b = z.z2.pow_up(2) * f.pow_up(2);
-    let c = z.z2 * z23.pow_up(2) - z.z0;
-    let sum = a + b * z23 + c * l;
-    slopes::over(slopes::times(sum, 6.0), PI)
 }
 
 pub fn hard_sphere(
@@ -201,40 +140,7 @@ pub fn hard_sphere(
     let v = slopes::times(z.z3, -1.0);
     let l = slopes::ln_1p(v)?;
     let z23 = zeta_23(n, x, x_slopes, table, table_slopes, m);
-    Ok(hard_sphere_of(z, z23, l))
-}
-
-fn g_hs(di: Dual, dj: Dual, z2: Dual, f: Dual) -> Dual
-    ensures at_mixed { mixed_of result ≡ g_hs mixed (mixed_of di) (mixed_of dj) (mixed_of z2) (mixed_of f) }
-    ensures at_one { mixed_of result ≡ g_hs mixed_one (mixed_of di) (mixed_of dj) (mixed_of z2) (mixed_of f) }
-{
-    let mu = di * dj / (di + dj);
-    let v = mu * z2;
-    let a = slopes::times(v * f.pow_up(2), 3.0);
-    let b = slopes::times(v.pow_up(2) * f.pow_up(3), 2.0);
-    f + a + b
-}
-
-fn non_additive_ij(
-    rho_s: Dual,
-    xi: Dual,
-    xj: Dual,
-    di: Dual,
-    dj: Dual,
-    dij: Dual,
-    z2: Dual,
-    f: Dual,
-) -> Dual
-    ensures at_mixed { let F = mixed_functions port in
-        mixed_of result ≡ non_additive_ij mixed F (mixed_of rho_s) (mixed_of xi) (mixed_of xj) (mixed_of di) (mixed_of dj) (mixed_of dij) (mixed_of z2) (mixed_of f) }
-    ensures at_one { let F = mixed_functions port in
-        mixed_of result ≡ non_additive_ij mixed_one F (mixed_of rho_s) (mixed_of xi) (mixed_of xj) (mixed_of di) (mixed_of dj) (mixed_of dij) (mixed_of z2) (mixed_of f) }
-{
-    let a = slopes::times(di + dj, 0.5);
-    let g = g_hs(di, dj, z2, f);
-    let b = -rho_s * xi * xj;
-    let c = b * a.pow_up(2) * g;
-    slopes::times(slopes::times(c * (a - dij), 2.0), PI)
+    Ok(saftvrqmie_hard_sphere::hard_sphere_of(z, z23, l))
 }
 
 pub fn segment_density(n: usize, rho: &[f64], rho_slopes: &[f64], m: &[f64; SIDE]) -> Dual
@@ -299,7 +205,7 @@ fn non_additive_column(
         let di = diameter(table, table_slopes, SIDE * i + i);
         let dj = diameter(table, table_slopes, SIDE * j + j);
         let dij = diameter(table, table_slopes, SIDE * i + j);
-        let v = non_additive_ij(rho_s, xs[i], xs[j], di, dj, dij, z2, f);
+        let v = saftvrqmie_hard_sphere::non_additive_ij(rho_s, xs[i], xs[j], di, dj, dij, z2, f);
         r = r + v;
     }
     r
@@ -346,7 +252,7 @@ pub fn non_additive(
         mixed_of result ≡ non_additive mixed_one (mixed_functions port) n rho m d }
 {
     let z = zeta(n, rho, rho_slopes, table, table_slopes, m);
-    let f = frac_1mz3(z.z3);
+    let f = saftvrqmie_hard_sphere::frac_1mz3(z.z3);
     let rho_s = segment_density(n, rho, rho_slopes, m);
     let xs = density_shares(n, rho_s, rho, rho_slopes, m);
     let sum = non_additive_sum(n, xs, table, table_slopes, rho_s, z.z2, f);

@@ -4,3 +4,4 @@ pub mod Orders
 pub mod Parts
 pub mod Prefactor
 pub mod Relation
+pub mod Slopes

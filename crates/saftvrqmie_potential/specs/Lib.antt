@@ -1,2 +1,3 @@
 pub mod Potential
 pub mod Shared
+pub mod Slopes

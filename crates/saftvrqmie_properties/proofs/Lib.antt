@@ -1,2 +1,3 @@
 pub mod Ways
 pub mod Relation
+pub mod Slopes

@@ -20,11 +20,11 @@ pub record PropertiesR {S T : Type 0} (R : S → T → Type 0) (p : PairProperti
   pub zero_count : p.zero_count ≡ q.zero_count
   pub depth_count : p.depth_count ≡ q.depth_count
 
-radius_rel : {S T : Type 0} (R : S → T → Type 0) {s : SearchIn S} {t : SearchIn T} → SearchR R s t → R (radius_of s) (radius_of t)
+pub radius_rel : {S T : Type 0} (R : S → T → Type 0) {s : SearchIn S} {t : SearchIn T} → SearchR R s t → R (radius_of s) (radius_of t)
 radius_rel R (found_both p q) = p
 radius_rel R (spent_both p q) = p
 
-last_rel : {S T : Type 0} (R : S → T → Type 0) {s : SearchIn S} {t : SearchIn T} → SearchR R s t → R (last_of s) (last_of t)
+pub last_rel : {S T : Type 0} (R : S → T → Type 0) {s : SearchIn S} {t : SearchIn T} → SearchR R s t → R (last_of s) (last_of t)
 last_rel R (found_both p q) = q
 last_rel R (spent_both p q) = q
 

@@ -1,31 +1,33 @@
-// The temperature-dependent properties of one pair (saftvrqmie/eos/mod.rs), in floats: what all radii share is worked once.
+// The temperature-dependent properties of one pair (saftvrqmie/eos/mod.rs), in the float run and in the run with slopes (document 02, Slip 1): what all radii share is worked once.
 #![tactic(auto)]
 
-ghost use Rattle.std.specs.Prelude.{◌≡◌};
-ghost use Rattle.number.specs.Arith.{floats};
-ghost use Rattle.number.specs.Functions.{calls};
-ghost use Rattle.elementary.specs.Port.{port};
-ghost use Rattle.saftvrqmie_potential.specs.Potential.{pair_in};
-ghost use Rattle.saftvrqmie_searches.specs.Searches.{search_in};
-ghost use Rattle.saftvrqmie_properties.specs.Properties.{pair_properties_answer, radius_of, last_of, pair_properties};
+ghost use Rattle.std.specs.Prelude.{false, ◌≡◌};
+ghost use Rattle.number.specs.Answer.{answer_by};
+ghost use Rattle.number.specs.Arith.{whole};
+ghost use Rattle.saftvrqmie_potential.specs.Potential.{pair_by, potential};
+ghost use Rattle.saftvrqmie_searches.specs.Searches.{search_by};
+ghost use Rattle.saftvrqmie_properties.specs.Properties.{pair_properties_by, radius_of, last_of, properties_from};
 
-use number::Refusal;
-use saftvrqmie_potential::FloatPair;
-use saftvrqmie_searches::Search;
+use dual_num::DualNum;
+use number::{Arithmetic, Refusal};
+use saftvrqmie_potential::Pair;
+use saftvrqmie_searches::{Search, WithoutEnds};
 
 #[derive(Clone, Copy)]
-pub struct PairProperties {
-    pub sigma_eff: f64,
-    pub hs_diameter: f64,
-    pub epsilon_k_eff: f64,
-    pub quantum_d: f64,
+pub struct PairProperties<D> {
+    pub sigma_eff: D,
+    pub hs_diameter: D,
+    pub epsilon_k_eff: D,
+    pub quantum_d: D,
     pub sigma_count: u8,
     pub zero_count: u8,
     pub depth_count: u8,
 }
 
-pub fn radius(s: Search) -> f64
-    ensures { result ≡ radius_of (search_in s) }
+pub type FloatProperties = PairProperties<f64>;
+
+pub fn radius<D: Copy>(s: Search<D>) -> D
+    ensures { result ≡ radius_of (search_by (λ x. x) s) }
 {
     match s {
         Search::Found(r, u) => r,
@@ -33,8 +35,8 @@ pub fn radius(s: Search) -> f64
     }
 }
 
-pub fn last_potential(s: Search) -> f64
-    ensures { result ≡ last_of (search_in s) }
+pub fn last_potential<D: Copy>(s: Search<D>) -> D
+    ensures { result ≡ last_of (search_by (λ x. x) s) }
 {
     match s {
         Search::Found(r, u) => u,
@@ -42,11 +44,16 @@ pub fn last_potential(s: Search) -> f64
     }
 }
 
-pub fn pair_properties(pair: FloatPair) -> Result<PairProperties, Refusal>
-    ensures { pair_properties_answer result ≡ pair_properties floats (calls floats port) (pair_in pair) }
+// The searches start from D::one() * sigma, a D.
+pub fn pair_properties<D: WithoutEnds>(
+    pair: Pair<D, D::Plain>,
+) -> Result<PairProperties<D>, Refusal>
+    ensures { let U = potential (D.beside false) (D.functions false) (pair_by (D.plain false) (D.of false) pair) in
+        let start = (D.beside false).mul (D.taken false (whole (D.beside false) 1)) (D.plain false pair.sigma) in
+        answer_by (pair_properties_by (D.of false)) result ≡ properties_from (D.beside false) (D.functions false) U start (D.plain false pair.mass) (D.of false pair.temperature) }
 {
     let w = saftvrqmie_potential::share(&pair)?;
-    let sigma = 1.0 * pair.sigma;
+    let sigma = D::lift(D::Plain::lit(1.0)) * pair.sigma;
     let (s, sigma_count) = saftvrqmie_searches::sigma_search(&w, sigma)?;
     let t = pair.temperature;
     let sigma_eff = radius(s);
@@ -54,12 +61,12 @@ pub fn pair_properties(pair: FloatPair) -> Result<PairProperties, Refusal>
     let d = saftvrqmie_searches::diameter_by(&w, t, sigma_eff, radius(z))?;
     let (e, depth_count) = saftvrqmie_searches::depth_search(&w, sigma)?;
     Ok(PairProperties {
-        sigma_eff: sigma_eff,
+        sigma_eff,
         hs_diameter: d,
         epsilon_k_eff: -last_potential(e),
         quantum_d: saftvrqmie_potential::quantum_d(pair.mass, t),
-        sigma_count: sigma_count,
-        zero_count: zero_count,
-        depth_count: depth_count,
+        sigma_count,
+        zero_count,
+        depth_count,
     })
 }

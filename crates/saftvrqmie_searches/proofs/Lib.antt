@@ -1,3 +1,4 @@
 pub mod Loops
 pub mod Nodes
 pub mod Relation
+pub mod Slopes

@@ -24,7 +24,7 @@ pub record CountedR {S T : Type 0} (R : S → T → Type 0) (c : Counted S) (d :
   pub search : SearchR R c.search d.search
   pub count : c.count ≡ d.count
 
-counted_r : {S T : Type 0} (R : S → T → Type 0) {c : Counted S} {d : Counted T} → SearchR R c.search d.search → c.count ≡ d.count → CountedR R c d
+pub counted_r : {S T : Type 0} (R : S → T → Type 0) {c : Counted S} {d : Counted T} → SearchR R c.search d.search → c.count ≡ d.count → CountedR R c d
 counted_r R s n = record { search = s; count = n }
 
 module _ (A B : Arith) (K : Rel A B) where

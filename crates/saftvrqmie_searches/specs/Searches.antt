@@ -12,8 +12,6 @@ use Rattle.number.specs.Neighbour.{absolute}
 use Rattle.saftvrqmie_potential.specs.Potential.{PairIn, PotentialIn, potential}
 use Rattle.saftvrqmie_searches.specs.declared.Search.{Search}
 use Rattle.saftvrqmie_searches.specs.declared.Search.TheVariants.{Found, Spent}
-use Rattle.saftvrqmie_searches.specs.declared.SearchKind.{SearchKind}
-use Rattle.saftvrqmie_searches.specs.declared.SearchKind.TheVariants.{Sigma, Zero, Depth}
 
 -- 'found or spent, each with its radius and last potential'
 pub data SearchIn (N : Type 0) : Type 0 where
@@ -25,15 +23,19 @@ pub record Counted (N : Type 0) : Type 0 where
   pub search : SearchIn N
   pub count : ℕ
 
-abbrev pub search_in : Search → SearchIn Float
-search_in (Found r u) = found r u
-search_in (Spent r u) = spent r u
+-- a search whose numbers are read by `of`
+abbrev pub search_by : {D N : Type 0} → (D → N) → Search D → SearchIn N
+search_by of (Found r u) = found (of r) (of u)
+search_by of (Spent r u) = spent (of r) (of u)
 
-abbrev pub counted_in : Search × ℕ → Counted Float
-counted_in (s, n) = record { search = search_in s; count = n }
+abbrev pub counted_by : {D N : Type 0} → (D → N) → Search D × ℕ → Counted N
+counted_by of (s, n) = record { search = search_by of s; count = n }
 
-abbrev pub search_answer : Result (Search × ℕ) Refusal → Ans (Counted Float)
-search_answer = answer_by counted_in
+abbrev pub search_in : Search Float → SearchIn Float
+search_in = search_by (λ x. x)
+
+abbrev pub search_answer : Result (Search Float × ℕ) Refusal → Ans (Counted Float)
+search_answer = answer_by (counted_by (λ x. x))
 
 module _ (A : Arith) where
   open A use {Num, add as ◌⊕◌, mul as ◌⊗◌, div as ◌⊘◌, neg as ⊖◌, lit, val, after}
@@ -99,20 +101,6 @@ module _ (A : Arith) where
 
     unfoldable pub zero_search : Functions Num → Num → Num → Ans (Counted Num)
     zero_search F temperature sigma_eff = searched U (zero_tested F temperature) (zero_step temperature) (sigma_eff ⊗ lit (decimal false 7 1))
-
-  -- the three searches as one, with the logarithm l of EPSILON at hand, for the contracts of helpers alone: what is tested, and the step
-  abbrev pub tested_by : SearchKind → Num → Num → PotentialIn Num → Num
-  tested_by Sigma temperature l v = v.u
-  tested_by Zero temperature l v = zero_value temperature l v
-  tested_by Depth temperature l v = v.u_r
-
-  abbrev pub step_by : SearchKind → Num → Num → PotentialIn Num → Num → Num
-  step_by Sigma temperature r v f = sigma_step r v f
-  step_by Zero temperature r v f = zero_step temperature r v f
-  step_by Depth temperature r v f = depth_step r v f
-
-  unfoldable pub search_by : SearchKind → (Num → Ans (PotentialIn Num)) → Num → Num → Num → Ans (Counted Num)
-  search_by kind U temperature l start = searched U (λ v. held (tested_by kind temperature l v)) (step_by kind temperature) start
 
   module _ (F : Functions Num) (p : PairIn Num) where
     -- `calc_sigma_eff_ij`: from sigma_ij to where u is zero

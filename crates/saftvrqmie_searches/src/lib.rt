@@ -1,17 +1,22 @@
-// The three radius searches of a pair and its diameter (saftvrqmie/eos/hard_sphere.rs), in floats.
+// The three radius searches of a pair and its diameter (saftvrqmie/eos/hard_sphere.rs), in the float run and in the run with slopes: a search leaves by the value alone and carries the slope through its steps (document 02, Slip 1).
 #![tactic(auto)]
 
-ghost use Rattle.std.specs.Prelude.{Float, ◌≡◌, ◌<◌};
-ghost use Rattle.number.specs.Answer.{answer};
+ghost use Rattle.std.specs.Prelude.{Bool, false, ◌≡◌, ◌<◌};
+ghost use Rattle.std.proofs.Common.{rules};
+ghost use Rattle.number.specs.Answer.{answer, answer_by};
+ghost use Rattle.number.specs.Ans.{held};
 ghost use Rattle.number.specs.Arith.{floats};
 ghost use Rattle.number.specs.Functions.{calls, entry};
 ghost use Rattle.elementary.specs.Port.{port};
-ghost use Rattle.saftvrqmie_potential.specs.Potential.{PairIn, pair_in, potential_in, potential};
-ghost use Rattle.saftvrqmie_potential.specs.Shared.{FloatSharing};
-ghost use Rattle.saftvrqmie_searches.specs.Searches.{search_answer, small, clamped, tested_by, step_by, search_by, sigma_search, zero_search, depth_search, sigma_eff, zero_integrand, epsilon_k_eff};
+ghost use Rattle.saftvrqmie_potential.specs.Potential.{PairIn, PotentialIn, pair_in, potential_by, potential};
+ghost use Rattle.saftvrqmie_potential.specs.Shared.{Sharing};
+ghost use Rattle.saftvrqmie_searches.specs.Searches.{search_answer, counted_by, small, clamped, sigma_step, depth_step, zero_step, zero_value, searched, sigma_search, zero_search, depth_search, sigma_eff, zero_integrand, epsilon_k_eff};
+ghost use Rattle.saftvrqmie_searches.specs.Steps.{Tests, Moves};
 ghost use Rattle.saftvrqmie_searches.specs.Diameter.{abscissas, weights, node_turn, diameter_by, diameter};
 
-use number::Refusal;
+use dual::Dual;
+use dual_num::DualNum;
+use number::{Arithmetic, Refusal};
 use saftvrqmie_potential::{FloatPair, QMiePotential, Shared};
 
 // f64::EPSILON
@@ -68,131 +73,12 @@ pub const W_K21: [f64; 21] = [
 
 // The radius and the last potential.
 #[derive(Clone, Copy)]
-pub enum Search {
-    Found(f64, f64),
-    Spent(f64, f64),
+pub enum Search<D> {
+    Found(D, D),
+    Spent(D, D),
 }
 
-// Which of the three searches.
-#[derive(Clone, Copy)]
-enum SearchKind {
-    Sigma,
-    Zero,
-    Depth,
-}
-
-// Whether a search leaves: the tested value is below 1.0e-12 in size.
-fn is_small(x: f64) -> bool
-    ensures { result ≡ small floats x }
-{
-    number::abs(x) < 1.0e-12
-}
-
-// A step above 0.5 in size is multiplied by 0.5 / size, so that its size is 0.5 only to rounding.
-fn clamp(dr: f64) -> f64
-    ensures { result ≡ clamped floats dr }
-{
-    let size = number::abs(dr);
-    if 0.5 < size {
-        return dr * (0.5 / size);
-    }
-    dr
-}
-
-// The value that a search tests; l is the logarithm of EPSILON.
-fn tested(kind: SearchKind, temperature: f64, l: f64, v: QMiePotential<f64>) -> f64
-    ensures { result ≡ tested_by floats kind temperature l (potential_in v) }
-{
-    match kind {
-        SearchKind::Sigma => v.u,
-        SearchKind::Zero => v.u / temperature + l,
-        SearchKind::Depth => v.u_r,
-    }
-}
-
-// The next radius, from the radius, its potential and the tested value.
-fn stepped(kind: SearchKind, temperature: f64, r: f64, v: QMiePotential<f64>, f: f64) -> f64
-    ensures { result ≡ step_by floats kind temperature r (potential_in v) f }
-{
-    match kind {
-        SearchKind::Sigma => r + -v.u / v.u_r,
-        SearchKind::Zero => r + clamp(-(f / (v.u_r / temperature))),
-        SearchKind::Depth => r + -v.u_r / v.u_rr,
-    }
-}
-
-// One search. The logarithm of EPSILON is handed in: it is the same at every evaluation.
-fn radius_search(
-    kind: SearchKind,
-    w: &Shared<f64>,
-    temperature: f64,
-    l: f64,
-    start: f64,
-) -> Result<(Search, u8), Refusal>
-    ensures { (p : PairIn Float) → FloatSharing p w.now → search_answer result ≡ search_by floats kind (potential floats (calls floats port) p) temperature l start }
-{
-    let mut r = start;
-    let mut u = 0.0;
-    for k in 0u8..19u8 {
-        let v = saftvrqmie_potential::potential_at(w, r)?;
-        let f = tested(kind, temperature, l, v);
-        let count = k + 1;
-        if is_small(f) {
-            return Ok((Search::Found(r, v.u), count));
-        }
-        r = stepped(kind, temperature, r, v, f);
-        u = v.u;
-    }
-    Ok((Search::Spent(r, u), 20))
-}
-
-// The three searches from what a pair's radii share.
-pub fn sigma_search(w: &Shared<f64>, sigma: f64) -> Result<(Search, u8), Refusal>
-    ensures { (p : PairIn Float) → FloatSharing p w.now → search_answer result ≡ sigma_search floats (potential floats (calls floats port) p) sigma }
-{
-    radius_search(SearchKind::Sigma, w, 0.0, 0.0, sigma)
-}
-
-pub fn zero_search(
-    w: &Shared<f64>,
-    temperature: f64,
-    sigma_eff: f64,
-) -> Result<(Search, u8), Refusal>
-    ensures { (p : PairIn Float) → FloatSharing p w.now → search_answer result ≡ zero_search floats (potential floats (calls floats port) p) (calls floats port) temperature sigma_eff }
-{
-    let l = elementary::ln(EPSILON)?;
-    radius_search(SearchKind::Zero, w, temperature, l, sigma_eff * 0.7)
-}
-
-pub fn depth_search(w: &Shared<f64>, sigma: f64) -> Result<(Search, u8), Refusal>
-    ensures { (p : PairIn Float) → FloatSharing p w.now → search_answer result ≡ depth_search floats (potential floats (calls floats port) p) sigma }
-{
-    radius_search(SearchKind::Depth, w, 0.0, 0.0, sigma)
-}
-
-// `calc_sigma_eff_ij`.
-pub fn calc_sigma_eff(pair: FloatPair) -> Result<(Search, u8), Refusal>
-    ensures { search_answer result ≡ sigma_eff floats (calls floats port) (pair_in pair) }
-{
-    let w = saftvrqmie_potential::share(&pair)?;
-    sigma_search(&w, 1.0 * pair.sigma)
-}
-
-// `zero_integrand`.
-pub fn zero_integrand(pair: FloatPair, sigma_eff: f64) -> Result<(Search, u8), Refusal>
-    ensures { search_answer result ≡ zero_integrand floats (calls floats port) (pair_in pair) sigma_eff }
-{
-    let w = saftvrqmie_potential::share(&pair)?;
-    zero_search(&w, pair.temperature, sigma_eff)
-}
-
-// `calc_epsilon_k_eff_ij`; epsilon_k_eff is minus the last potential.
-pub fn calc_epsilon_k_eff(pair: FloatPair) -> Result<(Search, u8), Refusal>
-    ensures { search_answer result ≡ epsilon_k_eff floats (calls floats port) (pair_in pair) }
-{
-    let w = saftvrqmie_potential::share(&pair)?;
-    depth_search(&w, 1.0 * pair.sigma)
-}
+pub type FloatSearch = Search<f64>;
 
 // The tables' entries; beyond the nodes 0. A match, since a table read at a variable place would be rebuilt at every node.
 pub fn abscissa(k: usize) -> f64
@@ -253,32 +139,198 @@ pub fn weight(k: usize) -> f64
     }
 }
 
-// One node's part, added. Nothing reads the derivatives there.
-fn node(
-    w: &Shared<f64>,
-    temperature: f64,
-    sigma_eff: f64,
-    r0: f64,
-    k: usize,
-    d_hs: f64,
-) -> Result<f64, Refusal>
-    requires { k < 21 }
-    ensures { (p : PairIn Float) → FloatSharing p w.now → answer result ≡ node_turn floats (calls floats port) (potential floats (calls floats port) p) temperature sigma_eff r0 k d_hs }
-{
-    let width = (sigma_eff - r0) * 0.5;
-    let r = width * abscissa(k) + width + r0;
-    let u = saftvrqmie_potential::u_at(w, r)?;
-    let e = elementary::exp(-u / temperature)?;
-    Ok(d_hs + width * (-e + 1.0) * weight(k))
+// Numbers of a run without ends: a node of the rule is one float, and work that nothing uses does not count.
+pub trait WithoutEnds: DualNum {
+    fn abscissa(k: usize) -> Self::Plain
+        ensures { (w : Bool) → Self.plain w result ≡ entry (Self.functions w) abscissas k };
+
+    fn weight(k: usize) -> Self::Plain
+        ensures { (w : Bool) → Self.plain w result ≡ entry (Self.functions w) weights k };
+
+    ghost after_law: { (w : Bool) (u x : (Self.beside w).Num) → (Self.beside w).after u x ≡ x };
 }
 
-pub fn diameter_by(
-    w: &Shared<f64>,
-    temperature: f64,
-    sigma_eff: f64,
-    r0: f64,
-) -> Result<f64, Refusal>
-    ensures { (p : PairIn Float) → FloatSharing p w.now → answer result ≡ diameter_by floats (calls floats port) (potential floats (calls floats port) p) temperature sigma_eff r0 }
+impl WithoutEnds for f64 {
+    fn abscissa(k: usize) -> f64 {
+        abscissa(k)
+    }
+
+    fn weight(k: usize) -> f64 {
+        weight(k)
+    }
+
+    ghost after_law = { Prim.search rules };
+}
+
+impl WithoutEnds for Dual {
+    fn abscissa(k: usize) -> f64 {
+        abscissa(k)
+    }
+
+    fn weight(k: usize) -> f64 {
+        weight(k)
+    }
+
+    ghost after_law = { Prim.search rules };
+}
+
+// Whether a search leaves: the tested value is below 1.0e-12 in size, whatever its slope.
+fn is_small<D: DualNum>(x: D) -> bool
+    ensures { (w : Bool) → result ≡ small (D.beside w) (D.of w x) }
+{
+    number::abs(x.re()) < 1.0e-12
+}
+
+// A step above 0.5 in size is multiplied by the plain number 0.5 / size, so that its size is 0.5 only to rounding.
+fn clamp<D: DualNum>(dr: D) -> D
+    ensures { (w : Bool) → D.of w result ≡ clamped (D.beside w) (D.of w dr) }
+{
+    let size = number::abs(dr.re());
+    if 0.5 < size {
+        return dr * D::Plain::lit(0.5 / size);
+    }
+    dr
+}
+
+// The three steps, each from a radius and its potential, and the value that the zero search tests; l is the logarithm of EPSILON.
+fn sigma_step<D: DualNum>(r: D, v: QMiePotential<D>, f: D) -> D
+    ensures { (w : Bool) → D.of w result ≡ sigma_step (D.beside w) (D.of w r) (potential_by (D.of w) v) (D.of w f) }
+{
+    r + -v.u / v.u_r
+}
+
+fn depth_step<D: DualNum>(r: D, v: QMiePotential<D>, f: D) -> D
+    ensures { (w : Bool) → D.of w result ≡ depth_step (D.beside w) (D.of w r) (potential_by (D.of w) v) (D.of w f) }
+{
+    r + -v.u_r / v.u_rr
+}
+
+fn zero_value<D: DualNum>(temperature: D, l: D::Plain, v: QMiePotential<D>) -> D
+    ensures { (w : Bool) → D.of w result ≡ zero_value (D.beside w) (D.of w temperature) (D.plain w l) (potential_by (D.of w) v) }
+{
+    v.u / temperature + l
+}
+
+fn zero_step<D: DualNum>(temperature: D, r: D, v: QMiePotential<D>, f: D) -> D
+    ensures { (w : Bool) → D.of w result ≡ zero_step (D.beside w) (D.of w temperature) (D.of w r) (potential_by (D.of w) v) (D.of w f) }
+{
+    r + clamp(-(f / (v.u_r / temperature)))
+}
+
+// One search: what is tested of a potential, and the next radius from the radius, its potential and the tested value.
+fn radius_search<D: WithoutEnds, T: Fn(QMiePotential<D>) -> D, M: Fn(D, QMiePotential<D>, D) -> D>(
+    w: &Shared<D>,
+    start: D,
+    tested: T,
+    moved: M,
+) -> Result<(Search<D>, u8), Refusal>
+    requires tested { T.IsAlwaysCallable tested }
+    requires moved { M.IsAlwaysCallable moved }
+    ensures { (p : PairIn (D.beside false).Num) (t : PotentialIn (D.beside false).Num → (D.beside false).Num) (m : (D.beside false).Num → PotentialIn (D.beside false).Num → (D.beside false).Num → (D.beside false).Num)
+        → Sharing (D.beside false) (D.functions false) (D.plain false) (D.power_at false) (D.power_by false) (D.of false) D.exponent_in p w.now
+        → Tests (D.of false) (T.post tested) t → Moves (D.of false) (M.post moved) m
+        → answer_by (counted_by (D.of false)) result ≡ searched (D.beside false) (potential (D.beside false) (D.functions false) p) (λ v. held (t v)) m (D.of false start) }
+{
+    let mut r = start;
+    let mut u = start;
+    for k in 0u8..19u8 {
+        let v = saftvrqmie_potential::potential_at(w, r)?;
+        let f = tested(v);
+        let count = k + 1;
+        if is_small(f) {
+            return Ok((Search::Found(r, v.u), count));
+        }
+        r = moved(r, v, f);
+        u = v.u;
+    }
+    Ok((Search::Spent(r, u), 20))
+}
+
+// The three searches from what a pair's radii share.
+pub fn sigma_search<D: WithoutEnds>(w: &Shared<D>, sigma: D) -> Result<(Search<D>, u8), Refusal>
+    ensures { (p : PairIn (D.beside false).Num) → Sharing (D.beside false) (D.functions false) (D.plain false) (D.power_at false) (D.power_by false) (D.of false) D.exponent_in p w.now
+        → answer_by (counted_by (D.of false)) result ≡ sigma_search (D.beside false) (potential (D.beside false) (D.functions false) p) (D.of false sigma) }
+{
+    radius_search(w, sigma, |v| v.u, |r, v, f| sigma_step(r, v, f))
+}
+
+pub fn zero_search<D: WithoutEnds>(
+    w: &Shared<D>,
+    temperature: D,
+    sigma_eff: D,
+) -> Result<(Search<D>, u8), Refusal>
+    ensures { (p : PairIn (D.beside false).Num) → Sharing (D.beside false) (D.functions false) (D.plain false) (D.power_at false) (D.power_by false) (D.of false) D.exponent_in p w.now
+        → answer_by (counted_by (D.of false)) result ≡ zero_search (D.beside false) (potential (D.beside false) (D.functions false) p) (D.functions false) (D.of false temperature) (D.of false sigma_eff) }
+{
+    let l = D::plain_ln(D::Plain::lit(EPSILON))?;
+    let start = sigma_eff * D::Plain::lit(0.7);
+    radius_search(
+        w,
+        start,
+        |v| zero_value(temperature, l, v),
+        |r, v, f| zero_step(temperature, r, v, f),
+    )
+}
+
+pub fn depth_search<D: WithoutEnds>(w: &Shared<D>, sigma: D) -> Result<(Search<D>, u8), Refusal>
+    ensures { (p : PairIn (D.beside false).Num) → Sharing (D.beside false) (D.functions false) (D.plain false) (D.power_at false) (D.power_by false) (D.of false) D.exponent_in p w.now
+        → answer_by (counted_by (D.of false)) result ≡ depth_search (D.beside false) (potential (D.beside false) (D.functions false) p) (D.of false sigma) }
+{
+    radius_search(w, sigma, |v| v.u_r, |r, v, f| depth_step(r, v, f))
+}
+
+// `calc_sigma_eff_ij`.
+pub fn calc_sigma_eff(pair: FloatPair) -> Result<(FloatSearch, u8), Refusal>
+    ensures { search_answer result ≡ sigma_eff floats (calls floats port) (pair_in pair) }
+{
+    let w = saftvrqmie_potential::share(&pair)?;
+    sigma_search(&w, 1.0 * pair.sigma)
+}
+
+// `zero_integrand`.
+pub fn zero_integrand(pair: FloatPair, sigma_eff: f64) -> Result<(FloatSearch, u8), Refusal>
+    ensures { search_answer result ≡ zero_integrand floats (calls floats port) (pair_in pair) sigma_eff }
+{
+    let w = saftvrqmie_potential::share(&pair)?;
+    zero_search(&w, pair.temperature, sigma_eff)
+}
+
+// `calc_epsilon_k_eff_ij`; epsilon_k_eff is minus the last potential.
+pub fn calc_epsilon_k_eff(pair: FloatPair) -> Result<(FloatSearch, u8), Refusal>
+    ensures { search_answer result ≡ epsilon_k_eff floats (calls floats port) (pair_in pair) }
+{
+    let w = saftvrqmie_potential::share(&pair)?;
+    depth_search(&w, 1.0 * pair.sigma)
+}
+
+// One node's part, added. Nothing reads the derivatives there.
+fn node<D: WithoutEnds>(
+    w: &Shared<D>,
+    temperature: D,
+    sigma_eff: D,
+    r0: D,
+    k: usize,
+    d_hs: D,
+) -> Result<D, Refusal>
+    requires { k < 21 }
+    ensures { (p : PairIn (D.beside false).Num) → Sharing (D.beside false) (D.functions false) (D.plain false) (D.power_at false) (D.power_by false) (D.of false) D.exponent_in p w.now
+        → answer_by (D.of false) result ≡ node_turn (D.beside false) (D.functions false) (potential (D.beside false) (D.functions false) p) (D.of false temperature) (D.of false sigma_eff) (D.of false r0) k (D.of false d_hs) }
+{
+    let width = (sigma_eff - r0) * D::Plain::lit(0.5);
+    let r = width * D::abscissa(k) + width + r0;
+    let u = saftvrqmie_potential::u_at(w, r)?;
+    let e = D::exp(-u / temperature)?;
+    Ok(d_hs + width * (-e + D::Plain::lit(1.0)) * D::weight(k))
+}
+
+pub fn diameter_by<D: WithoutEnds>(
+    w: &Shared<D>,
+    temperature: D,
+    sigma_eff: D,
+    r0: D,
+) -> Result<D, Refusal>
+    ensures { (p : PairIn (D.beside false).Num) → Sharing (D.beside false) (D.functions false) (D.plain false) (D.power_at false) (D.power_by false) (D.of false) D.exponent_in p w.now
+        → answer_by (D.of false) result ≡ diameter_by (D.beside false) (D.functions false) (potential (D.beside false) (D.functions false) p) (D.of false temperature) (D.of false sigma_eff) (D.of false r0) }
 {
     let mut d_hs = r0;
     for k in 0usize..21usize {

@@ -11,7 +11,7 @@ use Rattle.saftvrqmie_parameters.specs.declared.OrderRecord.{OrderRecord}
 use Rattle.saftvrqmie_potential.specs.Potential.{pair_at_entry}
 use Rattle.saftvrqmie.specs.Table.{store, table_finite}
 use Rattle.saftvrqmie_properties.specs.Properties.{PairPropertiesIn}
-use Rattle.saftvrqmie_properties_slopes.specs.Properties.{properties_slope}
+use Rattle.saftvrqmie_properties.specs.Slopes.{properties_slope}
 
 -- of a pair's properties the values alone, or the slopes alone
 abbrev pub parts_of : (DualOf Float → Float) → PairPropertiesIn (DualOf Float) → PairPropertiesIn Float

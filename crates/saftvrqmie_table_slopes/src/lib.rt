@@ -1,4 +1,5 @@
 // The temperature table of a quantum set with slopes (saftvrqmie/eos/mod.rs; document 02, Slip 1): values in one list, their slopes in another.
+// Row and pairs are walked apart from saftvrqmie's: there the second list has counts, bytes in three sheets, here slopes in four.
 #![tactic(auto)]
 
 ghost use Rattle.std.specs.Prelude.{◌≡◌, ◌<◌, ◌≤◌};
@@ -7,22 +8,22 @@ ghost use Rattle.elementary.specs.Port.{port};
 ghost use Rattle.dual.specs.Value.{dual_of};
 ghost use Rattle.mie_parameters.specs.Answer.{outcome};
 ghost use Rattle.slopes_lists.specs.Lists.{SlopedList};
-ghost use Rattle.saftvrqmie.specs.Table.{table_finite};
-ghost use Rattle.saftvrqmie_properties_slopes.specs.Properties.{dual_properties_in};
+ghost use Rattle.saftvrqmie_properties.specs.Properties.{pair_properties_by};
 ghost use Rattle.saftvrqmie_table_slopes.specs.Table.{store_slopes, slopes_row, slopes_pairs, table_slopes_into};
 
 use dual::Dual;
 use number::Refusal;
+use saftvrqmie::all_finite;
 use saftvrqmie_parameters::OrderRecord;
-use saftvrqmie_properties_slopes::DualProperties;
+use saftvrqmie_properties::PairProperties;
 use sizes::table::{EPSILON_K_EFF, HS_DIAMETER, QUANTUM_D};
 use sizes::{SHEET, SHEETS, SIDE, TABLE};
 
-fn store(values: &mut [f64; TABLE], slopes: &mut [f64; TABLE], e: usize, p: DualProperties)
+fn store(values: &mut [f64; TABLE], slopes: &mut [f64; TABLE], e: usize, p: PairProperties<Dual>)
     requires { e < sheet }
     ensures { let old : SlopedList = record { values = values.entry.now; slopes = slopes.old } in
         let new : SlopedList = record { values = values.exit.now; slopes = slopes.new } in
-        new ≡ store_slopes old e (dual_properties_in p) }
+        new ≡ store_slopes old e (pair_properties_by dual_of p) }
 {
     values[e] = p.sigma_eff.re;
     values[HS_DIAMETER + e] = p.hs_diameter.re;
@@ -49,8 +50,8 @@ fn work_row(
         outcome result new ≡ slopes_row port s.now orders (dual_of t) n i old }
 {
     for j in 0usize..n {
-        let pair = saftvrqmie_potential::pair_at(s, orders, t.re, SIDE * i + j);
-        let p = saftvrqmie_properties_slopes::pair_properties(pair, t)?;
+        let pair = saftvrqmie_potential::pair_at(s, orders, t, SIDE * i + j);
+        let p = saftvrqmie_properties::pair_properties(pair)?;
         store(values, slopes, SIDE * i + j, p);
     }
     Ok(())
@@ -73,16 +74,6 @@ fn work_pairs(
         work_row(n, s, orders, t, i, values, slopes)?;
     }
     Ok(())
-}
-
-fn all_finite(values: &[f64; TABLE]) -> bool
-    ensures { result ≡ table_finite values.now }
-{
-    let mut ok = true;
-    for k in 0usize..TABLE {
-        ok = ok & number::is_finite(values[k]);
-    }
-    ok
 }
 
 // The table into two lists of +0: values and slopes. 6 at the first pair that has one, then 7 where a value or a slope is not finite.

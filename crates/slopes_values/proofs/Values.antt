@@ -9,14 +9,13 @@ use Rattle.number.specs.Functions.{Answers, calls}
 use Rattle.dual.specs.Dual.{DualOf, plain_d, duals}
 use Rattle.slopes.specs.Mixed.{Mixed, plain, sloped, as_dual, value_of, mixed, mixed_one}
 use Rattle.slopes.specs.Rules.{mixed_functions, dual_functions}
-use Rattle.saftvrqmie_potential.specs.declared.Pair.{Pair}
-use Rattle.saftvrqmie_potential.specs.Potential.{PotentialIn, potential}
+use Rattle.saftvrqmie_potential.specs.Potential.{PotentialIn, FloatPair, potential}
 use Rattle.saftvrqmie_potential.proofs.Relation.{PotentialR, potential_rel}
-use Rattle.saftvrqmie_potential_slopes.specs.Potential.{mixed_pair, as_duals, potential_slope}
+use Rattle.saftvrqmie_potential.specs.Slopes.{mixed_pair, as_duals, potential_slope}
 use Rattle.saftvrqmie_searches.specs.Searches.{SearchIn, Counted, found, spent, sigma_search, zero_search, depth_search}
 use Rattle.saftvrqmie_searches.proofs.Relation.{SearchR, found_both, spent_both, CountedR}
 use Rattle.saftvrqmie_properties.specs.Properties.{PairPropertiesIn, pair_properties}
-use Rattle.saftvrqmie_properties_slopes.specs.Properties.{dual_pair, properties_slope}
+use Rattle.saftvrqmie_properties.specs.Slopes.{dual_pair, properties_slope}
 use Rattle.saftvrqmie_energies.specs.State.{SheetsIn}
 use Rattle.saftvrqmie_energies.specs.Energies.{EnergiesIn, contributions}
 use Rattle.saftvrqmie_energies.proofs.Relation.{EnergiesR, contributions_rel}
@@ -59,7 +58,7 @@ properties_are : (a : Ans (PairPropertiesIn Float)) (w : PairPropertiesIn Float)
     → a ≡ held (record { sigma_eff = s; hs_diameter = h; epsilon_k_eff = d; quantum_d = q; sigma_count = i; zero_count = j; depth_count = k })
 properties_are a w s h d q i j k e p₁ p₂ p₃ p₄ p₅ p₆ p₇ = rw (p₁, p₂, p₃, p₄, p₅, p₆, p₇) e
 
-module _ (E : Answers) (p : Pair) (t : DualOf Float) where
+module _ (E : Answers) (p : FloatPair) (t : DualOf Float) where
   potential_part : (x : DualOf Float) (u : Float) → R x u → Kept (PotentialR R) (potential_slope E p t x) (potential floats (calls floats E) (pair_at p t) u)
   unfolding potential_slope
   potential_part x u h =

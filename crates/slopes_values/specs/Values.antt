@@ -6,12 +6,11 @@ use Rattle.number.specs.Functions.{Answers, calls}
 use Rattle.dual.specs.Dual.{DualOf, duals}
 use Rattle.slopes.specs.Mixed.{Mixed, value_of, mixed}
 use Rattle.slopes.specs.Rules.{mixed_functions, dual_functions}
-use Rattle.saftvrqmie_potential.specs.declared.Pair.{Pair}
-use Rattle.saftvrqmie_potential.specs.Potential.{PairIn, PotentialIn, potential}
-use Rattle.saftvrqmie_potential_slopes.specs.Potential.{potential_slope}
+use Rattle.saftvrqmie_potential.specs.Potential.{PairIn, PotentialIn, FloatPair, potential}
+use Rattle.saftvrqmie_potential.specs.Slopes.{potential_slope}
 use Rattle.saftvrqmie_searches.specs.Searches.{SearchIn, Counted, found, spent, sigma_search, zero_search, depth_search}
 use Rattle.saftvrqmie_properties.specs.Properties.{PairPropertiesIn, pair_properties}
-use Rattle.saftvrqmie_properties_slopes.specs.Properties.{properties_slope}
+use Rattle.saftvrqmie_properties.specs.Slopes.{properties_slope}
 use Rattle.saftvrqmie_energies.specs.State.{SheetsIn}
 use Rattle.saftvrqmie_energies.specs.Energies.{EnergiesIn, contributions}
 
@@ -66,16 +65,16 @@ sheets_values s =
     }
 
 -- a pair at the value of a temperature
-abbrev pub pair_at : Pair → DualOf Float → PairIn Float
+abbrev pub pair_at : FloatPair → DualOf Float → PairIn Float
 pair_at p t = record { sigma = p.sigma; epsilon_k = p.epsilon_k; c = p.c; lr = p.lr; la = p.la; mass = p.mass; order = p.order; temperature = t.re }
 
 -- the potential, the searches, a pair's properties (the entries of the table, with the counts of the searches) and the contributions
 pub record ValuesKept : Type 0 where
-  pub potential_kept : (E : Answers) (p : Pair) (t r : DualOf Float) (v : PotentialIn (DualOf Float)) → potential_slope E p t r ≡ held v → potential floats (calls floats E) (pair_at p t) r.re ≡ held (potential_values v)
-  pub sigma_kept : (E : Answers) (p : Pair) (t s : DualOf Float) (c : Counted (DualOf Float)) → sigma_search (duals floats) (potential_slope E p t) s ≡ held c → sigma_search floats (potential floats (calls floats E) (pair_at p t)) s.re ≡ held (counted_values c)
-  pub zero_kept : (E : Answers) (p : Pair) (t s : DualOf Float) (c : Counted (DualOf Float)) → zero_search (duals floats) (potential_slope E p t) (dual_functions E) t s ≡ held c
+  pub potential_kept : (E : Answers) (p : FloatPair) (t r : DualOf Float) (v : PotentialIn (DualOf Float)) → potential_slope E p t r ≡ held v → potential floats (calls floats E) (pair_at p t) r.re ≡ held (potential_values v)
+  pub sigma_kept : (E : Answers) (p : FloatPair) (t s : DualOf Float) (c : Counted (DualOf Float)) → sigma_search (duals floats) (potential_slope E p t) s ≡ held c → sigma_search floats (potential floats (calls floats E) (pair_at p t)) s.re ≡ held (counted_values c)
+  pub zero_kept : (E : Answers) (p : FloatPair) (t s : DualOf Float) (c : Counted (DualOf Float)) → zero_search (duals floats) (potential_slope E p t) (dual_functions E) t s ≡ held c
       → zero_search floats (potential floats (calls floats E) (pair_at p t)) (calls floats E) t.re s.re ≡ held (counted_values c)
-  pub depth_kept : (E : Answers) (p : Pair) (t s : DualOf Float) (c : Counted (DualOf Float)) → depth_search (duals floats) (potential_slope E p t) s ≡ held c → depth_search floats (potential floats (calls floats E) (pair_at p t)) s.re ≡ held (counted_values c)
-  pub properties_kept : (E : Answers) (p : Pair) (t : DualOf Float) (v : PairPropertiesIn (DualOf Float)) → properties_slope E p t ≡ held v → pair_properties floats (calls floats E) (pair_at p t) ≡ held (properties_values v)
+  pub depth_kept : (E : Answers) (p : FloatPair) (t s : DualOf Float) (c : Counted (DualOf Float)) → depth_search (duals floats) (potential_slope E p t) s ≡ held c → depth_search floats (potential floats (calls floats E) (pair_at p t)) s.re ≡ held (counted_values c)
+  pub properties_kept : (E : Answers) (p : FloatPair) (t : DualOf Float) (v : PairPropertiesIn (DualOf Float)) → properties_slope E p t ≡ held v → pair_properties floats (calls floats E) (pair_at p t) ≡ held (properties_values v)
   pub contributions_kept : (E : Answers) (s : SheetsIn Mixed) (x rho m : ℕ → Mixed) (t : Mixed) (wanted : Bool) (e : EnergiesIn Mixed) → contributions mixed (mixed_functions E) s x rho m t wanted ≡ held e
       → contributions floats (calls floats E) (sheets_values s) (λ i. value_of (x i)) (λ i. value_of (rho i)) (λ i. value_of (m i)) (value_of t) wanted ≡ held (energies_values e)

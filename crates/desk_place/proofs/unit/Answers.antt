@@ -1,6 +1,7 @@
 -- `desk_place::unit` meets its contract. Assumes nothing.
 use Rattle.desk_place.proofs.Steps.{waits_inside, unit_6, unit_on, worked_6, worked_held, tabled_at}
 use Rattle.desk_place.proofs.Parts.{part_length}
+use Rattle.saftvrqmie_properties.specs.Properties.{properties_by, pair_properties}
 use native.Mathlib.Omega.{arith}
 use borrow.Author.Rules.{rules}
 use Rattle.desk_place.proofs.unit.Goals as goal
@@ -15,6 +16,7 @@ pub pair_here-pair-requires : goal.pair_here-pair-requires
 pair_here-pair-requires c = (c.requires.0, c.requires.1, let h = waits_inside c.args.bytes.now c.requires.2 in let a = h.high in let b = h.row in let d = h.column in omega (arith, a, b, d, c.byte_at-i.ensures, c.byte_at-j.ensures))
 
 pub returns-in-Err : goal.returns-in-Err
+unfolding pair_properties properties_by
 returns-in-Err c = unit_6 (record { floats = c.args.floats.now; bytes = c.args.bytes.now }) _ (worked_6 (record { floats = c.args.floats.now; bytes = c.args.bytes.now }) _ _ _ _ c.byte_at-i.ensures c.byte_at-j.ensures c.pair_here-pair.ensures c.pair_properties.ensures c.in-Err.is)
 
 pub store-requires : goal.store-requires
@@ -24,4 +26,5 @@ pub settle-requires : goal.settle-requires
 settle-requires c = (search rules, c.requires.1, c.requires.2)
 
 pub returns-in-Ok : goal.returns-in-Ok
+unfolding pair_properties properties_by
 returns-in-Ok c = unit_on (record { floats = c.args.floats.now; bytes = c.args.bytes.now }) _ _ _ _ (worked_held (record { floats = c.args.floats.now; bytes = c.args.bytes.now }) _ _ _ _ _ c.byte_at-i.ensures c.byte_at-j.ensures c.pair_here-pair.ensures c.pair_properties.ensures c.in-Ok.is) (tabled_at (record { floats = c.args.floats.now; bytes = c.args.bytes.now }) _ _ _ c.requires.0 c.store.ensures) c.settle.ensures.0 c.settle.ensures.1

@@ -1,5 +1,4 @@
 -- `dual_num::enclosure_raise` meets its contract. Assumes nothing.
-use Rattle.std.proofs.Common.{rules}
 use Rattle.number.specs.Ans.{◌>>=◌}
 use Rattle.number.specs.Answer.{answer}
 use Rattle.number.specs.Functions.{answered₂}

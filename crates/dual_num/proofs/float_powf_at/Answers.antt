@@ -1,5 +1,4 @@
 -- `dual_num::float_powf_at` meets its contract. Assumes nothing.
-use mathlib.Core.Path.{◌∙◌}
 use Rattle.dual_num.proofs.Powers.{float_by}
 use Rattle.dual_num.proofs.float_powf_at.Goals as goal
 

@@ -1,15 +1,14 @@
 -- `saftvrqmie_dispersion_sums_slopes::alpha_row` meets its contract. Assumes nothing.
 use mathlib.Core.Path.{ap, ◌∙◌}
+use mathlib.Core.Bool.{true}
 use Rattle.number.proofs.Walk.{walk_none, walk_next, walk_stop, walk_end, handed_on}
-use Rattle.number.specs.Ans.{held, ◌>>=◌}
-use Rattle.slopes.specs.Mixed.{mixed_one}
-use Rattle.saftvrqmie_dispersion_terms_slopes.specs.Staged.{sloped_answer}
-use Rattle.dual.specs.Value.{dual_of}
+use Rattle.number.specs.Ans.{held}
+use Rattle.slopes.specs.Mixed.{plain, mixed_one}
+use Rattle.saftvrqmie_hard_sphere_slopes.specs.Parts.{mixed_of, mixed_answer}
+use Rattle.saftvrqmie_potential.specs.Potential.{pair_by}
 use Rattle.saftvrqmie_energies.specs.Dispersion.{alpha_row}
 use Rattle.saftvrqmie_energies.proofs.Turns.{alpha_held, alpha_outside}
 use Rattle.saftvrqmie_dispersion_sums_slopes.proofs.Laws.{both_set}
-use Rattle.saftvrqmie_potential.specs.declared.Pair.{Pair}
-use Rattle.saftvrqmie_potential_slopes.specs.Potential.{mixed_pair}
 use borrow.Author.Rules.{rules}
 use Rattle.saftvrqmie_dispersion_sums_slopes.proofs.alpha_row.Goals as goal
 
@@ -17,12 +16,11 @@ pub loop-k-init : goal.loop-k-init
 loop-k-init c = (search rules, search rules, walk_none _ _)
 
 pub returns-in_err-a : goal.returns-in_err-a
-unfolding alpha_row sloped_answer ◌>>=◌
-returns-in_err-a c = rw (handed_on _ c.from_residual.ensures, ← c.loop-k.invariant.0) (walk_stop _ _ _ _ _ _ c.loop-k-test.true c.loop-k.invariant.2 (alpha_outside mixed_one _ _ _ _ _ _ _ _ _ (ap (λ (p : Pair). mixed_pair p (dual_of c.args.t)) c.pair_at-pair.ensures) c.table_entry-s.ensures c.table_entry-depth.ensures c.alpha_ij.ensures.at_one _ (ap sloped_answer c.in_err-a.was)))
+unfolding alpha_row
+returns-in_err-a c = rw (handed_on _ c.from_residual.ensures, ← c.loop-k.invariant.0) (walk_stop _ _ _ _ _ _ c.loop-k-test.true c.loop-k.invariant.2 (alpha_outside mixed_one _ _ _ _ _ _ _ _ _ (ap (pair_by plain mixed_of) c.pair_at-pair.ensures) c.table_entry-s.ensures c.table_entry-depth.ensures (c.alpha_ij.ensures true) _ (ap mixed_answer c.in_err-a.was)))
 
 pub loop-k-preserved : goal.loop-k-preserved
-unfolding sloped_answer ◌>>=◌
-loop-k-preserved c = (c.loop-k.invariant.0, search rules, walk_next _ _ _ _ _ c.loop-k.invariant.2 (alpha_held mixed_one _ _ _ _ _ _ _ _ _ (ap (λ (p : Pair). mixed_pair p (dual_of c.args.t)) c.pair_at-pair.ensures) c.table_entry-s.ensures c.table_entry-depth.ensures c.alpha_ij.ensures.at_one _ (ap sloped_answer c.in_ok-a.was) ∙ ap held (both_set _ _ _ _ _)))
+loop-k-preserved c = (c.loop-k.invariant.0, search rules, walk_next _ _ _ _ _ c.loop-k.invariant.2 (alpha_held mixed_one _ _ _ _ _ _ _ _ _ (ap (pair_by plain mixed_of) c.pair_at-pair.ensures) c.table_entry-s.ensures c.table_entry-depth.ensures (c.alpha_ij.ensures true) _ (ap mixed_answer c.in_ok-a.was) ∙ ap held (both_set _ _ _ _ _)))
 
 pub returns : goal.returns
 unfolding alpha_row

@@ -2,8 +2,7 @@
 use Rattle.dual.specs.Value.{dual_of}
 use mathlib.Core.Path.{◌∙◌}
 use Rattle.number.proofs.Walk.{walk_none, walk_next, walk_stop, walk_end, handed_on}
-use Rattle.number.specs.Ans.{◌>>=◌}
-use Rattle.saftvrqmie_dispersion_terms_slopes.specs.Staged.{sloped_answer}
+use Rattle.saftvrqmie_hard_sphere_slopes.specs.Parts.{mixed_answer}
 use Rattle.number.specs.Arith.{decimal}
 use lib.Ieee.{of_bits}
 use Rattle.saftvrqmie_dispersion_sums_slopes.proofs.Laws.{first_begun}
@@ -15,13 +14,12 @@ pub loop-i-init : goal.loop-i-init
 loop-i-init c = (search rules, walk_none _ _)
 
 pub returns-in_err-next : goal.returns-in_err-next
-unfolding sloped_answer ◌>>=◌ decimal of_bits
-returns-in_err-next c = rw (handed_on _ c.from_residual.ensures) (walk_stop _ _ _ _ _ _ c.loop-i-test.true c.loop-i.invariant.1 (via sloped_answer c.first_row.ensures c.in_err-next.was) ∙ first_begun _ c.plain-a1.ensures c.args.n c.requires.0 c.args.xs c.args.table.now c.args.table_slopes.now c.args.sheets.now c.args.orders (dual_of c.args.t) c.args.w)
+unfolding decimal of_bits
+returns-in_err-next c = rw (handed_on _ c.from_residual.ensures) (walk_stop _ _ _ _ _ _ c.loop-i-test.true c.loop-i.invariant.1 (via mixed_answer c.first_row.ensures c.in_err-next.was) ∙ first_begun _ c.plain-a1.ensures c.args.n c.requires.0 c.args.xs c.args.table.now c.args.table_slopes.now c.args.sheets.now c.args.orders (dual_of c.args.t) c.args.w)
 
 pub loop-i-preserved : goal.loop-i-preserved
-unfolding sloped_answer ◌>>=◌
-loop-i-preserved c = (search rules, walk_next _ _ _ _ _ c.loop-i.invariant.1 (via sloped_answer c.first_row.ensures c.in_ok-next.was))
+loop-i-preserved c = (search rules, walk_next _ _ _ _ _ c.loop-i.invariant.1 (via mixed_answer c.first_row.ensures c.in_ok-next.was))
 
 pub returns : goal.returns
-unfolding sloped_answer ◌>>=◌ decimal of_bits
+unfolding decimal of_bits
 returns c = walk_end _ _ _ _ _ c.loop-i.invariant.0 c.loop-i-test.false c.loop-i.invariant.1 ∙ first_begun _ c.plain-a1.ensures c.args.n c.requires.0 c.args.xs c.args.table.now c.args.table_slopes.now c.args.sheets.now c.args.orders (dual_of c.args.t) c.args.w

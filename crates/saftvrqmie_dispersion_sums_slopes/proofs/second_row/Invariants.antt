@@ -6,9 +6,8 @@ use Rattle.number.specs.Ans.{held}
 use Rattle.elementary.specs.Port.{port}
 use Rattle.slopes.specs.Mixed.{mixed_one}
 use Rattle.slopes.specs.Rules.{mixed_functions}
-use Rattle.saftvrqmie_dispersion_terms_slopes.specs.Staged.{mixed_of}
 use Rattle.dual.specs.Value.{dual_of}
-use Rattle.saftvrqmie_hard_sphere_slopes.specs.Parts.{duals_at, sloped_at}
+use Rattle.saftvrqmie_hard_sphere_slopes.specs.Parts.{mixed_of, duals_at, sloped_at}
 use Rattle.saftvrqmie_dispersion_sums_slopes.specs.State.{mixture_in, sloped_sheets}
 use Rattle.saftvrqmie_energies.specs.Dispersion.{second_pair_turn}
 use Rattle.saftvrqmie_dispersion_sums_slopes.proofs.second_row.Given as goal

@@ -6,8 +6,7 @@ use Rattle.number.specs.Ans.{held}
 use Rattle.elementary.specs.Port.{port}
 use Rattle.slopes.specs.Mixed.{mixed_one}
 use Rattle.slopes.specs.Rules.{mixed_functions}
-use Rattle.saftvrqmie_dispersion_terms_slopes.specs.Staged.{mixed_of}
-use Rattle.saftvrqmie_hard_sphere_slopes.specs.Parts.{duals_at, sloped_at, sloped_sheet}
+use Rattle.saftvrqmie_hard_sphere_slopes.specs.Parts.{mixed_of, duals_at, sloped_at, sloped_sheet}
 use Rattle.saftvrqmie_energies.specs.Dispersion.{third_turn}
 use Rattle.saftvrqmie_dispersion_sums_slopes.proofs.third_row.Given as goal
 

@@ -1,4 +1,5 @@
 -- `saftvrqmie_hard_sphere_slopes::hard_sphere` meets its contract. Assumes nothing.
+use mathlib.Core.Bool.{true, false}
 use Rattle.number.proofs.Walk.{handed_on}
 use lib.Ieee.{of_bits, neg}
 use mathlib.Core.Path.{ap}
@@ -24,6 +25,6 @@ pub returns : goal.returns
 unfolding decimal of_bits neg
 returns c =
     record {
-      at_mixed = hs_held mixed (mixed_functions port) _ _ _ _ _ _ c.zeta-z.ensures.at_mixed _ (ap sloped c.times-v.ensures) _ (at_mixed c.ln_1p.result _ c.ln_1p.ensures) _ _ _ (ap mixed_answer c.in_ok-l.was) c.zeta_23-z23.ensures.at_mixed c.hard_sphere_of.ensures.at_mixed;
-      at_one = hs_held mixed_one (mixed_functions port) _ _ _ _ _ _ c.zeta-z.ensures.at_one _ (ap sloped c.times-v.ensures) _ (at_mixed c.ln_1p.result _ c.ln_1p.ensures) _ _ _ (ap mixed_answer c.in_ok-l.was) c.zeta_23-z23.ensures.at_one c.hard_sphere_of.ensures.at_one;
+      at_mixed = hs_held mixed (mixed_functions port) _ _ _ _ _ _ c.zeta-z.ensures.at_mixed _ (ap sloped c.times-v.ensures) _ (at_mixed c.ln_1p.result _ c.ln_1p.ensures) _ _ _ (ap mixed_answer c.in_ok-l.was) c.zeta_23-z23.ensures.at_mixed (c.hard_sphere_of.ensures false);
+      at_one = hs_held mixed_one (mixed_functions port) _ _ _ _ _ _ c.zeta-z.ensures.at_one _ (ap sloped c.times-v.ensures) _ (at_mixed c.ln_1p.result _ c.ln_1p.ensures) _ _ _ (ap mixed_answer c.in_ok-l.was) c.zeta_23-z23.ensures.at_one (c.hard_sphere_of.ensures true);
     }

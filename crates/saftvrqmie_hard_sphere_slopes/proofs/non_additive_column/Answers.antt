@@ -1,4 +1,5 @@
 -- `saftvrqmie_hard_sphere_slopes::non_additive_column` meets its contract. Assumes nothing.
+use mathlib.Core.Bool.{false}
 use mathlib.Core.Path.{◌∙◌}
 use Rattle.number.proofs.Walk.{turns_none, turns_next, turns_end}
 use Rattle.saftvrqmie_energies.specs.NonAdditive.{non_additive_turn, non_additive_column}
@@ -11,7 +12,7 @@ loop-i-init c = (search rules, turns_none _ _)
 
 pub loop-i-preserved : goal.loop-i-preserved
 unfolding non_additive_turn
-loop-i-preserved c = (search rules, turns_next _ _ _ _ _ c.loop-i.invariant.1 (turn_next _ _ _ _ c.add-r.ensures (rw (c.diameter-di.ensures, c.diameter-dj.ensures, c.diameter-dij.ensures) at c.non_additive_ij-v.ensures.at_mixed)))
+loop-i-preserved c = (search rules, turns_next _ _ _ _ _ c.loop-i.invariant.1 (turn_next _ _ _ _ c.add-r.ensures (rw (c.diameter-di.ensures, c.diameter-dj.ensures, c.diameter-dij.ensures) at (c.non_additive_ij-v.ensures false))))
 
 pub returns : goal.returns
 unfolding non_additive_column

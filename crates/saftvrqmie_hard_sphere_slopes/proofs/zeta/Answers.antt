@@ -1,6 +1,6 @@
 -- `saftvrqmie_hard_sphere_slopes::zeta` meets its contract. Assumes nothing.
+use mathlib.Core.Bool.{false}
 use mathlib.Core.Path.{◌∙◌}
-use Rattle.number.specs.Lists.{at}
 use Rattle.number.proofs.Walk.{turns_none, turns_next, turns_end}
 use lib.Ieee.{of_bits}
 use Rattle.number.specs.Arith.{decimal}
@@ -12,7 +12,7 @@ pub loop-i-init : goal.loop-i-init
 loop-i-init c = (search rules, turns_none _ _)
 
 pub loop-i-preserved : goal.loop-i-preserved
-loop-i-preserved c = (search rules, turns_next _ _ _ _ _ c.loop-i.invariant.1 (rw (c.entry-a.ensures, c.diameter-d.ensures) at c.zeta_added-z.ensures.at_mixed))
+loop-i-preserved c = (search rules, turns_next _ _ _ _ _ c.loop-i.invariant.1 (rw (c.entry-a.ensures, c.diameter-d.ensures) at (c.zeta_added-z.ensures false)))
 
 pub returns : goal.returns
 unfolding decimal of_bits

@@ -6,8 +6,10 @@ use Rattle.saftvrqmie_searches.proofs.clamp.Goals as goal
 
 pub returns-then-size : goal.returns-then-size
 unfolding clamped decimal of_bits
-returns-then-size c = rw (← c.abs-size.ensures, c.if-size.true)
+returns-then-size g c w =
+    let m = g.met.D.DualNum in
+    rw (m.mul_plain_law w _ _ _ c.mul.ensures, m.plain_lit_law w _ _ c.lit.ensures, ← c.re.ensures w, ← c.abs-size.ensures, c.if-size.true)
 
 pub returns : goal.returns
 unfolding clamped decimal of_bits
-returns c = rw (← c.abs-size.ensures, c.if-size.false)
+returns g c w = rw (← c.re.ensures w, ← c.abs-size.ensures, c.if-size.false)

@@ -1,20 +1,21 @@
 -- `saftvrqmie_searches::diameter_by` meets its contract. Assumes nothing.
-use Rattle.saftvrqmie_searches.specs.Diameter.{diameter_by}
-use Rattle.number.specs.Answer.{answer}
-use Rattle.number.proofs.Walk.{via, walk_none, walk_next, walk_stop, walk_end, handed_on}
+use mathlib.Core.Bool.{false}
 use borrow.Author.Rules.{rules}
+use Rattle.number.specs.Answer.{answer_by}
+use Rattle.number.proofs.Walk.{via, walk_none, walk_next, walk_stop, walk_end, handed_on}
+use Rattle.saftvrqmie_searches.specs.Diameter.{diameter_by}
 use Rattle.saftvrqmie_searches.proofs.diameter_by.Goals as goal
 
 pub loop-k-init : goal.loop-k-init
-loop-k-init c = (search rules, λ p h. walk_none _ _)
+loop-k-init g c = (search rules, λ p h. walk_none _ _)
 
 pub returns-in_err-next : goal.returns-in_err-next
 unfolding diameter_by
-returns-in_err-next c = λ p h. rw (handed_on _ c.from_residual.ensures) (walk_stop _ _ _ _ _ _ c.loop-k-test.true (c.loop-k.invariant.1 p h) (via answer (c.node.ensures p h) c.in_err-next.was))
+returns-in_err-next g c = λ p h. rw (handed_on _ c.from_residual.ensures) (walk_stop _ _ _ _ _ _ c.loop-k-test.true (c.loop-k.invariant.1 p h) (via (answer_by (g.D.DualNum.of false)) (c.node.ensures p h) c.in_err-next.was))
 
 pub loop-k-preserved : goal.loop-k-preserved
-loop-k-preserved c = (search rules, λ p h. walk_next _ _ _ _ _ (c.loop-k.invariant.1 p h) (via answer (c.node.ensures p h) c.in_ok-next.was))
+loop-k-preserved g c = (search rules, λ p h. walk_next _ _ _ _ _ (c.loop-k.invariant.1 p h) (via (answer_by (g.D.DualNum.of false)) (c.node.ensures p h) c.in_ok-next.was))
 
 pub returns : goal.returns
 unfolding diameter_by
-returns c = λ p h. walk_end _ _ _ _ _ c.loop-k.invariant.0 c.loop-k-test.false (c.loop-k.invariant.1 p h)
+returns g c = λ p h. walk_end _ _ _ _ _ c.loop-k.invariant.0 c.loop-k-test.false (c.loop-k.invariant.1 p h)

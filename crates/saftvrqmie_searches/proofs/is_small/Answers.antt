@@ -5,4 +5,4 @@ use Rattle.saftvrqmie_searches.proofs.is_small.Goals as goal
 
 pub returns : goal.returns
 unfolding decimal of_bits
-returns c = rw c.abs.ensures
+returns g c w = rw (c.abs.ensures, c.re.ensures w)

@@ -1,17 +1,22 @@
 -- `saftvrqmie_searches::radius_search` meets its contract. Assumes nothing.
-use Rattle.saftvrqmie_searches.proofs.Loops.{On}
-use Rattle.saftvrqmie_searches.specs.Searches.{tested_by, step_by, search_by}
-use Rattle.number.specs.Arith.{floats}
 use Prim.Native.Nat.{◌-◌}
-use Rattle.number.specs.Functions.{calls}
-use Rattle.elementary.specs.Port.{port}
-use Rattle.std.specs.Prelude.{Float}
-use Rattle.saftvrqmie_potential.specs.Potential.{PairIn, potential}
-use Rattle.saftvrqmie_potential.specs.Shared.{FloatSharing}
+use mathlib.Core.Bool.{false}
+use Rattle.number.specs.Ans.{held}
+use Rattle.saftvrqmie_potential.specs.Potential.{PairIn, PotentialIn, potential}
+use Rattle.saftvrqmie_potential.specs.Shared.{Sharing}
+use Rattle.saftvrqmie_searches.specs.Searches.{searched}
+use Rattle.saftvrqmie_searches.specs.Steps.{Tests, Moves}
+use Rattle.saftvrqmie_searches.proofs.Loops.{On}
 use Rattle.saftvrqmie_searches.proofs.radius_search.Given as goal
 
 abbrev pub invariant-loop-k : goal.invariant-loop-k
-invariant-loop-k l = (p : PairIn Float) → FloatSharing p l.w → On (potential floats (calls floats port) p) (tested_by floats l.kind l.temperature l.l) (step_by floats l.kind l.temperature) (search_by floats l.kind (potential floats (calls floats port) p) l.temperature l.l l.start) l.r l.u l.k
+invariant-loop-k g l =
+    let d = g.D.DualNum in
+    let A = d.beside false in
+    (p : PairIn A.Num) (t : PotentialIn A.Num → A.Num) (m : A.Num → PotentialIn A.Num → A.Num → A.Num)
+    → Sharing A (d.functions false) (d.plain false) (d.power_at false) (d.power_by false) (d.of false) d.exponent_in p l.w
+    → Tests (d.of false) (goal.T-post g l.tested) t → Moves (d.of false) (goal.M-post g l.moved) m
+    → On A (potential A (d.functions false) p) t m (searched A (potential A (d.functions false) p) (λ v. held (t v)) m (d.of false l.fn.start)) (d.of false l.r) (d.of false l.u) l.k
 
 abbrev pub decreases-loop-k : goal.decreases-loop-k
-decreases-loop-k l = 19 - l.k
+decreases-loop-k g l = 19 - l.k

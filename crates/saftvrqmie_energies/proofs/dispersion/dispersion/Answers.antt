@@ -1,6 +1,7 @@
 -- `saftvrqmie_energies::dispersion::dispersion` meets its contract. Assumes nothing.
 use Rattle.mie_parameters.proofs.Laws.{held_at, refused_at}
 use mathlib.Core.Path.{refl}
+use mathlib.Core.Bool.{true}
 use Rattle.number.specs.Answer.{answer}
 use Rattle.saftvrqmie_energies.specs.Dispersion.{alphas}
 use Rattle.saftvrqmie_energies.proofs.Turns.{no_alphas, no_first, no_second, no_third, dispersion_is}
@@ -33,4 +34,4 @@ segment_density-n_s-requires c = (c.requires.0, c.requires.3)
 
 pub returns : goal.returns
 unfolding alphas decimal of_bits
-returns c = dispersion_is floats _ _ _ _ _ _ _ c.segment_fractions-xs.ensures _ c.mixture-w.ensures _ (held_at _ _ _ c.alphas_of.ensures c.in_ok-alphas_of.was) _ (via answer c.first.ensures c.in_ok-a1.was) _ (via answer c.second.ensures c.in_ok-a2.was) _ _ _ _ (via answer c.third.ensures c.in_ok-a3.was) c.segment_density-n_s.ensures c.perturbation.ensures refl
+returns c = dispersion_is floats _ _ _ _ _ _ _ c.segment_fractions-xs.ensures _ c.mixture-w.ensures _ (held_at _ _ _ c.alphas_of.ensures c.in_ok-alphas_of.was) _ (via answer c.first.ensures c.in_ok-a1.was) _ (via answer c.second.ensures c.in_ok-a2.was) _ _ _ _ (via answer c.third.ensures c.in_ok-a3.was) c.segment_density-n_s.ensures (c.orders_sum.ensures true) refl

@@ -6,6 +6,7 @@ use lib.Ieee.{of_bits}
 use Rattle.number.specs.Ans.{◌>>=◌}
 use Rattle.number.proofs.Walk.{via, walk_none, walk_next, walk_stop, walk_end, handed_on}
 use borrow.Author.Rules.{rules}
+use mathlib.Core.Bool.{true}
 use Rattle.saftvrqmie_energies.proofs.dispersion.second.Goals as goal
 
 pub loop-i-init : goal.loop-i-init
@@ -20,4 +21,4 @@ loop-i-preserved c = (search rules, walk_next _ _ _ _ _ c.loop-i.invariant.1 (vi
 
 pub returns : goal.returns
 unfolding second ◌>>=◌ decimal of_bits
-returns c = rw (← (walk_end _ _ _ _ _ c.loop-i.invariant.0 c.loop-i-test.false c.loop-i.invariant.1), c.k-k.ensures)
+returns c = rw (← (walk_end _ _ _ _ _ c.loop-i.invariant.0 c.loop-i-test.false c.loop-i.invariant.1), c.k-k.ensures true)

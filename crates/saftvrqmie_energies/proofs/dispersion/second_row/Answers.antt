@@ -5,6 +5,7 @@ use Rattle.saftvrqmie_energies.proofs.Turns.{second_held, second_outside}
 use Rattle.number.specs.Arith.{floats, decimal}
 use lib.Ieee.{of_bits}
 use mathlib.Core.Path.{refl, ap}
+use mathlib.Core.Bool.{true}
 use Rattle.number.proofs.Walk.{walk_none, walk_next, walk_stop, walk_end, handed_on}
 use borrow.Author.Rules.{rules}
 use Rattle.saftvrqmie_energies.proofs.dispersion.second_row.Goals as goal
@@ -18,7 +19,7 @@ returns-in_err-v c = rw (handed_on _ c.from_residual.ensures, ← c.loop-k.invar
 
 pub loop-k-preserved : goal.loop-k-preserved
 unfolding decimal of_bits
-loop-k-preserved c = (c.loop-k.invariant.0, search rules, walk_next _ _ _ _ _ c.loop-k.invariant.2 (second_held floats _ _ _ _ _ _ _ _ _ c.perturbed_pair-pair.ensures _ c.second_order_perturbation_ij.ensures _ _ _ _ _ (ap answer c.in_ok-v.was) c.lead.ensures c.chi-chi.ensures refl refl))
+loop-k-preserved c = (c.loop-k.invariant.0, search rules, walk_next _ _ _ _ _ c.loop-k.invariant.2 (second_held floats _ _ _ _ _ _ _ _ _ c.perturbed_pair-pair.ensures _ c.second_order_perturbation_ij.ensures _ _ _ _ _ (ap answer c.in_ok-v.was) (c.lead.ensures true) (c.chi-chi.ensures true) refl refl))
 
 pub returns : goal.returns
 unfolding second_row

@@ -2,6 +2,7 @@
 use Rattle.number.proofs.Walk.{handed_on}
 use Rattle.number.specs.Answer.{answer}
 use mathlib.Core.Path.{refl, ap}
+use mathlib.Core.Bool.{true}
 use Rattle.saftvrqmie_energies.proofs.Turns.{hs_outside, hs_held, called}
 use Rattle.number.specs.Arith.{decimal, floats}
 use lib.Ieee.{of_bits, neg}
@@ -13,4 +14,4 @@ returns-in_err-l c = rw (handed_on _ c.from_residual.ensures) (hs_outside floats
 
 pub returns : goal.returns
 unfolding decimal of_bits neg
-returns c = hs_held floats _ _ _ _ _ _ _ c.zeta-z.ensures _ refl _ (called _ _ c.ln_1p.ensures) _ _ _ (ap answer c.in_ok-l.was) c.zeta_23-z23.ensures c.hard_sphere_of.ensures
+returns c = hs_held floats _ _ _ _ _ _ _ c.zeta-z.ensures _ refl _ (called _ _ c.ln_1p.ensures) _ _ _ (ap answer c.in_ok-l.was) c.zeta_23-z23.ensures (c.hard_sphere_of.ensures true)

@@ -1,5 +1,5 @@
 -- `saftvrqmie_energies::hard_sphere::zeta` meets its contract. Assumes nothing.
-use Rattle.saftvrqmie_energies.specs.HardSphere.{zeta_in, zeta_added}
+use Rattle.saftvrqmie_hard_sphere.specs.HardSphere.{zeta_in, zeta_added}
 use Rattle.number.specs.Arith.{floats}
 use Rattle.elementary.specs.Port.{port}
 use Rattle.number.specs.Functions.{calls}

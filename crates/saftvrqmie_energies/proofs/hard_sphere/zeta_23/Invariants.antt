@@ -1,5 +1,5 @@
 -- `saftvrqmie_energies::hard_sphere::zeta_23` meets its contract. Assumes nothing.
-use Rattle.saftvrqmie_energies.specs.HardSphere.{zeta23_in, zeta23_added}
+use Rattle.saftvrqmie_hard_sphere.specs.HardSphere.{zeta23_in, zeta23_added}
 use Rattle.number.specs.Arith.{floats}
 use Prim.Native.Nat.{◌≤◌, ◌-◌}
 use mathlib.Core.Path.{◌≡◌}

@@ -1,7 +1,7 @@
 -- `saftvrqmie_energies_ends::alphas::alphas` meets its contract. Assumes nothing.
 use Rattle.number.proofs.Walk.{walk_none, walk_next, walk_stop, walk_end, handed_on}
 use native.Mathlib.Omega.{arith}
-use Rattle.saftvrqmie_energies.specs.Dispersion.{alpha_row, alphas}
+use Rattle.saftvrqmie_energies.specs.Dispersion.{alphas}
 use Rattle.mie_parameters.proofs.Laws.{held_at, refused_at}
 use borrow.Author.Rules.{rules}
 use Rattle.saftvrqmie_energies_ends.proofs.alphas.alphas.Goals as goal

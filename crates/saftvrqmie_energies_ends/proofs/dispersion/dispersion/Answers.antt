@@ -1,4 +1,5 @@
 -- `saftvrqmie_energies_ends::dispersion::dispersion` meets its contract. Assumes nothing.
+use mathlib.Core.Bool.{true}
 use Rattle.interval.specs.Interval as Ends
 use Rattle.enclosure.specs.Enclosure.{enclosures, point}
 use Rattle.number.proofs.Walk.{via, handed_on}
@@ -38,4 +39,4 @@ pub segment_density-n_s-requires : goal.segment_density-n_s-requires
 segment_density-n_s-requires c = (c.requires.0, c.requires.3)
 
 pub returns : goal.returns
-returns c = dispersion_is enclosures _ _ _ _ _ _ _ c.segment_fractions-xs.ensures _ c.mixture-w.ensures _ (held_at _ _ _ c.alphas.ensures.0 c.in_ok-alphas.was) _ (via answer c.first.ensures c.in_ok-a1.was) _ (via answer c.second.ensures c.in_ok-a2.was) _ _ _ _ (via answer c.third.ensures c.in_ok-a3.was) c.segment_density-n_s.ensures (rw c.point-p.ensures at c.perturbation.ensures) c.mul.ensures
+returns c = dispersion_is enclosures _ _ _ _ _ _ _ c.segment_fractions-xs.ensures _ c.mixture-w.ensures _ (held_at _ _ _ c.alphas.ensures.0 c.in_ok-alphas.was) _ (via answer c.first.ensures c.in_ok-a1.was) _ (via answer c.second.ensures c.in_ok-a2.was) _ _ _ _ (via answer c.third.ensures c.in_ok-a3.was) c.segment_density-n_s.ensures (rw c.point-p.ensures at (c.orders_sum.ensures true)) c.mul.ensures

@@ -6,7 +6,7 @@ use Rattle.number.specs.Answer.{answer}
 use lib.Ieee.{of_bits}
 use Rattle.number.specs.Arith.{decimal}
 use native.Mathlib.Omega.{arith}
-use Rattle.saftvrqmie_energies.specs.Dispersion.{first_row, first}
+use Rattle.saftvrqmie_energies.specs.Dispersion.{first}
 use borrow.Author.Rules.{rules}
 use Rattle.saftvrqmie_energies_ends.proofs.dispersion.first.Goals as goal
 

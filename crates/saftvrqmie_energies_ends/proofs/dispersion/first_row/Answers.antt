@@ -1,6 +1,7 @@
 -- `saftvrqmie_energies_ends::dispersion::first_row` meets its contract. Assumes nothing.
 use Rattle.number.specs.Answer.{answer}
 use mathlib.Core.Path.{ap}
+use mathlib.Core.Bool.{true}
 use Rattle.enclosure.specs.Enclosure.{enclosures}
 use Rattle.number.proofs.Walk.{walk_none, walk_next, walk_stop, walk_end, handed_on}
 use native.Mathlib.Omega.{arith}
@@ -14,7 +15,7 @@ loop-k-init c = (search rules, search rules, walk_none _ _)
 
 pub returns-in_err-v : goal.returns-in_err-v
 unfolding first_row
-returns-in_err-v c = rw (handed_on _ c.from_residual.ensures, ← c.loop-k.invariant.0) (walk_stop _ _ _ _ _ _ c.loop-k-test.true c.loop-k.invariant.2 (first_outside enclosures _ _ _ _ _ _ _ _ _ c.perturbed_pair-pair.ensures c.first_order_perturbation_ij.ensures _ (ap answer c.in_err-v.was)))
+returns-in_err-v c = rw (handed_on _ c.from_residual.ensures, ← c.loop-k.invariant.0) (walk_stop _ _ _ _ _ _ c.loop-k-test.true c.loop-k.invariant.2 (first_outside enclosures _ _ _ _ _ _ _ _ _ c.perturbed_pair-pair.ensures (c.first_order_perturbation_ij.ensures true) _ (ap answer c.in_err-v.was)))
 
 pub at_component-xi-requires : goal.at_component-xi-requires
 at_component-xi-requires c = omega (arith, c.loop-k-test.true, c.loop-k.invariant.0, c.requires.0, c.requires.2)
@@ -35,7 +36,7 @@ pub loop-k-smaller : goal.loop-k-smaller
 loop-k-smaller c = omega (arith, c.loop-k-test.true)
 
 pub loop-k-preserved : goal.loop-k-preserved
-loop-k-preserved c = (c.loop-k.invariant.0, omega (arith, c.loop-k-test.true), walk_next _ _ _ _ _ c.loop-k.invariant.2 (first_held enclosures _ _ _ _ _ _ _ _ _ c.perturbed_pair-pair.ensures c.first_order_perturbation_ij.ensures _ _ _ (ap answer c.in_ok-v.was) (rw (c.entry_of-d.ensures, c.at_component-xi.ensures, c.at_component-xj.ensures) at c.lead-c.ensures) c.plus_product-a1.ensures))
+loop-k-preserved c = (c.loop-k.invariant.0, omega (arith, c.loop-k-test.true), walk_next _ _ _ _ _ c.loop-k.invariant.2 (first_held enclosures _ _ _ _ _ _ _ _ _ c.perturbed_pair-pair.ensures (c.first_order_perturbation_ij.ensures true) _ _ _ (ap answer c.in_ok-v.was) (rw (c.entry_of-d.ensures, c.at_component-xi.ensures, c.at_component-xj.ensures) at (c.lead-c.ensures true)) c.plus_product-a1.ensures))
 
 pub returns : goal.returns
 unfolding first_row

@@ -1,12 +1,13 @@
 -- `saftvrqmie_energies_ends::dispersion::second` meets its contract. Assumes nothing.
 use mathlib.Core.Path.{◌∙◌, ap}
+use mathlib.Core.Bool.{true}
 use Rattle.number.specs.Answer.{answer}
 use Rattle.number.specs.Ans.{held, ◌>>=◌}
 use Rattle.number.proofs.Walk.{walk_none, walk_next, walk_stop, walk_end, via, handed_on}
 use lib.Ieee.{of_bits}
 use Rattle.number.specs.Arith.{decimal}
 use native.Mathlib.Omega.{arith}
-use Rattle.saftvrqmie_energies.specs.Dispersion.{second_row, second}
+use Rattle.saftvrqmie_energies.specs.Dispersion.{second}
 use borrow.Author.Rules.{rules}
 use Rattle.saftvrqmie_energies_ends.proofs.dispersion.second.Goals as goal
 
@@ -32,4 +33,4 @@ loop-i-preserved c = (omega (arith, c.loop-i-test.true), walk_next _ _ _ _ _ c.l
 
 pub returns : goal.returns
 unfolding second ◌>>=◌
-returns c = rw (← (walk_end _ _ _ _ _ c.loop-i.invariant.0 c.loop-i-test.false c.loop-i.invariant.1), c.mul.ensures, c.k-k.ensures)
+returns c = rw (← (walk_end _ _ _ _ _ c.loop-i.invariant.0 c.loop-i-test.false c.loop-i.invariant.1), c.mul.ensures, c.k-k.ensures true)

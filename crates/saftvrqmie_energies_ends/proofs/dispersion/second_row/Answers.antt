@@ -1,5 +1,6 @@
 -- `saftvrqmie_energies_ends::dispersion::second_row` meets its contract. Assumes nothing.
 use mathlib.Core.Path.{ap}
+use mathlib.Core.Bool.{true}
 use Rattle.number.specs.Answer.{answer}
 use Rattle.enclosure.specs.Enclosure.{enclosures}
 use Rattle.number.proofs.Walk.{walk_none, walk_next, walk_stop, walk_end, handed_on}
@@ -46,7 +47,7 @@ loop-k-smaller c = omega (arith, c.loop-k-test.true)
 
 pub loop-k-preserved : goal.loop-k-preserved
 unfolding decimal of_bits
-loop-k-preserved c = (c.loop-k.invariant.0, omega (arith, c.loop-k-test.true), walk_next _ _ _ _ _ c.loop-k.invariant.2 (second_held enclosures _ _ _ _ _ _ _ _ _ c.perturbed_pair-pair.ensures _ c.second_order_perturbation_ij.ensures _ _ _ _ _ (ap answer c.in_ok-v.was) (rw (c.entry_of-d.ensures, c.at_component-xi.ensures, c.at_component-xj.ensures) at c.lead-c.ensures) (rw c.alpha_at-a.ensures at c.chi-chi.ensures) (rw (c.add.ensures, c.point-one.ensures) at c.mul-f.ensures) c.plus_product-a2.ensures))
+loop-k-preserved c = (c.loop-k.invariant.0, omega (arith, c.loop-k-test.true), walk_next _ _ _ _ _ c.loop-k.invariant.2 (second_held enclosures _ _ _ _ _ _ _ _ _ c.perturbed_pair-pair.ensures _ c.second_order_perturbation_ij.ensures _ _ _ _ _ (ap answer c.in_ok-v.was) (rw (c.entry_of-d.ensures, c.at_component-xi.ensures, c.at_component-xj.ensures) at (c.lead-c.ensures true)) (rw c.alpha_at-a.ensures at (c.chi-chi.ensures true)) (rw (c.add.ensures, c.point-one.ensures) at c.mul-f.ensures) c.plus_product-a2.ensures))
 
 pub returns : goal.returns
 unfolding second_row

@@ -6,7 +6,7 @@ use Rattle.number.proofs.Walk.{walk_none, walk_next, walk_stop, walk_end, via, h
 use lib.Ieee.{of_bits}
 use Rattle.number.specs.Arith.{decimal}
 use native.Mathlib.Omega.{arith}
-use Rattle.saftvrqmie_energies.specs.Dispersion.{third_row, third}
+use Rattle.saftvrqmie_energies.specs.Dispersion.{third}
 use borrow.Author.Rules.{rules}
 use Rattle.saftvrqmie_energies_ends.proofs.dispersion.third.Goals as goal
 

@@ -2,6 +2,7 @@
 use Rattle.number.specs.Answer.{answer}
 use Rattle.number.proofs.Walk.{via, handed_on}
 use Rattle.number.specs.Ans.{◌>>=◌}
+use mathlib.Core.Bool.{true}
 use lib.Ieee.{of_bits, neg}
 use Rattle.number.specs.Arith.{decimal}
 use Rattle.saftvrqmie_energies_ends.specs.Parts.{hard_sphere_at}
@@ -13,4 +14,4 @@ returns-in_err-l c = rw (handed_on _ c.from_residual.ensures, ← c.point.ensure
 
 pub returns : goal.returns
 unfolding hard_sphere_at ◌>>=◌ decimal of_bits neg
-returns c = rw (← c.point.ensures, ← c.mul-v.ensures, via answer c.ln_1p.ensures c.in_ok-l.was, ← c.zeta_23-z23.ensures, ← c.hard_sphere_of.ensures)
+returns c = rw (← c.point.ensures, ← c.mul-v.ensures, via answer c.ln_1p.ensures c.in_ok-l.was, ← c.zeta_23-z23.ensures, ← c.hard_sphere_of.ensures true)

@@ -7,8 +7,7 @@ use Rattle.number.specs.Arith.{whole}
 use Rattle.elementary.specs.Port.{port}
 use Rattle.number.specs.Functions.{calls}
 use Rattle.saftvrqmie_energies.specs.State.{points, sheet_of, diagonal}
-use Rattle.saftvrqmie_energies.specs.HardSphere.{zeta_added}
-use Rattle.saftvrqmie_energies_ends.specs.Parts.{zeta_in}
+use Rattle.saftvrqmie_hard_sphere.specs.HardSphere.{zeta_in, zeta_added}
 use Rattle.saftvrqmie_energies_ends.proofs.hard_sphere.zeta.Given as goal
 
 abbrev pub invariant-loop-i : goal.invariant-loop-i

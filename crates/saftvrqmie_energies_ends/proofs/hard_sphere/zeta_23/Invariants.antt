@@ -5,8 +5,7 @@ use Rattle.enclosure.specs.Enclosure.{enclosures}
 use Rattle.number.specs.Walk.{turns}
 use Rattle.number.specs.Arith.{whole}
 use Rattle.saftvrqmie_energies.specs.State.{points, sheet_of, diagonal}
-use Rattle.saftvrqmie_energies.specs.HardSphere.{zeta23_added}
-use Rattle.saftvrqmie_energies_ends.specs.Parts.{zeta23_in}
+use Rattle.saftvrqmie_hard_sphere.specs.HardSphere.{zeta23_in, zeta23_added}
 use Rattle.saftvrqmie_energies_ends.proofs.hard_sphere.zeta_23.Given as goal
 
 abbrev pub invariant-loop-i : goal.invariant-loop-i

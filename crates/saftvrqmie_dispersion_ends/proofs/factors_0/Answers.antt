@@ -1,9 +1,0 @@
--- `saftvrqmie_dispersion_ends::factors_0` meets its contract. Assumes nothing.
-use lib.Ieee.{of_bits, neg}
-use Rattle.number.specs.Arith.{decimal}
-use Rattle.saftvrqmie_dispersion.specs.Perturbation.{factors0}
-use Rattle.saftvrqmie_dispersion_ends.proofs.factors_0.Goals as goal
-
-pub returns : goal.returns
-unfolding factors0 decimal of_bits neg
-returns c = rw (c.mul.ensures, c.neg.ensures, c.point-two.ensures, c.point-one.ensures)

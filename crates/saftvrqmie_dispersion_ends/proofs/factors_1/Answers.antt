@@ -1,9 +1,0 @@
--- `saftvrqmie_dispersion_ends::factors_1` meets its contract. Assumes nothing.
-use lib.Ieee.{of_bits, neg}
-use Rattle.number.specs.Arith.{decimal}
-use Rattle.saftvrqmie_dispersion.specs.Perturbation.{factors1}
-use Rattle.saftvrqmie_dispersion_ends.proofs.factors_1.Goals as goal
-
-pub returns : goal.returns
-unfolding factors1 decimal of_bits neg
-returns c = rw (c.neg.ensures, c.add.ensures, c.mul-afac.ensures, c.mul-rfac.ensures, c.point-two.ensures)

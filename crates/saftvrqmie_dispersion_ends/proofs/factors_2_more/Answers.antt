@@ -1,9 +1,0 @@
--- `saftvrqmie_dispersion_ends::factors_2_more` meets its contract. Assumes nothing.
-use lib.Ieee.{of_bits, neg}
-use Rattle.number.specs.Arith.{decimal}
-use Rattle.saftvrqmie_dispersion.specs.Perturbation.{factors2_more}
-use Rattle.saftvrqmie_dispersion_ends.proofs.factors_2_more.Goals as goal
-
-pub returns : goal.returns
-unfolding factors2_more decimal of_bits neg
-returns c = rw (c.add-4.ensures, c.mul-3.ensures, c.neg.ensures, c.add-3.ensures, c.add-2.ensures, c.mul-2.ensures, c.add.ensures, c.mul.ensures, c.point-two.ensures)

@@ -1,0 +1,2 @@
+pub mod HardSphere
+pub mod NonAdditive

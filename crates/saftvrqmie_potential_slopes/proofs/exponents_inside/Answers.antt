@@ -1,9 +1,0 @@
--- `saftvrqmie_potential_slopes::exponents_inside` meets its contract. Assumes nothing.
-use Rattle.saftvrqmie_potential_slopes.specs.Staged.{exponents_inside}
-use lib.Ieee.{of_bits}
-use Rattle.number.specs.Arith.{decimal}
-use Rattle.saftvrqmie_potential_slopes.proofs.exponents_inside.Goals as goal
-
-pub returns : goal.returns
-unfolding exponents_inside decimal of_bits
-returns c = rw (c.if_wanted-2.ensures, c.if_wanted.ensures, c.both_inside-5.ensures, c.both_inside-4.ensures, c.both_inside-3.ensures, c.both_inside-2.ensures, c.both_inside.ensures, c.both_inside-at4.ensures, c.both_inside-at2.ensures)

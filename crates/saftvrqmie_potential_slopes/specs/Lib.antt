@@ -1,2 +1,0 @@
-pub mod Potential
-pub mod Staged

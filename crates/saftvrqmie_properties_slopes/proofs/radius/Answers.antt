@@ -1,8 +1,0 @@
--- `saftvrqmie_properties_slopes::radius` meets its contract. Assumes nothing.
-use Rattle.saftvrqmie_properties_slopes.proofs.radius.Goals as goal
-
-pub returns-in-Found : goal.returns-in-Found
-returns-in-Found c = rw c.in-Found.is
-
-pub returns-in-Spent : goal.returns-in-Spent
-returns-in-Spent c = rw c.in-Spent.is

@@ -1,7 +1,0 @@
--- `saftvrqmie_searches_slopes::sigma_search` meets its contract. Assumes nothing.
-use Rattle.saftvrqmie_searches_slopes.proofs.Loops.{sigma_by}
-use mathlib.Core.Path.{◌∙◌}
-use Rattle.saftvrqmie_searches_slopes.proofs.sigma_search.Goals as goal
-
-pub returns : goal.returns
-returns c = c.radius_search.ensures ∙ sigma_by _ _ _ _
