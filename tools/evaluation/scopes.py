@@ -287,7 +287,7 @@ class Names:
         inner = Block(block, found)
         self.declarations(file, inner, s.below)
         for name, kind in inner.names.items():  # seen from outside the block too
-            if kind[0] == "definition":
+            if kind[0] == "definition" or kind[0] == "type" and len(kind) == 4:
                 if name in block.names:
                     s.refuse(f"a name that the block outside has already, `{name}`")
                 block.names[name] = kind

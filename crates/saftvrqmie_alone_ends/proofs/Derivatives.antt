@@ -435,8 +435,11 @@ module _ {p : PairIn Enclosure} {s : EnclosureShared} (h : EnclosureSharing p s)
   by_base z above true e = held_alone h z r e (upward r.value e (and_r (lt one64 r.value) (fits binary64 r.value) above) (and_l (lt one64 r.value) (fits binary64 r.value) above))
   by_base z above false e = rw (base_outside (λ b. b.base.inside) enclosure_raised enclosure_power_is h (enclosure_is r) e)
 
+  pub alone_is : T (tame_of s) → T (above_one r.value) → u_after (potential enclosures (calls enclosures port) p r) ≡ alone (potential enclosures (calls enclosures port) p r)
+  alone_is t above = by_base (tamed s t) above (base_inside r.value) refl
+
   -- the code's way
-  pub alone_is : {tame above : Bool} → tame ≡ tame_of s → above ≡ above_one r.value → (tame && above) ≡ true → {a : Ans Enclosure} → a ≡ alone (potential enclosures (calls enclosures port) p r) → a ≡ u_after (potential enclosures (calls enclosures port) p r)
-  alone_is {tame = tame} {above = above} e f t q =
+  pub worked_alone : {tame above : Bool} → tame ≡ tame_of s → above ≡ above_one r.value → (tame && above) ≡ true → {a : Ans Enclosure} → a ≡ alone (potential enclosures (calls enclosures port) p r) → a ≡ u_after (potential enclosures (calls enclosures port) p r)
+  worked_alone {tame = tame} {above = above} e f t q =
       let k = subst T (sym t) tt in
-      q ∙ sym (by_base (tamed s (subst T e (and_l tame above k))) (subst T f (and_r tame above k)) (base_inside r.value) refl)
+      q ∙ sym (alone_is (subst T e (and_l tame above k)) (subst T f (and_r tame above k)))

@@ -3,16 +3,10 @@ use Rattle.std.specs.Prelude.{ℕ, Float}
 use Rattle.number.specs.Ans.{Ans}
 use Rattle.number.specs.Functions.{Answers, calls}
 use Rattle.enclosure.specs.declared.Ends.{Ends}
-use Rattle.enclosure.specs.declared.Enclosure.{Enclosure}
 use Rattle.enclosure.specs.Enclosure.{enclosures}
 use Rattle.enclosure.specs.Ends.{ends_of}
 use Rattle.saftvrqmie_parameters.specs.declared.SaftVRQMiePars.{SaftVRQMiePars}
-use Rattle.saftvrqmie_searches.specs.Diameter.{width_from}
 use Rattle.saftvrqmie.specs.Pairs.{diameter_run, diameter_ij_by}
-
--- half of what the rule goes over (for a helper's contract)
-abbrev pub width_of : Enclosure → Enclosure → Enclosure
-width_of sigma_eff r0 = width_from enclosures sigma_eff r0
 
 -- whatever the elementary functions answer; the float operation is that of `hs_diameter_ij`
 unfoldable pub diameter_ends : Answers → SaftVRQMiePars → ℕ → ℕ → Float → Float → Float → Ans Ends

@@ -38,8 +38,9 @@ exponents_inside exponent_in first second r a =
     && cond second (inside r.e4 a.e4 && (inside r.e5 a.e5 && inside r.e6 a.e6)) true)
 
 -- an exponent stands for a number: its power of each base is that at the number
-abbrev pub Stands : {B E N : Type 0} → (B → N → Ans N) → (B → E → Ans N) → E → N → Type 0
-Stands {B = B} power_at power_by n e = (b : B) → power_by b n ≡ power_at b e
+module _ {B E N : Type 0} where
+  abbrev pub Stands : (B → N → Ans N) → (B → E → Ans N) → E → N → Type 0
+  Stands power_at power_by n e = (b : B) → power_by b n ≡ power_at b e
 
 -- ---- what is shared: plain numbers read by `plain`, others by `of`, and the powers of a base at a number or by an exponent
 module _ (A : Arith) (F : Functions A.Num) {D P B E : Type 0} (plain : P → A.Num) (power_at : B → A.Num → Ans A.Num) (power_by : B → E → Ans A.Num) where

@@ -5,11 +5,11 @@ use Rattle.number.specs.Answer.{answer_by}
 use Rattle.number.proofs.Walk.{via, handed_on}
 use Rattle.saftvrqmie_potential.specs.Potential.{potential_by}
 use Rattle.saftvrqmie_alone_ends.specs.Alone.{u_after}
-use Rattle.saftvrqmie_alone_ends.proofs.Derivatives.{alone_is}
+use Rattle.saftvrqmie_alone_ends.proofs.Derivatives.{worked_alone}
 use Rattle.saftvrqmie_alone_ends.proofs.u_after.Goals as goal
 
 pub returns-then-tame-above_one : goal.returns-then-tame-above_one
-returns-then-tame-above_one c = λ p h e. alone_is h c.args.r e c.above_one.ensures c.if-tame-above_one.true (c.u_at.ensures true p h)
+returns-then-tame-above_one c = λ p h e. worked_alone h c.args.r e c.above_one.ensures c.if-tame-above_one.true (c.u_at.ensures true p h)
 
 pub returns-in_err-v : goal.returns-in_err-v
 unfolding u_after ◌>>=◌
