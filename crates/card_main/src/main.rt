@@ -82,36 +82,34 @@ const WORDS: usize = 300;
 const RECORD: usize = 8 * WORDS;
 
 fn quantum_card(f: &[f64], order: &[u8], room: &mut [u8], length: &mut usize) -> u8 {
-    let answer = card_of_lists::vrq_card(
-        whole_at(f, 0),
-        list(f, 9),
-        list(f, 10),
-        list(f, 11),
-        list(f, 12),
-        list(f, 13),
-        list(f, 14),
-        order,
-        list(f, 15),
-        list(f, 16),
-        room,
-        length,
-    );
+    let lists = saftvrqmie_parameters::ComponentLists {
+        count: whole_at(f, 0),
+        m: list(f, 9),
+        sigma: list(f, 10),
+        epsilon_k: list(f, 11),
+        lr: list(f, 12),
+        la: list(f, 13),
+        mass: list(f, 14),
+        fh: order,
+        k_ij: list(f, 15),
+        l_ij: list(f, 16),
+    };
+    let answer = card_of_lists::vrq_card(&lists, room, length);
     mie_parameters::number(answer)
 }
 
 fn mie_card(f: &[f64], room: &mut [u8], length: &mut usize) -> u8 {
-    let answer = card_of_lists::vr_card(
-        whole_at(f, 0),
-        list(f, 9),
-        list(f, 10),
-        list(f, 11),
-        list(f, 12),
-        list(f, 13),
-        list(f, 15),
-        list(f, 16),
-        room,
-        length,
-    );
+    let lists = saftvrmie_parameters::ComponentLists {
+        count: whole_at(f, 0),
+        m: list(f, 9),
+        sigma: list(f, 10),
+        epsilon_k: list(f, 11),
+        lr: list(f, 12),
+        la: list(f, 13),
+        k_ij: list(f, 15),
+        gamma_ij: list(f, 16),
+    };
+    let answer = card_of_lists::vr_card(&lists, room, length);
     mie_parameters::number(answer)
 }
 

@@ -8,7 +8,7 @@ use crate::record::{Record, WORDS};
 use crate::tally::Operation;
 use number::{Refusal, bits_of};
 use records::{floats, part, word};
-use saftvrmie_parameters::SaftVRMiePars;
+use saftvrmie_parameters::{ComponentLists, SaftVRMiePars};
 use sizes::{SHEET, SHEETS, SIDE};
 
 #[derive(Drop)]
@@ -50,16 +50,16 @@ fn parameters(record: &Record) -> Result<SaftVRMiePars, Refusal> {
     let e = d + record.length(9);
     let f = e + record.length(10);
     let g = f + record.length(11);
-    saftvrmie_parameters::saft_vr_mie_pars(
-        record.word(2) as usize,
-        part(&l, 0, b),
-        part(&l, b, record.length(7)),
-        part(&l, c, record.length(8)),
-        part(&l, d, record.length(9)),
-        part(&l, e, record.length(10)),
-        part(&l, f, record.length(11)),
-        part(&l, g, record.length(12)),
-    )
+    saftvrmie_parameters::saft_vr_mie_pars(&ComponentLists {
+        count: record.word(2) as usize,
+        m: part(&l, 0, b),
+        sigma: part(&l, b, record.length(7)),
+        epsilon_k: part(&l, c, record.length(8)),
+        lr: part(&l, d, record.length(9)),
+        la: part(&l, e, record.length(10)),
+        k_ij: part(&l, f, record.length(11)),
+        gamma_ij: part(&l, g, record.length(12)),
+    })
 }
 
 impl Mie {

@@ -8,7 +8,7 @@ use crate::record::{Record, WORDS};
 use crate::tally::Operation;
 use number::{Refusal, bits_of};
 use records::{floats, part, word};
-use saftvrqmie_parameters::{FeynmanHibbsOrder, OrderRecord, SaftVRQMiePars};
+use saftvrqmie_parameters::{ComponentLists, FeynmanHibbsOrder, OrderRecord, SaftVRQMiePars};
 use sizes::{COUNTS, SHEET, SHEETS, SIDE, TABLE};
 
 #[derive(Drop)]
@@ -59,18 +59,18 @@ fn parameters(record: &Record) -> Result<SaftVRQMiePars, Refusal> {
     let h = g + record.length(12);
     let i = h + record.length(13);
     let orders = orders_from(&record.list, 8 * i);
-    saftvrqmie_parameters::saft_vrq_mie_pars(
-        record.word(2) as usize,
-        part(&l, 0, b),
-        part(&l, b, record.length(7)),
-        part(&l, c, record.length(8)),
-        part(&l, d, record.length(9)),
-        part(&l, e, record.length(10)),
-        part(&l, f, record.length(11)),
-        part(&orders, 0, record.length(14)),
-        part(&l, g, record.length(12)),
-        part(&l, h, record.length(13)),
-    )
+    saftvrqmie_parameters::saft_vrq_mie_pars(&ComponentLists {
+        count: record.word(2) as usize,
+        m: part(&l, 0, b),
+        sigma: part(&l, b, record.length(7)),
+        epsilon_k: part(&l, c, record.length(8)),
+        lr: part(&l, d, record.length(9)),
+        la: part(&l, e, record.length(10)),
+        mass: part(&l, f, record.length(11)),
+        fh: part(&orders, 0, record.length(14)),
+        k_ij: part(&l, g, record.length(12)),
+        l_ij: part(&l, h, record.length(13)),
+    })
 }
 
 impl Quantum {
@@ -140,7 +140,7 @@ impl Quantum {
             Of::Lists => put(&mut self.set.m, place.index, bits),
             Of::Sheets => put(&mut self.set.sheets, place.index, bits),
             Of::Orders => {
-                let order = saftvrqmie_parameters::order_of((bits & 0xff) as u8);
+                let order = FeynmanHibbsOrder::from((bits & 0xff) as u8);
                 if let Some(record) = self.set.orders.get_mut(place.index) {
                     *record = OrderRecord { order };
                 }
