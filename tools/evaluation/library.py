@@ -35,6 +35,10 @@ def leading_zeros(k, n):
     return max(0, k - n.bit_length())
 
 
+def from_le_bytes(width, xs):
+    return int.from_bytes(bytes(xs[:width]), "little")
+
+
 # ---- floats, binary64 alone
 TOP, HID, ONES, LOW = 2**63, 2**52, 2047, 1074
 
@@ -197,6 +201,7 @@ NATIVE = {
         "from_bits": (2, "of_bits({0}, {1})"), "to_bits": (2, "to_bits({0}, {1})"), "is_nan": (1, "({0} != {0})"),
     },
     "Rattle.std.specs.Bool": {"beq": (2, "({0} is {1})")},
+    "Rattle.std.specs.Int": {"w64": (0, "8"), "from_le_bytes": (2, "from_le_bytes({0}, {1})")},
     "Rattle.std.specs.Int.Count": {"count_leading_zeros": (2, "leading_zeros({0}, {1})")},
     OPTION: {"none": (0, "('none',)"), "some": (1, "('some', {0})")},
     FLOAT: {"binary64": (0, "BINARY64"), "nan": (0, "NAN"), "inf": (1, "inf({0})"), "fin": (3, "fin({0}, {1}, {2})")},
@@ -229,7 +234,7 @@ PATTERN = {
     f"{OPTION}.none": ("{0}[0] == 'none'", []), f"{OPTION}.some": ("{0}[0] == 'some'", ["{0}[1]"]),
 }
 NAMES = {
-    "minus": minus, "quotient": quotient, "remainder": remainder, "get_or": get_or, "set_at": set_at, "leading_zeros": leading_zeros,
+    "minus": minus, "quotient": quotient, "remainder": remainder, "get_or": get_or, "set_at": set_at, "leading_zeros": leading_zeros, "from_le_bytes": from_le_bytes,
     "of_bits": of_bits, "to_bits": to_bits, "round64": round64, "of_int": of_int, "add": add, "sub": sub, "mul": mul, "div": div, "fits": fits,
     "parts": parts, "fin": fin, "inf": inf, "up": up, "down": down, "same": same, "both": both, "isfinite": math.isfinite, "isinf": math.isinf,
     "NAN": math.nan, "BINARY64": ("binary64",), "Stated": Stated, "Refused": Refused, "cache": functools.cache,

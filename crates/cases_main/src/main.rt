@@ -1,13 +1,15 @@
 // Works the calls of data/cases.bin on the C boundary and compares the number and every bit of what was lent with the file's. The file is lines of four words, least significant byte first; docs/VECTORS.md says which. Writes each case's name and number, what differs, and how many.
 #![tactic(auto)]
 
-ghost use Rattle.std.specs.Prelude.{◌<◌, ◌≤◌};
-
 mod mie;
 mod quantum;
 
+use case_arguments::{number_at, signed, whole_at};
+use number::{bits_of, of_bits};
+use records::{Records, word};
+use rounded_sum::rounded_sum;
 use std::fs::File;
-use std::io::{self, ErrorKind, Read};
+use std::io;
 
 // ---- lines
 
@@ -16,349 +18,185 @@ const FLOATS: usize = 2080;
 
 const BYTES: usize = 448;
 
-fn wide(x: u8) -> u64
-    ensures { result < 256 }
-{
-    x as u64
-}
+type Line = [u8; 32];
 
-fn half(a: u8, b: u8, c: u8, d: u8) -> u64
-    ensures { result < 4294967296 }
-{
-    wide(a) + 256 * wide(b) + 65536 * wide(c) + 16777216 * wide(d)
-}
-
-// A word of a line.
-fn word(b: &[u8; 32], k: usize) -> u64 {
-    if 4 <= k {
-        return 0;
-    }
-    let i = 8 * k;
-    half(b[i], b[i + 1], b[i + 2], b[i + 3])
-        + 4294967296 * half(b[i + 4], b[i + 5], b[i + 6], b[i + 7])
-}
-
-// Whether a place is one of so many from one on.
-fn inside(k: u64, from: u64, times: u64) -> bool {
-    if k < from {
-        return false;
-    }
-    k - from < times
-}
-
-// The line's bits into its places of a list.
-fn fill(l: &mut [f64; FLOATS], line: &[u8; 32]) {
-    let from = word(line, 1);
-    let times = word(line, 2);
-    let x = number::of_bits(word(line, 3));
-    for k in 0usize..FLOATS {
-        if inside(k as u64, from, times) {
-            l[k] = x;
-        }
+// A line's last word into its places of a list.
+fn fill<T: Copy>(list: &mut [T], line: &Line, x: T) {
+    let from = word(line, 1) as usize;
+    let times = word(line, 2) as usize;
+    for place in list.iter_mut().skip(from).take(times) {
+        *place = x;
     }
 }
 
-fn fill_bytes(l: &mut [u8; BYTES], line: &[u8; 32]) {
-    let from = word(line, 1);
-    let times = word(line, 2);
-    let x = line[24];
-    for k in 0usize..BYTES {
-        if inside(k as u64, from, times) {
-            l[k] = x;
-        }
+// The lists that a call is lent, or what is to be left there.
+#[derive(Clone, Copy)]
+struct Lists {
+    first: [f64; FLOATS],
+    second: [f64; FLOATS],
+    bytes: [u8; BYTES],
+}
+
+fn no_lists() -> Lists {
+    Lists {
+        first: [0.0; FLOATS],
+        second: [0.0; FLOATS],
+        bytes: [0u8; BYTES],
     }
 }
 
-// The 24 bytes after the first word.
-fn name(rt: &impl Print, line: &[u8]) -> io::Result<()> {
-    if line.len() == 32 {
-        rt.write_all(&line[8..32])?;
-    }
-    Ok(())
+#[derive(Drop)]
+struct Case {
+    floats: [f64; FLOATS],
+    bytes: [u8; BYTES],
+    lent: Lists,
+    left: Lists,
 }
 
-fn written(rt: &impl Print, line: &[u8; 32]) -> io::Result<()> {
-    name(rt, line)
-}
-
-// What a line says of what is read: 0 a name's next 24 bytes, 1 floats, 2 bytes.
-fn put_read(
-    rt: &impl Print,
-    line: &[u8; 32],
-    f: &mut [f64; FLOATS],
-    b: &mut [u8; BYTES],
-) -> io::Result<()> {
-    let kind = word(line, 0);
-    match kind {
-        0 => {
-            written(rt, line)?;
-        }
-        1 => {
-            fill(f, line);
-        }
-        2 => {
-            fill_bytes(b, line);
-        }
-        _ => {}
-    }
-    Ok(())
-}
-
-// What a line says of what is lent: 3 and 4 floats, 5 bytes.
-fn put_lent(line: &[u8; 32], x: &mut [f64; FLOATS], y: &mut [f64; FLOATS], z: &mut [u8; BYTES]) {
-    let kind = word(line, 0);
-    match kind {
+// Takes in a line other than a name's or a call's: what is read, what is lent, or what is to be left.
+fn put(case: &mut Case, line: &Line) {
+    let x = of_bits(word(line, 3));
+    let byte = line[24];
+    match word(line, 0) {
+        1 => fill(&mut case.floats, line, x),
+        2 => fill(&mut case.bytes, line, byte),
         3 => {
-            fill(x, line);
+            fill(&mut case.lent.first, line, x);
+            fill(&mut case.left.first, line, x);
         }
         4 => {
-            fill(y, line);
+            fill(&mut case.lent.second, line, x);
+            fill(&mut case.left.second, line, x);
         }
         5 => {
-            fill_bytes(z, line);
+            fill(&mut case.lent.bytes, line, byte);
+            fill(&mut case.left.bytes, line, byte);
         }
-        _ => {}
-    }
-}
-
-// What is to be left: what is lent, until 6, 7, 8 say otherwise.
-fn put_left(line: &[u8; 32], x: &mut [f64; FLOATS], y: &mut [f64; FLOATS], z: &mut [u8; BYTES]) {
-    let kind = word(line, 0);
-    match kind {
-        3 | 6 => {
-            fill(x, line);
-        }
-        4 | 7 => {
-            fill(y, line);
-        }
-        5 | 8 => {
-            fill_bytes(z, line);
-        }
+        6 => fill(&mut case.left.first, line, x),
+        7 => fill(&mut case.left.second, line, x),
+        8 => fill(&mut case.left.bytes, line, byte),
         _ => {}
     }
 }
 
 // ---- numbers
 
-fn remainder(x: f64, y: f64) -> f64 {
-    let r = rounded_sum::rounded_sum(x, y);
-    r.remainder
-}
-
 // What cannot be refused.
-fn plain(f: &[f64], x: &mut [f64]) -> u8 {
-    let which = case_arguments::whole_at(f, 0);
-    let a = case_arguments::number_at(f, 6);
-    let b = case_arguments::number_at(f, 7);
-    let r = match which {
-        1 => domthelv::domthelv_powi(
-            a,
-            case_arguments::signed(case_arguments::whole_at(f, 7) as u64),
-        ),
-        2 => number::pow_up(
-            a,
-            case_arguments::short(case_arguments::whole_at(f, 7) as u64),
-        ),
+fn plain(f: &[f64]) -> f64 {
+    let a = number_at(f, 6);
+    let b = number_at(f, 7);
+    let n = whole_at(f, 7) as u64;
+    match whole_at(f, 0) {
+        1 => domthelv::domthelv_powi(a, signed(n)),
+        2 => number::pow_up(a, u32::try_from(n).unwrap_or(0)),
         3 => number::next_up(a),
         4 => number::next_down(a),
         5 => number::least(a, b),
         6 => number::greatest(a, b),
         7 => number::abs(a),
-        8 => remainder(a, b),
+        8 => rounded_sum(a, b).remainder,
         _ => a,
-    };
-    case_arguments::store(x, r);
-    0
+    }
 }
 
-fn worked(f: &[f64], b: &[u8], x: &mut [f64], y: &mut [f64], z: &mut [u8]) -> u8 {
-    let which = case_arguments::whole_at(f, 0);
-    if which < 16 {
-        return plain(f, x);
+// The number at the C boundary; None where no call has the case's number.
+fn worked(f: &[f64], b: &[u8], x: &mut [f64], y: &mut [f64], z: &mut [u8]) -> Option<u8> {
+    match whole_at(f, 0) {
+        0..16 => {
+            if let Some(x) = x.first_mut() {
+                *x = plain(f);
+            }
+            Some(0)
+        }
+        16..32 => quantum::quantum(f, b, x, y, z),
+        _ => mie::mie(f, x, y),
     }
-    if which < 32 {
-        return quantum::quantum(f, b, x, y, z);
-    }
-    mie::mie(f, x, y)
+}
+
+// The call on the lists that are lent, cut to their lengths. Several fields lent at once behind a reference are not covered by the borrow checker's proof.
+fn called(case: &mut Case) -> Option<u8> {
+    let f = case.floats;
+    let mut first = case.lent.first;
+    let mut second = case.lent.second;
+    let mut bytes = case.lent.bytes;
+    let x = first.get_mut(..whole_at(&f, 25))?;
+    let y = second.get_mut(..whole_at(&f, 26))?;
+    let z = bytes.get_mut(..whole_at(&f, 27))?;
+    let answer = worked(&f, &case.bytes, x, y, z);
+    case.lent = Lists {
+        first,
+        second,
+        bytes,
+    };
+    answer
 }
 
 // ---- a case
 
-// The first place that differs; past the last where there is none.
-fn other_float(a: &[f64; FLOATS], b: &[f64; FLOATS]) -> usize {
-    for k in 0usize..FLOATS {
-        if number::bits_of(a[k]) != number::bits_of(b[k]) {
-            return k;
-        }
-    }
-    FLOATS
-}
-
-fn other_byte(a: &[u8; BYTES], b: &[u8; BYTES]) -> usize {
-    for k in 0usize..BYTES {
-        if a[k] != b[k] {
-            return k;
-        }
-    }
-    BYTES
-}
-
-// What is given at a place of a list, and what is not.
-fn differs(rt: &impl Print, label: &str, at: usize, given: u64, expected: u64) -> io::Result<()> {
-    println!(rt; "{label}{at}: {given:016x}, not {expected:016x}")
-}
-
-fn same_number(rt: &impl Print, given: u8, f: &[f64; FLOATS]) -> io::Result<bool> {
-    let expected = case_arguments::whole_at(f, 1) as u64;
-    if wide(given) == expected {
-        return Ok(true);
-    }
-    differs(
-        rt,
-        "\n    DIFFERS in the number, place ",
-        0,
-        wide(given),
-        expected,
-    )?;
-    Ok(false)
-}
-
-fn same_floats(
+// Whether two lists are alike; writes the first place where they are not, with both patterns.
+fn same<T, F: Fn(&T) -> u64>(
     rt: &impl Print,
     label: &str,
-    a: &[f64; FLOATS],
-    b: &[f64; FLOATS],
-) -> io::Result<bool> {
-    let k = other_float(a, b);
-    if k < FLOATS {
-        differs(rt, label, k, number::bits_of(a[k]), number::bits_of(b[k]))?;
-        return Ok(false);
+    given: &[T],
+    expected: &[T],
+    bits: F,
+) -> io::Result<bool>
+    requires { F.IsAlwaysCallable bits }
+{
+    for (k, (x, y)) in given.iter().zip(expected).enumerate() {
+        let x = bits(x);
+        let y = bits(y);
+        if x != y {
+            println!(rt; "\n    DIFFERS in the {label}, place {k}: {x:016x}, not {y:016x}")?;
+            return Ok(false);
+        }
     }
     Ok(true)
 }
 
-fn same_bytes(rt: &impl Print, a: &[u8; BYTES], b: &[u8; BYTES]) -> io::Result<bool> {
-    let k = other_byte(a, b);
-    if k < BYTES {
-        differs(
-            rt,
-            "\n    DIFFERS in the bytes, place ",
-            k,
-            wide(a[k]),
-            wide(b[k]),
-        )?;
-        return Ok(false);
-    }
-    Ok(true)
+fn same_floats(rt: &impl Print, label: &str, given: &[f64], expected: &[f64]) -> io::Result<bool> {
+    same(rt, label, given, expected, |x| bits_of(*x))
 }
 
-// The lists that are lent, cut to their lengths.
-fn lent(f: &[f64], b: &[u8], x: &mut [f64], y: &mut [f64], z: &mut [u8]) -> u8 {
-    let k = case_arguments::whole_at(f, 25);
-    let l = case_arguments::whole_at(f, 26);
-    let m = case_arguments::whole_at(f, 27);
-    if x.len() < k {
-        return 255;
-    }
-    if y.len() < l {
-        return 255;
-    }
-    if z.len() < m {
-        return 255;
-    }
-    worked(f, b, &mut x[0..k], &mut y[0..l], &mut z[0..m])
-}
-
-fn called(
-    f: &[f64; FLOATS],
-    b: &[u8; BYTES],
-    x: &mut [f64; FLOATS],
-    y: &mut [f64; FLOATS],
-    z: &mut [u8; BYTES],
-) -> u8 {
-    lent(f, b, x, y, z)
-}
-
-// The last call of a case ends its line.
-fn ended(rt: &impl Print, line: &[u8; 32], n: u8) -> io::Result<()> {
+// Makes a case's call: whether it does what the case says. A number that no call has is 255.
+fn is_right(rt: &impl Print, case: &mut Case, line: &Line) -> io::Result<bool> {
+    let n = called(case).unwrap_or(255);
+    let given = [u64::from(n)];
+    let expected = [whole_at(&case.floats, 1) as u64];
+    let lent = &case.lent;
+    let left = &case.left;
+    let right = same(rt, "number", &given, &expected, |n| *n)?
+        & same_floats(rt, "first list", &lent.first, &left.first)?
+        & same_floats(rt, "second list", &lent.second, &left.second)?
+        & same(rt, "bytes", &lent.bytes, &left.bytes, |b| u64::from(*b))?;
     if word(line, 2) == 1 {
         println!(rt; "{n}")?;
     }
-    Ok(())
-}
-
-#[derive(Drop)]
-struct Tally {
-    calls: u64,
-    other: u64,
-}
-
-fn next(x: u64) -> u64 {
-    if x < 1000000000 {
-        return x + 1;
-    }
-    x
-}
-
-fn noted(tally: Tally, same: bool) -> Tally {
-    let mut t = tally;
-    t.calls = next(t.calls);
-    if !same {
-        t.other = next(t.other);
-    }
-    t
-}
-
-// Whether the whole line could be read before the end.
-fn next_line(file: &mut impl Read, line: &mut [u8; 32]) -> io::Result<bool> {
-    match file.read_exact(line) {
-        Ok(()) => Ok(true),
-        Err(e) => {
-            if e.kind() == ErrorKind::UnexpectedEof {
-                return Ok(false);
-            }
-            Err(e)
-        }
-    }
-}
-
-fn is_call(line: &[u8; 32]) -> bool {
-    word(line, 0) == 9
-}
-
-fn run(rt: &impl Print, file: &mut impl Read) -> io::Result<Tally> {
-    let mut line = [0u8; 32];
-    let mut f = [0.0; FLOATS];
-    let mut b = [0u8; BYTES];
-    let mut x = [0.0; FLOATS];
-    let mut y = [0.0; FLOATS];
-    let mut z = [0u8; BYTES];
-    let mut x_left = [0.0; FLOATS];
-    let mut y_left = [0.0; FLOATS];
-    let mut z_left = [0u8; BYTES];
-    let mut t = Tally { calls: 0, other: 0 };
-    for turn in 0usize..10000000 {
-        if !next_line(file, &mut line)? {
-            return Ok(t);
-        }
-        put_read(rt, &line, &mut f, &mut b)?;
-        put_lent(&line, &mut x, &mut y, &mut z);
-        put_left(&line, &mut x_left, &mut y_left, &mut z_left);
-        if is_call(&line) {
-            let n = called(&f, &b, &mut x, &mut y, &mut z);
-            let same = same_number(rt, n, &f)?
-                & same_floats(rt, "\n    DIFFERS in the first list, place ", &x, &x_left)?
-                & same_floats(rt, "\n    DIFFERS in the second list, place ", &y, &y_left)?
-                & same_bytes(rt, &z, &z_left)?;
-            ended(rt, &line, n)?;
-            t = noted(t, same);
-        }
-    }
-    Ok(t)
+    Ok(right)
 }
 
 fn main(rt: HostRuntime) -> io::Result<()> {
     let mut file = File::open(&rt, "cases.bin")?;
-    let t = run(&rt, &mut file)?;
-    println!(rt; "{} calls, {} differ", t.calls, t.other)
+    let mut case = Case {
+        floats: [0.0; FLOATS],
+        bytes: [0u8; BYTES],
+        lent: no_lists(),
+        left: no_lists(),
+    };
+    let mut calls = 0u64;
+    let mut other = 0u64;
+    for line in Records::<_, 32>::new(&mut file) {
+        let line = line?;
+        match word(&line, 0) {
+            0 => rt.write_all(&line[8..])?,
+            9 => {
+                calls = calls.saturating_add(1);
+                if !is_right(&rt, &mut case, &line)? {
+                    other = other.saturating_add(1);
+                }
+            }
+            _ => put(&mut case, &line),
+        }
+    }
+    println!(rt; "{calls} calls, {other} differ")
 }

@@ -1,129 +1,122 @@
-// Worked cases of SAFT-VR Mie: each call on the C boundary, by its number.
+// Worked cases of SAFT-VR Mie: each call on the C boundary, by its number. The numbers of the file are matched here and
+// in the two places like it only: an enum between would say each a second time.
+
+use case_arguments::{list, number_at, whole_at};
 
 fn vr_parameters(f: &[f64], x: &mut [f64], y: &mut [f64]) -> u8 {
     domthelv::domthelv_vr_parameters(
-        case_arguments::whole_at(f, 2),
-        case_arguments::list(f, 9),
-        case_arguments::list(f, 10),
-        case_arguments::list(f, 11),
-        case_arguments::list(f, 12),
-        case_arguments::list(f, 13),
-        case_arguments::list(f, 15),
-        case_arguments::list(f, 16),
+        whole_at(f, 2),
+        list(f, 9),
+        list(f, 10),
+        list(f, 11),
+        list(f, 12),
+        list(f, 13),
+        list(f, 15),
+        list(f, 16),
         x,
         y,
     )
 }
 
 fn vr_diameters(f: &[f64], x: &mut [f64]) -> u8 {
-    domthelv::domthelv_vr_diameters(
-        case_arguments::whole_at(f, 2),
-        case_arguments::list(f, 20),
-        case_arguments::list(f, 21),
-        case_arguments::number_at(f, 5),
-        x,
-    )
+    domthelv::domthelv_vr_diameters(whole_at(f, 2), list(f, 20), list(f, 21), number_at(f, 5), x)
 }
 
 fn vr_radius(f: &[f64], x: &mut [f64]) -> u8 {
-    let mut v = case_arguments::first(x);
-    let n = domthelv::domthelv_vr_radius(
-        case_arguments::whole_at(f, 2),
-        case_arguments::list(f, 20),
-        case_arguments::list(f, 21),
-        case_arguments::whole_at(f, 3),
-        case_arguments::whole_at(f, 4),
-        case_arguments::number_at(f, 5),
-        &mut v,
-    );
-    case_arguments::store(x, v);
-    n
+    let mut nowhere = 0.0;
+    let v = x.first_mut().unwrap_or(&mut nowhere);
+    domthelv::domthelv_vr_radius(
+        whole_at(f, 2),
+        list(f, 20),
+        list(f, 21),
+        whole_at(f, 3),
+        whole_at(f, 4),
+        number_at(f, 5),
+        v,
+    )
 }
 
 fn vr_dispersion(f: &[f64], x: &mut [f64]) -> u8 {
-    let mut v = case_arguments::first(x);
-    let n = domthelv::domthelv_vr_dispersion(
-        case_arguments::whole_at(f, 2),
-        case_arguments::list(f, 20),
-        case_arguments::list(f, 21),
-        case_arguments::number_at(f, 5),
-        case_arguments::list(f, 17),
-        case_arguments::list(f, 18),
-        case_arguments::list(f, 19),
-        case_arguments::whole_at(f, 8) == 1,
-        &mut v,
-    );
-    case_arguments::store(x, v);
-    n
+    let mut nowhere = 0.0;
+    let v = x.first_mut().unwrap_or(&mut nowhere);
+    domthelv::domthelv_vr_dispersion(
+        whole_at(f, 2),
+        list(f, 20),
+        list(f, 21),
+        number_at(f, 5),
+        list(f, 17),
+        list(f, 18),
+        list(f, 19),
+        whole_at(f, 8) == 1,
+        v,
+    )
 }
 
 fn vr_dispersion_ends(f: &[f64], x: &mut [f64]) -> u8 {
     domthelv::domthelv_vr_dispersion_ends(
-        case_arguments::whole_at(f, 2),
-        case_arguments::list(f, 20),
-        case_arguments::list(f, 21),
-        case_arguments::number_at(f, 5),
-        case_arguments::list(f, 17),
-        case_arguments::list(f, 18),
-        case_arguments::list(f, 19),
-        case_arguments::whole_at(f, 8) == 1,
+        whole_at(f, 2),
+        list(f, 20),
+        list(f, 21),
+        number_at(f, 5),
+        list(f, 17),
+        list(f, 18),
+        list(f, 19),
+        whole_at(f, 8) == 1,
         x,
     )
 }
 
 fn vr_diameter_ends(f: &[f64], x: &mut [f64]) -> u8 {
     domthelv::domthelv_vr_diameter_ends(
-        case_arguments::whole_at(f, 2),
-        case_arguments::list(f, 20),
-        case_arguments::list(f, 21),
-        case_arguments::whole_at(f, 3),
-        case_arguments::whole_at(f, 4),
-        case_arguments::number_at(f, 5),
-        case_arguments::number_at(f, 7),
+        whole_at(f, 2),
+        list(f, 20),
+        list(f, 21),
+        whole_at(f, 3),
+        whole_at(f, 4),
+        number_at(f, 5),
+        number_at(f, 7),
         x,
     )
 }
 
 fn vr_diameter(f: &[f64], x: &mut [f64]) -> u8 {
-    let mut v = case_arguments::first(x);
-    let n = domthelv::domthelv_vr_diameter(
-        case_arguments::whole_at(f, 2),
-        case_arguments::list(f, 20),
-        case_arguments::list(f, 21),
-        case_arguments::whole_at(f, 3),
-        case_arguments::whole_at(f, 4),
-        case_arguments::number_at(f, 5),
-        case_arguments::number_at(f, 7),
-        &mut v,
-    );
-    case_arguments::store(x, v);
-    n
+    let mut nowhere = 0.0;
+    let v = x.first_mut().unwrap_or(&mut nowhere);
+    domthelv::domthelv_vr_diameter(
+        whole_at(f, 2),
+        list(f, 20),
+        list(f, 21),
+        whole_at(f, 3),
+        whole_at(f, 4),
+        number_at(f, 5),
+        number_at(f, 7),
+        v,
+    )
 }
 
 fn vr_stage(f: &[f64], x: &mut [f64]) -> u8 {
-    let mut v = case_arguments::first(x);
-    let n = domthelv::domthelv_vr_stage(
-        case_arguments::whole_at(f, 2),
-        case_arguments::list(f, 9),
-        case_arguments::list(f, 10),
-        case_arguments::list(f, 11),
-        case_arguments::list(f, 12),
-        case_arguments::list(f, 13),
-        case_arguments::list(f, 15),
-        case_arguments::list(f, 16),
-        case_arguments::number_at(f, 5),
-        case_arguments::list(f, 17),
-        case_arguments::list(f, 18),
-        case_arguments::whole_at(f, 8) == 1,
-        &mut v,
-    );
-    case_arguments::store(x, v);
-    n
+    let mut nowhere = 0.0;
+    let v = x.first_mut().unwrap_or(&mut nowhere);
+    domthelv::domthelv_vr_stage(
+        whole_at(f, 2),
+        list(f, 9),
+        list(f, 10),
+        list(f, 11),
+        list(f, 12),
+        list(f, 13),
+        list(f, 15),
+        list(f, 16),
+        number_at(f, 5),
+        list(f, 17),
+        list(f, 18),
+        whole_at(f, 8) == 1,
+        v,
+    )
 }
 
-pub fn mie(f: &[f64], x: &mut [f64], y: &mut [f64]) -> u8 {
-    let which = case_arguments::whole_at(f, 0);
-    match which {
+// None where no call has the case's number.
+pub fn mie(f: &[f64], x: &mut [f64], y: &mut [f64]) -> Option<u8> {
+    Some(match whole_at(f, 0) {
         32 => vr_parameters(f, x, y),
         33 => vr_diameters(f, x),
         34 => vr_radius(f, x),
@@ -132,6 +125,6 @@ pub fn mie(f: &[f64], x: &mut [f64], y: &mut [f64]) -> u8 {
         37 => vr_diameter(f, x),
         38 => vr_diameter_ends(f, x),
         39 => vr_stage(f, x),
-        _ => 255,
-    }
+        _ => return None,
+    })
 }
