@@ -5,7 +5,7 @@ ghost use Rattle.elementary.specs.Port.{port};
 ghost use Rattle.number.specs.Answer.{answer};
 ghost use Rattle.enclosure.specs.Enclosure.{enclosures, point};
 ghost use Rattle.enclosure_dual.specs.Value.{dual_of};
-ghost use Rattle.saftvrmie_dispersion.specs.Chain.{rho_dual, zeta_dual, fluid_dual, g1_of, g2_of, link_pref, g_hs, gamma_of, ln_g_mie, link_of, add_link, chain_pure};
+ghost use Rattle.saftvrmie_dispersion.specs.Chain.{rho_dual, zeta_dual, fluid_dual, g1_of, g2_of, link_of, chain_pure};
 ghost use Rattle.saftvrmie_dispersion.specs.Answer.{pair_in, bar_in, sums_in, k_in, sums_answer};
 ghost use Rattle.saftvrmie_chain_ends.specs.Duals.{fluid_dual_in, orders_dual_in, link_in};
 
@@ -79,53 +79,6 @@ fn g2_mca(o: OrdersDuals, p: PairParameters, pref: Enclosure, k_hs: Enclosure) -
     left - sums * k_hs * c2
 }
 
-fn link_pref(d3: Enclosure, eps_k: Enclosure) -> Enclosure
-    ensures { result ≡ link_pref enclosures (calls enclosures port).pi d3 eps_k }
-{
-    let two = Enclosure::point(2.0);
-    let pi = Enclosure::pi();
-    d3 * eps_k * two * pi
-}
-
-fn g_hs(k: KValues<Enclosure>, x0: Enclosure) -> Result<Enclosure, Refusal>
-    ensures { answer result ≡ g_hs enclosures (calls enclosures port) (k_in k) x0 }
-{
-    let first = k.k0 + k.k1 * x0;
-    let second = k.k2 * x0.pow_up(2);
-    let third = k.k3 * x0.pow_up(3);
-    elementary_ends::exp(first + second + third)
-}
-
-fn gamma(zeta_x_bar: Enclosure, beta_eps: Enclosure, alpha: Enclosure) -> Result<Enclosure, Refusal>
-    ensures { answer result ≡ gamma_of enclosures (calls enclosures port) zeta_x_bar beta_eps alpha }
-{
-    let e = elementary_ends::exp_m1(beta_eps)?;
-    let ten = Enclosure::point(10.0);
-    let y = ten * (Enclosure::point(0.57) - alpha);
-    let t = elementary_ends::tanh(y)?;
-    let u = -zeta_x_bar * Enclosure::point(6.7);
-    let v = zeta_x_bar.pow_up(2) * Enclosure::point(8.0);
-    let g = elementary_ends::exp(u - v)?;
-    let s = zeta_x_bar * e * ten;
-    let left = -t + Enclosure::point(1.0);
-    Ok(s * left * g)
-}
-
-fn ln_g_mie(
-    g_hs: Enclosure,
-    beta_eps: Enclosure,
-    g1: Enclosure,
-    g2: Enclosure,
-) -> Result<Enclosure, Refusal>
-    ensures { answer result ≡ ln_g_mie enclosures (calls enclosures port) g_hs beta_eps g1 g2 }
-{
-    let l = elementary_ends::ln(g_hs)?;
-    let first = beta_eps * g1;
-    let second = beta_eps.pow_up(2) * g2;
-    let q = (first + second) / g_hs;
-    Ok(l + q)
-}
-
 // What a component adds to a_chain.
 fn link_term(
     k: KValues<Enclosure>,
@@ -139,31 +92,17 @@ fn link_term(
     ensures { answer result ≡ link_of enclosures (calls enclosures port) (k_in k) zeta_x_bar (orders_dual_in o) k_hs (pair_in point p) d (link_in link) }
 {
     let eps_k = Enclosure::point(p.epsilon_k);
-    let pref = link_pref(d.pow_up(3), eps_k);
+    let pref = saftvrmie_dispersion::link_pref(d.pow_up(3), eps_k);
     let beta_eps = link.t_inv * eps_k;
     let x0 = saftvrmie_dispersion::x0_of(d, Enclosure::point(p.sigma));
-    let g = g_hs(k, x0)?;
+    let g = saftvrmie_dispersion::g_hs(k, x0)?;
     let alpha = Enclosure::point(p.alpha);
-    let gamma = gamma(zeta_x_bar, beta_eps, alpha)?;
+    let gamma = saftvrmie_dispersion::gamma(zeta_x_bar, beta_eps, alpha)?;
     let one = Enclosure::point(1.0);
     let g2 = g2_mca(o, p, pref, k_hs) * (gamma + one);
-    let ln_g = ln_g_mie(g, beta_eps, g1(o, p, pref), g2)?;
+    let ln_g = saftvrmie_dispersion::ln_g_mie(g, beta_eps, g1(o, p, pref), g2)?;
     let links = -link.fraction * (link.m - one);
     Ok(links * ln_g)
-}
-
-fn add_link(s: Sums<Enclosure>, l: Enclosure) -> Sums<Enclosure>
-    ensures { sums_in result ≡ add_link enclosures (sums_in s) l }
-{
-    let a1 = s.a1;
-    let a2 = s.a2;
-    let a3 = s.a3;
-    Sums {
-        a1,
-        a2,
-        a3,
-        a_chain: s.a_chain + l,
-    }
 }
 
 // A component of the chain, added to the sums.
@@ -190,5 +129,5 @@ pub fn chain_pure(
     let terms = Terms { a1, a2, a3, xi };
     let t = saftvrmie_dispersion::add_pure(xs, terms, s);
     let l = link_term(k, zeta_x_bar, o, w.k_hs.re, p, d, of)?;
-    Ok(add_link(t, l))
+    Ok(saftvrmie_dispersion::add_link(t, l))
 }

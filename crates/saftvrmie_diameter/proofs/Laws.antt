@@ -1,5 +1,5 @@
 -- Laws of Halley's loop, over plain values. Assumes nothing.
-use Prim.Native.Nat.{ℕ, suc, ◌-◌, ◌≤◌, ◌<◌}
+use Prim.Native.Nat.{ℕ, suc, ◌+◌, ◌-◌, ◌≤◌, ◌<◌}
 use native.Mathlib.Omega.{arith}
 use lib.Ieee.{Float, lt}
 use mathlib.Core.Path.{◌≡◌}
@@ -32,3 +32,13 @@ module _ (la lr c r : Float) (n : ℕ) (whole : Ans Float) (h : halley floats (c
       pub on : lt s.f zero64 ≡ false → halley floats (calls floats port) la lr c (n - 1) (floats.sub r s.dr) ≡ whole
       unfolding halley ◌>>=◌
       on t = rw (e, t) at turn
+
+-- turns that are left of 4
+pub left : (j : ℕ) → j < 4 → 0 < 4 - j
+left j p = omega arith
+
+pub none_left : (j : ℕ) → 4 ≤ j → 4 - j ≤ 0
+none_left j p = omega arith
+
+pub next_left : (j : ℕ) → 4 - (j + 1) ≡ 4 - j - 1
+next_left j = omega arith

@@ -1,7 +1,7 @@
 // The temperature-dependent diameter of SAFT-VR Mie (saftvrmie/parameters.rs): lower limit by Halley's method, 10-node rule.
 #![tactic(auto)]
 
-ghost use Rattle.std.specs.Prelude.{◌≡◌, true, ◌<◌};
+ghost use Rattle.std.specs.Prelude.{◌≡◌, Bool, true, ◌<◌};
 ghost use Rattle.number.specs.Answer.{answer};
 ghost use Rattle.number.specs.Arith.{floats};
 ghost use Rattle.number.specs.Functions.{calls, entry};
@@ -11,6 +11,7 @@ ghost use Rattle.saftvrmie_diameter.specs.Diameter.{positions, weights, c_eps_t,
 ghost use Rattle.saftvrmie_diameter.specs.Staged.{exponents_inside, exponents_of, inverse_at, beta_u_at, logs_of, betas_of, node_at};
 
 use binary_log::Log;
+use dual_num::DualNum;
 use number::Refusal;
 use power::FixedExponent;
 
@@ -76,10 +77,10 @@ pub fn weight(k: usize) -> f64
 }
 
 // inverse_temperature * c_ij * epsilon_k_ij
-pub fn c_eps_t(temperature: f64, c: f64, epsilon_k: f64) -> f64
-    ensures { result ≡ c_eps_t floats temperature c epsilon_k }
+pub fn c_eps_t<D: DualNum>(temperature: D, c: D::Plain, epsilon_k: D::Plain) -> D
+    ensures { (w : Bool) → D.of w result ≡ c_eps_t (D.beside w) (D.of w temperature) (D.plain w c) (D.plain w epsilon_k) }
 {
-    1.0 / temperature * c * epsilon_k
+    temperature.recip() * c * epsilon_k
 }
 
 // Outside, no radius has its two powers.
@@ -129,14 +130,12 @@ fn halley(la: f64, lr: f64, e: Exponents, c_eps_t: f64, start: f64) -> Result<f6
     ensures { answer result ≡ halley floats (calls floats port) la lr c_eps_t 4 start }
 {
     let mut r = start;
-    let mut left: u8 = 4;
-    while 0 < left {
+    for done in 0u8..4u8 {
         let (f, dr) = halley_step(la, lr, e, c_eps_t, r)?;
         if f < 0.0 {
             return Ok(r);
         }
         r = r - dr;
-        left = left - 1;
     }
     Ok(r)
 }

@@ -18,14 +18,6 @@ use number::Refusal;
 use saftvrmie_parameters::SaftVRMiePars;
 use sizes::{SHEET, SHEETS, SIDE};
 
-// inverse_temperature * c_ij * epsilon_k_ij
-pub fn c_eps_t(temperature: Enclosure, c: Enclosure, epsilon_k: Enclosure) -> Enclosure
-    ensures { result ≡ c_eps_t enclosures temperature c epsilon_k }
-{
-    let one = Enclosure::point(1.0);
-    one / temperature * c * epsilon_k
-}
-
 fn beta_u_mie(
     la: Enclosure,
     lr: Enclosure,
@@ -96,7 +88,7 @@ fn c_eps_at(sheets: &[f64; SHEETS], temperature: f64, e: usize) -> Enclosure
 {
     let c = entry_point(sheets, 4, e);
     let epsilon_k = entry_point(sheets, 1, e);
-    c_eps_t(Enclosure::point(temperature), c, epsilon_k)
+    saftvrmie_diameter::c_eps_t(Enclosure::point(temperature), c, epsilon_k)
 }
 
 // The diameter of the pair (i, j) from its reduced lower limit, with two ends. 1, 2, 6, 7, 8.

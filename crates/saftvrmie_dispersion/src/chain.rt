@@ -6,11 +6,10 @@ ghost use Rattle.number.specs.Functions.{calls};
 ghost use Rattle.elementary.specs.Port.{port};
 ghost use Rattle.dual.specs.Value.{dual_of};
 ghost use Rattle.saftvrmie_dispersion.specs.Chain.{k_of, rho_dual, zeta_dual, fluid_dual, g1_of, g2_of, link_pref, g_hs, gamma_of, ln_g_mie, link_of, add_link, chain_pure};
-ghost use Rattle.saftvrmie_dispersion.specs.Answer.{pair_of, fluid_dual_in, bar_in, orders_dual_in, sums_in, k_by, k_in, link_in, sums_answer};
+ghost use Rattle.saftvrmie_dispersion.specs.Answer.{pair_of, fluid_dual_in, bar_in, orders_dual_in, sums_by, sums_in, k_by, k_in, link_in, sums_answer};
 
 use crate::{Bar, FluidDual, KValues, Link, OrdersDual, Sums, Terms, dual_sums, orders};
 use dual::Dual;
-use mie_parameters::PI;
 use number::{Arithmetic, Refusal};
 use plain_num::PlainNum;
 use saftvrmie_parameters::PairParameters;
@@ -124,33 +123,35 @@ fn g2_mca(o: OrdersDual, p: PairParameters, pref: f64, k_hs: f64) -> f64
             * number::pow_up(p.c, 2)
 }
 
-fn link_pref(d3: f64, eps_k: f64) -> f64
-    ensures { result ≡ link_pref floats (calls floats port).pi d3 eps_k }
+pub fn link_pref<D: PlainNum>(d3: D, eps_k: D::Plain) -> D
+    ensures { (w : Bool) → D.of w result ≡ link_pref (D.beside w) (D.functions w).pi (D.of w d3) (D.plain w eps_k) }
 {
-    d3 * eps_k * 2.0 * PI
+    d3 * eps_k * D::Plain::lit(2.0) * D::pi()
 }
 
-fn g_hs(k: KValues<f64>, x0: f64) -> Result<f64, Refusal>
-    ensures { answer result ≡ g_hs floats (calls floats port) (k_in k) x0 }
+pub fn g_hs<D: PlainNum>(k: KValues<D>, x0: D) -> Result<D, Refusal>
+    ensures { (w : Bool) → answer_by (D.of w) result ≡ g_hs (D.beside w) (D.functions w) (k_by (D.of w) k) (D.of w x0) }
 {
-    elementary::exp(k.k0 + k.k1 * x0 + k.k2 * number::pow_up(x0, 2) + k.k3 * number::pow_up(x0, 3))
+    (k.k0 + k.k1 * x0 + k.k2 * x0.square() + k.k3 * x0.cube()).exp()
 }
 
-fn gamma(zeta_x_bar: f64, beta_eps: f64, alpha: f64) -> Result<f64, Refusal>
-    ensures { answer result ≡ gamma_of floats (calls floats port) zeta_x_bar beta_eps alpha }
+pub fn gamma<D: PlainNum>(zeta_x_bar: D, beta_eps: D, alpha: D) -> Result<D, Refusal>
+    ensures { (w : Bool) → answer_by (D.of w) result ≡ gamma_of (D.beside w) (D.functions w) (D.of w zeta_x_bar) (D.of w beta_eps) (D.of w alpha) }
 {
-    let e = elementary::exp_m1(beta_eps)?;
-    let t = elementary::tanh(10.0 * (0.57 - alpha))?;
-    let x = -zeta_x_bar * 6.7 - number::pow_up(zeta_x_bar, 2) * 8.0;
-    let g = elementary::exp(x)?;
-    Ok(zeta_x_bar * e * 10.0 * (-t + 1.0) * g)
+    let ten = D::entered(10.0);
+    let e = beta_eps.exp_m1()?;
+    let y = ten * (D::entered(0.57) - alpha);
+    let t = y.tanh()?;
+    let x = -zeta_x_bar * D::Plain::lit(6.7) - zeta_x_bar.square() * D::Plain::lit(8.0);
+    let g = x.exp()?;
+    Ok(zeta_x_bar * e * ten * (-t + D::Plain::lit(1.0)) * g)
 }
 
-fn ln_g_mie(g_hs: f64, beta_eps: f64, g1: f64, g2: f64) -> Result<f64, Refusal>
-    ensures { answer result ≡ ln_g_mie floats (calls floats port) g_hs beta_eps g1 g2 }
+pub fn ln_g_mie<D: PlainNum>(g_hs: D, beta_eps: D, g1: D, g2: D) -> Result<D, Refusal>
+    ensures { (w : Bool) → answer_by (D.of w) result ≡ ln_g_mie (D.beside w) (D.functions w) (D.of w g_hs) (D.of w beta_eps) (D.of w g1) (D.of w g2) }
 {
-    let l = elementary::ln(g_hs)?;
-    Ok(l + (beta_eps * g1 + number::pow_up(beta_eps, 2) * g2) / g_hs)
+    let l = g_hs.ln()?;
+    Ok(l + (beta_eps * g1 + beta_eps.square() * g2) / g_hs)
 }
 
 // What a component adds to a_chain.
@@ -174,8 +175,8 @@ fn link_term(
     Ok(-link.fraction * (link.m - 1.0) * ln_g)
 }
 
-fn add_link(s: Sums<f64>, l: f64) -> Sums<f64>
-    ensures { sums_in result ≡ add_link floats (sums_in s) l }
+pub fn add_link<D: PlainNum>(s: Sums<D>, l: D) -> Sums<D>
+    ensures { (w : Bool) → sums_by (D.of w) result ≡ add_link (D.beside w) (sums_by (D.of w) s) (D.of w l) }
 {
     Sums {
         a1: s.a1,

@@ -6,7 +6,9 @@ mod dual_sums;
 mod orders;
 mod sutherland;
 
-pub use crate::chain::{chain_pure, fluid_dual, k_values};
+pub use crate::chain::{
+    add_link, chain_pure, fluid_dual, g_hs, gamma, k_values, link_pref, ln_g_mie,
+};
 pub use crate::dual_sums::{a1s_ij_dual, k_hs_dual, orders_dual, zeta_eff_dual};
 pub use crate::orders::{
     a3, add_pair, add_pure, bar_of, orders_sum, pair_terms, six_of, x0_of, xi,

@@ -45,7 +45,7 @@ returns c =
     rw (
       a3_is enclosures,
       xi_is enclosures,
-      c.add_link.ensures,
+      c.add_link.ensures true,
       c.add_pure-t.ensures true,
       c.xi-xi.ensures true,
       via orders_dual_answer c.orders_dual.ensures c.in_ok-o.was,

@@ -1,7 +1,7 @@
 -- `saftvrmie_chain_ends::chain::link_term` meets its contract. Assumes nothing.
 use mathlib.Core.Bool.{true}
 use Rattle.saftvrmie_dispersion.specs.Chain.{link_of}
-use Rattle.number.specs.Answer.{answer}
+use Rattle.number.specs.Answer.{answer_by}
 use Rattle.number.specs.Ans.{◌>>=◌}
 use Rattle.number.proofs.Walk.{via, handed_on}
 use Rattle.number.specs.Arith.{decimal}
@@ -15,11 +15,11 @@ returns-in_err-g c =
       handed_on _ c.from_residual.ensures,
       ← c.point-eps_k.ensures,
       ← c.pow_up.ensures,
-      ← c.link_pref-pref.ensures,
+      ← c.link_pref-pref.ensures true,
       ← c.mul-beta_eps.ensures,
       ← c.point.ensures,
       ← c.x0_of-x0.ensures true,
-      via answer c.g_hs.ensures c.in_err-g.was,
+      via (answer_by (λ x. x)) (c.g_hs.ensures true) c.in_err-g.was,
     )
 
 pub returns-in_err-gamma : goal.returns-in_err-gamma
@@ -29,13 +29,13 @@ returns-in_err-gamma c =
       handed_on _ c.from_residual-in_err-gamma.ensures,
       ← c.point-eps_k.ensures,
       ← c.pow_up.ensures,
-      ← c.link_pref-pref.ensures,
+      ← c.link_pref-pref.ensures true,
       ← c.mul-beta_eps.ensures,
       ← c.point.ensures,
       ← c.x0_of-x0.ensures true,
-      via answer c.g_hs.ensures c.in_ok-g.was,
+      via (answer_by (λ x. x)) (c.g_hs.ensures true) c.in_ok-g.was,
       ← c.point-alpha.ensures,
-      via answer c.gamma.ensures c.in_err-gamma.was,
+      via (answer_by (λ x. x)) (c.gamma.ensures true) c.in_err-gamma.was,
     )
 
 pub returns-in_err-ln_g : goal.returns-in_err-ln_g
@@ -45,13 +45,13 @@ returns-in_err-ln_g c =
       handed_on _ c.from_residual-in_err-ln_g.ensures,
       ← c.point-eps_k.ensures,
       ← c.pow_up.ensures,
-      ← c.link_pref-pref.ensures,
+      ← c.link_pref-pref.ensures true,
       ← c.mul-beta_eps.ensures,
       ← c.point.ensures,
       ← c.x0_of-x0.ensures true,
-      via answer c.g_hs.ensures c.in_ok-g.was,
+      via (answer_by (λ x. x)) (c.g_hs.ensures true) c.in_ok-g.was,
       ← c.point-alpha.ensures,
-      via answer c.gamma.ensures c.in_ok-gamma.was,
+      via (answer_by (λ x. x)) (c.gamma.ensures true) c.in_ok-gamma.was,
       c.point-alpha.ensures,
       c.point.ensures,
       c.point-eps_k.ensures,
@@ -60,7 +60,7 @@ returns-in_err-ln_g c =
       ← c.add.ensures,
       ← c.mul-g2.ensures,
       ← c.g1.ensures,
-      via answer c.ln_g_mie.ensures c.in_err-ln_g.was,
+      via (answer_by (λ x. x)) (c.ln_g_mie.ensures true) c.in_err-ln_g.was,
     )
 
 pub returns : goal.returns
@@ -69,13 +69,13 @@ returns c =
     rw (
       ← c.point-eps_k.ensures,
       ← c.pow_up.ensures,
-      ← c.link_pref-pref.ensures,
+      ← c.link_pref-pref.ensures true,
       ← c.mul-beta_eps.ensures,
       ← c.point.ensures,
       ← c.x0_of-x0.ensures true,
-      via answer c.g_hs.ensures c.in_ok-g.was,
+      via (answer_by (λ x. x)) (c.g_hs.ensures true) c.in_ok-g.was,
       ← c.point-alpha.ensures,
-      via answer c.gamma.ensures c.in_ok-gamma.was,
+      via (answer_by (λ x. x)) (c.gamma.ensures true) c.in_ok-gamma.was,
       c.point-alpha.ensures,
       c.point.ensures,
       c.point-eps_k.ensures,
@@ -84,7 +84,7 @@ returns c =
       ← c.add.ensures,
       ← c.mul-g2.ensures,
       ← c.g1.ensures,
-      via answer c.ln_g_mie.ensures c.in_ok-ln_g.was,
+      via (answer_by (λ x. x)) (c.ln_g_mie.ensures true) c.in_ok-ln_g.was,
       ← c.neg.ensures,
       ← c.sub.ensures,
       ← c.mul-links.ensures,

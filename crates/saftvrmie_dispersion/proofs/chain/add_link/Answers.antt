@@ -1,8 +1,7 @@
 -- `saftvrmie_dispersion::chain::add_link` meets its contract. Assumes nothing.
-use mathlib.Core.Path.{refl}
 use Rattle.saftvrmie_dispersion.specs.Chain.{add_link}
 use Rattle.saftvrmie_dispersion.proofs.chain.add_link.Goals as goal
 
 pub returns : goal.returns
 unfolding add_link
-returns c = refl
+returns g c w = let m = g.met.D.DualNum in rw (m.add_law w _ _ _ c.add.ensures)

@@ -32,7 +32,7 @@ unfolding chain_pure ◌>>=◌ dual_of decimal of_bits
 returns c =
     let third = rw (c.six_of-six.ensures true) at (via (answer_by (λ x. x)) (c.a3.ensures true) c.in_ok-a3.was) in
     rw (
-      c.add_link.ensures,
+      c.add_link.ensures true,
       c.add_pure-t.ensures true,
       c.xi.ensures true,
       c.six_of-six.ensures true,

@@ -1,5 +1,4 @@
 -- `saftvrmie_dispersion::chain::link_pref` meets its contract. Assumes nothing.
-use mathlib.Core.Path.{refl}
 use lib.Ieee.{of_bits}
 use Rattle.number.specs.Arith.{decimal}
 use Rattle.saftvrmie_dispersion.specs.Chain.{link_pref}
@@ -7,4 +6,12 @@ use Rattle.saftvrmie_dispersion.proofs.chain.link_pref.Goals as goal
 
 pub returns : goal.returns
 unfolding link_pref decimal of_bits
-returns c = refl
+returns g c w =
+    let m = g.met.D.DualNum in
+    rw (
+      m.mul_plain_law w _ _ _ c.mul-3.ensures,
+      c.pi.ensures w,
+      m.mul_plain_law w _ _ _ c.mul-2.ensures,
+      m.plain_lit_law w _ _ c.lit.ensures,
+      m.mul_plain_law w _ _ _ c.mul.ensures,
+    )

@@ -3,22 +3,22 @@ use mathlib.Core.Bool.{true}
 use Rattle.number.proofs.Walk.{via, handed_on}
 use lib.Ieee.{of_bits}
 use Rattle.number.specs.Arith.{decimal}
-use Rattle.number.specs.Answer.{answer}
+use Rattle.number.specs.Answer.{answer_by}
 use Rattle.saftvrmie_dispersion.specs.Chain.{link_of}
 use Rattle.number.specs.Ans.{◌>>=◌}
 use Rattle.saftvrmie_dispersion.proofs.chain.link_term.Goals as goal
 
 pub returns-in_err-g : goal.returns-in_err-g
 unfolding link_of ◌>>=◌
-returns-in_err-g c = rw (handed_on _ c.from_residual.ensures, ← c.x0_of.ensures true, via answer c.g_hs.ensures c.in_err-g.was)
+returns-in_err-g c = rw (handed_on _ c.from_residual.ensures, ← c.x0_of.ensures true, via (answer_by (λ x. x)) (c.g_hs.ensures true) c.in_err-g.was)
 
 pub returns-in_err-gamma : goal.returns-in_err-gamma
 unfolding link_of ◌>>=◌
 returns-in_err-gamma c = rw (
   handed_on _ c.from_residual-in_err-gamma.ensures,
   ← c.x0_of.ensures true,
-  via answer c.g_hs.ensures c.in_ok-g.was,
-  via answer c.gamma.ensures c.in_err-gamma.was,
+  via (answer_by (λ x. x)) (c.g_hs.ensures true) c.in_ok-g.was,
+  via (answer_by (λ x. x)) (c.gamma.ensures true) c.in_err-gamma.was,
 )
 
 pub returns-in_err-ln_g : goal.returns-in_err-ln_g
@@ -26,24 +26,24 @@ unfolding link_of ◌>>=◌ decimal of_bits
 returns-in_err-ln_g c = rw (
   handed_on _ c.from_residual-in_err-ln_g.ensures,
   ← c.pow_up.ensures,
-  ← c.link_pref-pref.ensures,
+  ← c.link_pref-pref.ensures true,
   ← c.x0_of.ensures true,
-  via answer c.g_hs.ensures c.in_ok-g.was,
-  via answer c.gamma.ensures c.in_ok-gamma.was,
+  via (answer_by (λ x. x)) (c.g_hs.ensures true) c.in_ok-g.was,
+  via (answer_by (λ x. x)) (c.gamma.ensures true) c.in_ok-gamma.was,
   ← c.g2_mca.ensures,
   ← c.g1.ensures,
-  via answer c.ln_g_mie.ensures c.in_err-ln_g.was,
+  via (answer_by (λ x. x)) (c.ln_g_mie.ensures true) c.in_err-ln_g.was,
 )
 
 pub returns : goal.returns
 unfolding link_of ◌>>=◌ decimal of_bits
 returns c = rw (
   ← c.pow_up.ensures,
-  ← c.link_pref-pref.ensures,
+  ← c.link_pref-pref.ensures true,
   ← c.x0_of.ensures true,
-  via answer c.g_hs.ensures c.in_ok-g.was,
-  via answer c.gamma.ensures c.in_ok-gamma.was,
+  via (answer_by (λ x. x)) (c.g_hs.ensures true) c.in_ok-g.was,
+  via (answer_by (λ x. x)) (c.gamma.ensures true) c.in_ok-gamma.was,
   ← c.g2_mca.ensures,
   ← c.g1.ensures,
-  via answer c.ln_g_mie.ensures c.in_ok-ln_g.was,
+  via (answer_by (λ x. x)) (c.ln_g_mie.ensures true) c.in_ok-ln_g.was,
 )
