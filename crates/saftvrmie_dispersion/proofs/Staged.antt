@@ -1,10 +1,9 @@
 -- The powers of one base share its logarithm: the five sums by it, where its powers lie inside their domain, and 6 where one does not. Assumes nothing.
-use Prim.Native.Nat.{ℕ}
 use lib.Ieee.{Float}
 use mathlib.Core.Path.{◌≡◌, refl}
 use mathlib.Core.Bool.{Bool, true, false, ◌&&◌, cond}
 use Rattle.number.specs.Ans.{Ans, held, refused, ◌>>=◌, demand}
-use Rattle.number.specs.Arith.{Arith, floats, decimal}
+use Rattle.number.specs.Arith.{Arith, floats}
 use Rattle.number.specs.Functions.{calls, answered, answered₂}
 use Rattle.number.specs.Domain.{base_inside, exponent_inside}
 use Rattle.elementary.specs.Port.{port}

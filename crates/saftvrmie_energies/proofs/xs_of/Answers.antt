@@ -1,5 +1,4 @@
 -- `saftvrmie_energies::xs_of` meets its contract. Assumes nothing.
-use mathlib.Core.Path.{◌∙◌}
 use borrow.Author.Rules.{rules}
 use Rattle.number.proofs.Walk.{turns_none, turns_next, turns_end}
 use Rattle.mie_parameters.specs.Places.{in_places}

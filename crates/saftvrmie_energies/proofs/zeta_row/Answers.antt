@@ -1,5 +1,4 @@
 -- `saftvrmie_energies::zeta_row` meets its contract. Assumes nothing.
-use mathlib.Core.Path.{◌∙◌}
 use borrow.Author.Rules.{rules}
 use Rattle.number.proofs.Walk.{turns_none, turns_next, turns_end}
 use lib.Ieee.{of_bits}
@@ -18,7 +17,7 @@ loop-k-preserved g c =
 
 pub returns : goal.returns
 unfolding zeta_row decimal of_bits
-returns g c w = 
+returns g c w =
     let m = g.met.D.DualNum in
     rw (
       turns_end _ _ _ _ _ c.loop-k.invariant.0 c.loop-k-test.false (c.loop-k.invariant.1 w),
