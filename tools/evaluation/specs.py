@@ -42,7 +42,7 @@ def types_of(text):
     """Structs, and enums with the number of things that each variant holds."""
     text = re.sub(r"//[^\n]*", "", text)
     found = {name: {} for name in re.findall(r"\bstruct (\w+)", text)}
-    for name, body in re.findall(r"\benum (\w+) \{(.*?)\n\}", text, re.S):
+    for name, body in re.findall(r"\benum (\w+)(?:<[^>]*>)? \{(.*?)\n\}", text, re.S):
         variants = {part: VARIANT.match(part) for part in parted(body)}
         if None in variants.values():
             raise NotUnderstood(f"a variant of {name} that is not known: {[part for part, v in variants.items() if v is None]}")

@@ -3,26 +3,15 @@
 
 ghost use Rattle.std.specs.Prelude.{◌<◌};
 
+use case_arguments::{list, whole_at};
+use number::bits_of;
+use records::{Records, floats, part};
 use sizes::{LISTS, SHEET, SHEETS, SIDE};
 use std::fs::File;
-use std::io::{self, ErrorKind, Read};
-
-fn wide(x: u8) -> usize
-    ensures { result < 256 }
-{
-    x as usize
-}
-
-fn print_field(rt: &impl Print, n: u64) -> io::Result<()> {
-    print!(rt; " {n}")
-}
-
-fn print_bits(rt: &impl Print, x: f64) -> io::Result<()> {
-    print!(rt; " {:016x}", number::bits_of(x))
-}
+use std::io::{self, Read};
 
 // What is told of a refused card is what was lent: model 9, count 99 and zeros.
-fn tried(rt: &impl Print, card: &[u8], newer: bool) -> io::Result<()> {
+fn read(rt: &impl Print, card: &[u8], newer: bool) -> io::Result<()> {
     let mut model = 9;
     let mut count = 99;
     let mut m = [0.0; SIDE];
@@ -40,31 +29,17 @@ fn tried(rt: &impl Print, card: &[u8], newer: bool) -> io::Result<()> {
         &mut orders,
     );
     let number = mie_parameters::number(answer);
-    print!(rt; "{number}")?;
-    print_field(rt, model as u64)?;
-    print_field(rt, count as u64)?;
-    print_bits(rt, sheets[0])?;
-    print_bits(rt, sheets[1])?;
-    println!(rt; "")
-}
-
-fn print_byte(rt: &impl Print, x: u8) -> io::Result<()> {
-    print!(rt; "{x:02x}")
-}
-
-fn print_bytes(rt: &impl Print, list: &[u8]) -> io::Result<()> {
-    for k in 0usize..list.len() {
-        print_byte(rt, list[k])?;
-    }
-    Ok(())
+    let first = bits_of(sheets[0]);
+    let second = bits_of(sheets[1]);
+    println!(rt; "{number} {model} {count} {first:016x} {second:016x}")
 }
 
 // What is told of a refused card is what was lent: length 9999, and each byte a5.
 fn told(rt: &impl Print, number: u8, length: usize, list: &[u8]) -> io::Result<()> {
-    print!(rt; "{number}")?;
-    print_field(rt, length as u64)?;
-    print!(rt; " ")?;
-    print_bytes(rt, list)?;
+    print!(rt; "{number} {length} ")?;
+    for byte in list {
+        print!(rt; "{byte:02x}")?;
+    }
     println!(rt; "")
 }
 
@@ -74,49 +49,27 @@ fn moved(rt: &impl Print, card: &[u8], newer: bool, list: &mut [u8]) -> io::Resu
     told(rt, mie_parameters::number(answer), length, list)
 }
 
-// Whether a whole record could be read before the end.
-fn is_read(file: &mut impl Read, record: &mut [u8]) -> io::Result<bool> {
-    match file.read_exact(record) {
-        Ok(()) => Ok(true),
-        Err(e) => {
-            if e.kind() == ErrorKind::UnexpectedEof {
-                return Ok(false);
-            }
-            Err(e)
-        }
-    }
+fn length_at(record: &[u8; 1600], k: usize) -> usize
+    requires { k < 1000 }
+{
+    usize::from(u16::from_le_bytes([record[k], record[k + 1]]))
 }
 
-// Whether there was a record.
-fn one(rt: &impl Print, file: &mut impl Read) -> io::Result<bool> {
-    let mut record = [0u8; 1600];
-    if !is_read(file, &mut record)? {
-        return Ok(false);
-    }
-    let end = 8 + wide(record[0]) + 256 * wide(record[1]);
-    let room = wide(record[4]) + 256 * wide(record[5]);
-    if 1600 < end {
-        return Ok(false);
-    }
-    if 1600 < room {
-        return Ok(false);
-    }
-    let task = record[2];
-    if task < 2 {
-        tried(rt, &record[8..end], task == 1)?;
-        return Ok(true);
-    }
-    let mut list = [0xa5u8; 1600];
-    moved(rt, &record[8..end], task == 3, &mut list[0..room])?;
-    Ok(true)
-}
-
-fn all(rt: &impl Print, file: &mut impl Read) -> io::Result<()> {
-    let mut turns: u64 = 100000;
-    while turns > 0 {
-        turns -= 1;
-        if !one(rt, file)? {
-            return Ok(());
+// The cards that are read or moved, up to a record whose card or list is too long for it. The numbers of the tasks are matched in this place only, so an enum would say them a second time.
+fn cards(rt: &impl Print, file: &mut impl Read) -> io::Result<()> {
+    for record in Records::<_, 1600>::new(file) {
+        let record = record?;
+        let mut list = [0xa5u8; 1600];
+        let Some(card) = record[8..].get(..length_at(&record, 0)) else {
+            break;
+        };
+        let Some(room) = list.get_mut(..length_at(&record, 4)) else {
+            break;
+        };
+        match record[2] {
+            0 => read(rt, card, false)?,
+            1 => read(rt, card, true)?,
+            task => moved(rt, card, task == 3, room)?,
         }
     }
     Ok(())
@@ -126,113 +79,68 @@ fn all(rt: &impl Print, file: &mut impl Read) -> io::Result<()> {
 
 const WORDS: usize = 300;
 
-const RECORD: usize = 2400;
+const RECORD: usize = 8 * WORDS;
 
-fn long(x: u8) -> u64
-    ensures { result < 256 }
-{
-    x as u64
-}
-
-fn half(a: u8, b: u8, c: u8, d: u8) -> u64
-    ensures { result < 4294967296 }
-{
-    long(a) + 256 * long(b) + 65536 * long(c) + 16777216 * long(d)
-}
-
-fn word(b: &[u8; RECORD], k: usize) -> u64 {
-    if WORDS <= k {
-        return 0;
-    }
-    let i = 8 * k;
-    half(b[i], b[i + 1], b[i + 2], b[i + 3])
-        + 4294967296 * half(b[i + 4], b[i + 5], b[i + 6], b[i + 7])
-}
-
-// The words of a record, as the floats of their bits.
-fn floats(record: &[u8; RECORD]) -> [f64; WORDS] {
-    let mut f = [0.0; WORDS];
-    for k in 0usize..WORDS {
-        f[k] = number::of_bits(word(record, k));
-    }
-    f
-}
-
-fn quantum_card(f: &[f64], order: &[u8], list: &mut [u8], length: &mut usize) -> u8 {
+fn quantum_card(f: &[f64], order: &[u8], room: &mut [u8], length: &mut usize) -> u8 {
     let answer = card_of_lists::vrq_card(
-        case_arguments::whole_at(f, 0),
-        case_arguments::list(f, 9),
-        case_arguments::list(f, 10),
-        case_arguments::list(f, 11),
-        case_arguments::list(f, 12),
-        case_arguments::list(f, 13),
-        case_arguments::list(f, 14),
+        whole_at(f, 0),
+        list(f, 9),
+        list(f, 10),
+        list(f, 11),
+        list(f, 12),
+        list(f, 13),
+        list(f, 14),
         order,
-        case_arguments::list(f, 15),
-        case_arguments::list(f, 16),
-        list,
+        list(f, 15),
+        list(f, 16),
+        room,
         length,
     );
     mie_parameters::number(answer)
 }
 
-fn mie_card(f: &[f64], list: &mut [u8], length: &mut usize) -> u8 {
+fn mie_card(f: &[f64], room: &mut [u8], length: &mut usize) -> u8 {
     let answer = card_of_lists::vr_card(
-        case_arguments::whole_at(f, 0),
-        case_arguments::list(f, 9),
-        case_arguments::list(f, 10),
-        case_arguments::list(f, 11),
-        case_arguments::list(f, 12),
-        case_arguments::list(f, 13),
-        case_arguments::list(f, 15),
-        case_arguments::list(f, 16),
-        list,
+        whole_at(f, 0),
+        list(f, 9),
+        list(f, 10),
+        list(f, 11),
+        list(f, 12),
+        list(f, 13),
+        list(f, 15),
+        list(f, 16),
+        room,
         length,
     );
     mie_parameters::number(answer)
 }
 
-fn written(rt: &impl Print, f: &[f64], order: &[u8], list: &mut [u8]) -> io::Result<()> {
-    let mut length = 9999;
-    if case_arguments::whole_at(f, 1) == 1 {
-        let number = mie_card(f, list, &mut length);
-        return told(rt, number, length, list);
-    }
-    let number = quantum_card(f, order, list, &mut length);
-    told(rt, number, length, list)
-}
-
-// Whether there was a record.
-fn one_written(rt: &impl Print, file: &mut impl Read) -> io::Result<bool> {
-    let mut record = [0u8; RECORD];
-    if !is_read(file, &mut record)? {
-        return Ok(false);
-    }
-    let f = floats(&record);
-    let room = case_arguments::whole_at(&f, 2);
-    if 1600 < room {
-        return Ok(false);
-    }
+// One card; false where the list that it goes to is longer than this program has.
+fn written(rt: &impl Print, record: &[u8; RECORD]) -> io::Result<bool> {
+    let f: [f64; WORDS] = floats(record);
     let mut list = [0xa5u8; 1600];
-    let order = case_arguments::bytes(&record, 400, case_arguments::whole_at(&f, 23));
-    written(rt, &f, order, &mut list[0..room])?;
+    let Some(room) = list.get_mut(..whole_at(&f, 2)) else {
+        return Ok(false);
+    };
+    let order = part(record, 400, whole_at(&f, 23));
+    let mut length = 9999;
+    let number = if whole_at(&f, 1) == 1 {
+        mie_card(&f, room, &mut length)
+    } else {
+        quantum_card(&f, order, room, &mut length)
+    };
+    told(rt, number, length, room)?;
     Ok(true)
 }
 
-fn all_written(rt: &impl Print, file: &mut impl Read) -> io::Result<()> {
-    let mut turns: u64 = 100000;
-    while turns > 0 {
-        turns -= 1;
-        if !one_written(rt, file)? {
-            return Ok(());
+fn main(rt: HostRuntime) -> io::Result<()> {
+    let mut cards_file = File::open(&rt, "cards.bin")?;
+    cards(&rt, &mut cards_file)?;
+    let mut written_file = File::open(&rt, "written.bin")?;
+    for record in Records::<_, RECORD>::new(&mut written_file) {
+        if !written(&rt, &record?)? {
+            break;
         }
     }
     Ok(())
-}
-
-fn main(rt: HostRuntime) -> io::Result<()> {
-    let mut cards = File::open(&rt, "cards.bin")?;
-    all(&rt, &mut cards)?;
-    let mut written = File::open(&rt, "written.bin")?;
-    all_written(&rt, &mut written)
 }

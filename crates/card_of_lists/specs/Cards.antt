@@ -22,9 +22,15 @@ unfoldable pub quantum_component : List Float → List Float → List Float → 
 quantum_component sigma epsilon_k lr la mass fh i =
     pattern (at sigma i) ∷ pattern (at epsilon_k i) ∷ pattern (at lr i) ∷ pattern (at la i) ∷ pattern (at mass i) ∷ get_or fh i 0 ∷ []
 
+abbrev pub quantum_component_of : Quantum.Lists → ℕ → List ℕ
+quantum_component_of x = quantum_component x.sigma x.epsilon_k x.lr x.la x.mass x.fh
+
 -- 'for VR Mie m, sigma, epsilon_k, lr, la'
 unfoldable pub mie_component : List Float → List Float → List Float → List Float → List Float → ℕ → List ℕ
 mie_component m sigma epsilon_k lr la i = pattern (at m i) ∷ pattern (at sigma i) ∷ pattern (at epsilon_k i) ∷ pattern (at lr i) ∷ pattern (at la i) ∷ []
+
+abbrev pub mie_component_of : Mie.Lists → ℕ → List ℕ
+mie_component_of x = mie_component x.m x.sigma x.epsilon_k x.lr x.la
 
 -- 'for each pair i < j, row by row, two 64-bit floats': row i has the pairs (i, i + 1) to (i, n − 1)
 unfoldable pub pair_row : ℕ → List Float → List Float → ℕ → List ℕ
@@ -39,7 +45,7 @@ quantum_card x =
     record {
       kind = 0;
       count = x.count;
-      values = joined x.count (quantum_component x.sigma x.epsilon_k x.lr x.la x.mass x.fh) ++ pair_rows x.count x.k_ij x.l_ij;
+      values = joined x.count (quantum_component_of x) ++ pair_rows x.count x.k_ij x.l_ij;
     }
 
 unfoldable pub mie_card : Mie.Lists → Card
@@ -47,7 +53,7 @@ mie_card x =
     record {
       kind = 1;
       count = x.count;
-      values = joined x.count (mie_component x.m x.sigma x.epsilon_k x.lr x.la) ++ pair_rows x.count x.k_ij x.gamma_ij;
+      values = joined x.count (mie_component_of x) ++ pair_rows x.count x.k_ij x.gamma_ij;
     }
 
 -- 'The lists pass the tests for numbers 1 to 5 first; 6 is left to the parameters.' The parameters give 6 after all of these

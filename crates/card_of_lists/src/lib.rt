@@ -9,59 +9,40 @@ ghost use Rattle.saftvrmie_parameters.specs.Parameters as Mie;
 ghost use Rattle.card.specs.Card.{most_values};
 ghost use Rattle.card.specs.Fields.{joined};
 ghost use Rattle.card_writer.specs.Writing.{CardRoom};
-ghost use Rattle.card_of_lists.specs.Cards.{quantum_component, mie_component, pair_row, pair_rows, passed_by, vrq_card, vr_card};
+ghost use Rattle.card_of_lists.specs.Cards.{quantum_component_of, mie_component_of, pair_row, pair_rows, passed_by, vrq_card, vr_card};
 
 use card::{MOST, VALUES};
 use number::Refusal;
+use saftvrmie_parameters::ComponentLists as MieLists;
+use saftvrqmie_parameters::ComponentLists as QuantumLists;
 
-// The components' numbers; the lists are as long as the count.
-fn quantum_components(
-    values: &mut [u64],
-    n: usize,
-    sigma: &[f64],
-    epsilon_k: &[f64],
-    lr: &[f64],
-    la: &[f64],
-    mass: &[f64],
-    fh: &[u8],
-)
-    requires { (n ≤ side) × (length values.old ≡ most_values) × (length sigma.now ≡ n) × (length epsilon_k.now ≡ n)
-        × (length lr.now ≡ n) × (length la.now ≡ n) × (length mass.now ≡ n) × (length fh.now ≡ n) }
-    ensures { let f = quantum_component sigma.now epsilon_k.now lr.now la.now mass.now fh.now in
-        take (n * 6) values.new ≡ joined n f }
+// The components' numbers.
+fn quantum_components(values: &mut [u64], l: &QuantumLists)
+    requires { (length values.old ≡ most_values) × (length l.now.fh.now ≡ l.now.count) × Quantum.Fitting (Quantum.lists_of l.now) }
+    ensures { take (l.now.count * 6) values.new ≡ joined l.now.count (quantum_component_of (Quantum.lists_of l.now)) }
 {
-    for i in 0usize..n {
+    for i in 0usize..l.count {
         let at = i * 6;
-        values[at] = number::bits_of(sigma[i]);
-        values[at + 1] = number::bits_of(epsilon_k[i]);
-        values[at + 2] = number::bits_of(lr[i]);
-        values[at + 3] = number::bits_of(la[i]);
-        values[at + 4] = number::bits_of(mass[i]);
-        values[at + 5] = fh[i] as u64;
+        values[at] = number::bits_of(l.sigma[i]);
+        values[at + 1] = number::bits_of(l.epsilon_k[i]);
+        values[at + 2] = number::bits_of(l.lr[i]);
+        values[at + 3] = number::bits_of(l.la[i]);
+        values[at + 4] = number::bits_of(l.mass[i]);
+        values[at + 5] = l.fh[i] as u64;
     }
 }
 
-fn mie_components(
-    values: &mut [u64],
-    n: usize,
-    m: &[f64],
-    sigma: &[f64],
-    epsilon_k: &[f64],
-    lr: &[f64],
-    la: &[f64],
-)
-    requires { (n ≤ side) × (length values.old ≡ most_values) × (length m.now ≡ n) × (length sigma.now ≡ n) × (length epsilon_k.now ≡ n)
-        × (length lr.now ≡ n) × (length la.now ≡ n) }
-    ensures { let f = mie_component m.now sigma.now epsilon_k.now lr.now la.now in
-        take (n * 5) values.new ≡ joined n f }
+fn mie_components(values: &mut [u64], l: &MieLists)
+    requires { (length values.old ≡ most_values) × (length l.now.m.now ≡ l.now.count) × Mie.Fitting (Mie.lists_of l.now) }
+    ensures { take (l.now.count * 5) values.new ≡ joined l.now.count (mie_component_of (Mie.lists_of l.now)) }
 {
-    for i in 0usize..n {
+    for i in 0usize..l.count {
         let at = i * 5;
-        values[at] = number::bits_of(m[i]);
-        values[at + 1] = number::bits_of(sigma[i]);
-        values[at + 2] = number::bits_of(epsilon_k[i]);
-        values[at + 3] = number::bits_of(lr[i]);
-        values[at + 4] = number::bits_of(la[i]);
+        values[at] = number::bits_of(l.m[i]);
+        values[at + 1] = number::bits_of(l.sigma[i]);
+        values[at + 2] = number::bits_of(l.epsilon_k[i]);
+        values[at + 3] = number::bits_of(l.lr[i]);
+        values[at + 4] = number::bits_of(l.la[i]);
     }
 }
 
@@ -102,89 +83,35 @@ fn passed(refused: Option<Refusal>) -> Result<(), Refusal>
 }
 
 // The card of a quantum fluid into a lent list, and its length: the parameters' 1 to 5, 10, 12.
-pub fn vrq_card(
-    count: usize,
-    m: &[f64],
-    sigma: &[f64],
-    epsilon_k: &[f64],
-    lr: &[f64],
-    la: &[f64],
-    mass: &[f64],
-    order: &[u8],
-    k_ij: &[f64],
-    l_ij: &[f64],
-    card: &mut [u8],
-    told: &mut usize,
-) -> Result<(), Refusal>
-    ensures { let x : Quantum.Lists =
-        record {
-          count = count;
-          m = m.now;
-          sigma = sigma.now;
-          epsilon_k = epsilon_k.now;
-          lr = lr.now;
-          la = la.now;
-          mass = mass.now;
-          fh = order.now;
-          k_ij = k_ij.now;
-          l_ij = l_ij.now;
-        } in
-        let l : CardRoom = record { card = card.entry.now; length = told.old } in
-        let q = vrq_card x l in
-        (outcome result true ≡ verdict q) × (card.exit.now ≡ (stored l q).card) × (told.new ≡ (stored l q).length) }
+pub fn vrq_card(l: &QuantumLists, card: &mut [u8], told: &mut usize) -> Result<(), Refusal>
+    ensures { let room : CardRoom = record { card = card.entry.now; length = told.old } in
+        let q = vrq_card (Quantum.lists_of l.now) room in
+        (outcome result true ≡ verdict q) × (card.exit.now ≡ (stored room q).card) × (told.new ≡ (stored room q).length) }
 {
-    let parameters = saftvrqmie_parameters::saft_vrq_mie_pars(
-        count, m, sigma, epsilon_k, lr, la, mass, order, k_ij, l_ij,
-    );
-    passed(parameters.err())?;
-    if MOST < count {
+    passed(saftvrqmie_parameters::saft_vrq_mie_pars(l).err())?;
+    if MOST < l.count {
         return Err(Refusal::Heading);
     }
     let mut values = [0; VALUES];
-    quantum_components(&mut values, count, sigma, epsilon_k, lr, la, mass, order);
-    pair_rows(&mut values, count * 6, count, k_ij, l_ij);
-    let total = card::value_count(0, count);
-    card_writer::store(0, count, false, &values[0..total], card, told)
+    quantum_components(&mut values, l);
+    pair_rows(&mut values, l.count * 6, l.count, l.k_ij, l.l_ij);
+    let total = card::value_count(0, l.count);
+    card_writer::store(0, l.count, false, &values[0..total], card, told)
 }
 
 // The card of a fluid of SAFT-VR Mie likewise: the parameters' 1 and 2, 10, 12.
-pub fn vr_card(
-    count: usize,
-    m: &[f64],
-    sigma: &[f64],
-    epsilon_k: &[f64],
-    lr: &[f64],
-    la: &[f64],
-    k_ij: &[f64],
-    gamma_ij: &[f64],
-    card: &mut [u8],
-    told: &mut usize,
-) -> Result<(), Refusal>
-    ensures { let x : Mie.Lists =
-        record {
-          count = count;
-          m = m.now;
-          sigma = sigma.now;
-          epsilon_k = epsilon_k.now;
-          lr = lr.now;
-          la = la.now;
-          k_ij = k_ij.now;
-          gamma_ij = gamma_ij.now;
-        } in
-        let l : CardRoom = record { card = card.entry.now; length = told.old } in
-        let q = vr_card x l in
-        (outcome result true ≡ verdict q) × (card.exit.now ≡ (stored l q).card) × (told.new ≡ (stored l q).length) }
+pub fn vr_card(l: &MieLists, card: &mut [u8], told: &mut usize) -> Result<(), Refusal>
+    ensures { let room : CardRoom = record { card = card.entry.now; length = told.old } in
+        let q = vr_card (Mie.lists_of l.now) room in
+        (outcome result true ≡ verdict q) × (card.exit.now ≡ (stored room q).card) × (told.new ≡ (stored room q).length) }
 {
-    let parameters = saftvrmie_parameters::saft_vr_mie_pars(
-        count, m, sigma, epsilon_k, lr, la, k_ij, gamma_ij,
-    );
-    passed(parameters.err())?;
-    if MOST < count {
+    passed(saftvrmie_parameters::saft_vr_mie_pars(l).err())?;
+    if MOST < l.count {
         return Err(Refusal::Heading);
     }
     let mut values = [0; VALUES];
-    mie_components(&mut values, count, m, sigma, epsilon_k, lr, la);
-    pair_rows(&mut values, count * 5, count, k_ij, gamma_ij);
-    let total = card::value_count(1, count);
-    card_writer::store(1, count, false, &values[0..total], card, told)
+    mie_components(&mut values, l);
+    pair_rows(&mut values, l.count * 5, l.count, l.k_ij, l.gamma_ij);
+    let total = card::value_count(1, l.count);
+    card_writer::store(1, l.count, false, &values[0..total], card, told)
 }

@@ -35,18 +35,18 @@ fn quantum_set(values: &[u64], n: usize) -> Result<SaftVRQMiePars, Refusal>
     let order = card_lists::orders(values, n);
     let k_ij = card_lists::pair_list(values, start, n, 0);
     let l_ij = card_lists::pair_list(values, start, n, 1);
-    saftvrqmie_parameters::saft_vrq_mie_pars(
-        n,
-        &m[0..n],
-        &sigma[0..n],
-        &epsilon_k[0..n],
-        &lr[0..n],
-        &la[0..n],
-        &mass[0..n],
-        &order[0..n],
-        &k_ij[0..square],
-        &l_ij[0..square],
-    )
+    saftvrqmie_parameters::saft_vrq_mie_pars(&saftvrqmie_parameters::ComponentLists {
+        count: n,
+        m: &m[0..n],
+        sigma: &sigma[0..n],
+        epsilon_k: &epsilon_k[0..n],
+        lr: &lr[0..n],
+        la: &la[0..n],
+        mass: &mass[0..n],
+        fh: &order[0..n],
+        k_ij: &k_ij[0..square],
+        l_ij: &l_ij[0..square],
+    })
 }
 
 // The set of SAFT-VR Mie likewise.
@@ -64,16 +64,16 @@ fn mie_set(values: &[u64], kind: usize, n: usize) -> Result<SaftVRMiePars, Refus
     let la = card_lists::column(values, 5, n, 4);
     let k_ij = card_lists::pair_list(values, start, n, 0);
     let gamma_ij = card_lists::pair_list(values, start, n, 1);
-    saftvrmie_parameters::saft_vr_mie_pars(
-        n,
-        &m[0..n],
-        &sigma[0..n],
-        &epsilon_k[0..n],
-        &lr[0..n],
-        &la[0..n],
-        &k_ij[0..square],
-        &gamma_ij[0..square],
-    )
+    saftvrmie_parameters::saft_vr_mie_pars(&saftvrmie_parameters::ComponentLists {
+        count: n,
+        m: &m[0..n],
+        sigma: &sigma[0..n],
+        epsilon_k: &epsilon_k[0..n],
+        lr: &lr[0..n],
+        la: &la[0..n],
+        k_ij: &k_ij[0..square],
+        gamma_ij: &gamma_ij[0..square],
+    })
 }
 
 // A quantum set into lists whose lengths were tested.

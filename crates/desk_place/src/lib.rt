@@ -21,6 +21,7 @@ use crate::layout::{
 };
 use number::Refusal;
 use saftvrqmie_energies::QuantumEnergies;
+use saftvrqmie_parameters::FeynmanHibbsOrder;
 use saftvrqmie_potential::{FloatPair, Pair};
 use saftvrqmie_properties::FloatProperties;
 use sizes::table::{EPSILON_K_EFF, HS_DIAMETER, QUANTUM_D};
@@ -66,7 +67,7 @@ fn pair_here(floats: &[f64], bytes: &[u8], e: usize) -> FloatPair
     ensures { let p : Lists = record { floats = floats.entry.now; bytes = bytes.now } in
         result ≡ pair_at_entry (set_of p).sheets (set_of p).orders (temperature_of p) e }
 {
-    let order = saftvrqmie_parameters::order_of(bytes[ORDERS_AT + e]);
+    let order = FeynmanHibbsOrder::from(bytes[ORDERS_AT + e]);
     Pair {
         sigma: floats[SHEETS_AT + e],
         epsilon_k: floats[EPSILON_K_AT + e],

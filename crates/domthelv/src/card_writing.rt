@@ -39,10 +39,19 @@ pub fn domthelv_vrq_card(
         let q = vrq_card x l in
         (result ≡ status q) × (card.exit.now ≡ (stored l q).card) × (length.new ≡ (stored l q).length) }
 {
-    let answer = card_of_lists::vrq_card(
-        count, m, sigma, epsilon_k, lr, la, mass, order, k_ij, l_ij, card, length,
-    );
-    mie_parameters::number(answer)
+    let lists = saftvrqmie_parameters::ComponentLists {
+        count,
+        m,
+        sigma,
+        epsilon_k,
+        lr,
+        la,
+        mass,
+        fh: order,
+        k_ij,
+        l_ij,
+    };
+    mie_parameters::number(card_of_lists::vrq_card(&lists, card, length))
 }
 
 // The older card of a fluid of SAFT-VR Mie likewise. The parameters' 1, 2, then 10, then 12.
@@ -73,10 +82,17 @@ pub fn domthelv_vr_card(
         let q = vr_card x l in
         (result ≡ status q) × (card.exit.now ≡ (stored l q).card) × (length.new ≡ (stored l q).length) }
 {
-    let answer = card_of_lists::vr_card(
-        count, m, sigma, epsilon_k, lr, la, k_ij, gamma_ij, card, length,
-    );
-    mie_parameters::number(answer)
+    let lists = saftvrmie_parameters::ComponentLists {
+        count,
+        m,
+        sigma,
+        epsilon_k,
+        lr,
+        la,
+        k_ij,
+        gamma_ij,
+    };
+    mie_parameters::number(card_of_lists::vr_card(&lists, card, length))
 }
 
 // An older card as a newer one, and its length. 9, 10, 11, then 12.

@@ -7,6 +7,7 @@ ghost use Rattle.domthelv.specs.Operations.{vr_parameters, vr_diameters, vr_radi
 ghost use Rattle.stages.specs.Stages.{mie_stage};
 ghost use Rattle.saftvrmie_parameters.specs.Parameters as Mie;
 
+use saftvrmie_parameters::ComponentLists;
 use sizes::SIDE;
 
 // Parameters of SAFT-VR Mie. 1, 2, 6.
@@ -40,10 +41,17 @@ pub fn domthelv_vr_parameters(
     if !set_lists::mie_lengths(set_lists, set_sheets) {
         return 1;
     }
-    let given = saftvrmie_parameters::saft_vr_mie_pars(
-        count, m, sigma, epsilon_k, lr, la, k_ij, gamma_ij,
-    );
-    match given {
+    let lists = ComponentLists {
+        count,
+        m,
+        sigma,
+        epsilon_k,
+        lr,
+        la,
+        k_ij,
+        gamma_ij,
+    };
+    match saftvrmie_parameters::saft_vr_mie_pars(&lists) {
         Err(r) => r.code(),
         Ok(set) => {
             set_lists::write_mie(set, set_lists, set_sheets);
@@ -207,7 +215,7 @@ pub fn domthelv_vr_stage(
         let q = mie_stage x temperature fractions.now densities.now chain in
         (result ≡ status q) × (out.new ≡ stored out.old q) }
 {
-    let worked = stages::mie_stage(
+    let lists = ComponentLists {
         count,
         m,
         sigma,
@@ -216,11 +224,8 @@ pub fn domthelv_vr_stage(
         la,
         k_ij,
         gamma_ij,
-        temperature,
-        fractions,
-        densities,
-        chain,
-    );
+    };
+    let worked = stages::mie_stage(&lists, temperature, fractions, densities, chain);
     match worked {
         Err(r) => r.code(),
         Ok(x) => {

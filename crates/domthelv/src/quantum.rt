@@ -15,6 +15,7 @@ use number::Refusal;
 use order_counts::OrderCounts;
 use saftvrqmie::PairSearches;
 use saftvrqmie_energies::QuantumEnergies;
+use saftvrqmie_parameters::ComponentLists;
 use saftvrqmie_total::QuantumTotal;
 
 // `SaftVRQMieRecord::new`: 3 if m is not 1.
@@ -88,10 +89,19 @@ pub fn domthelv_vrq_parameters(
     if !set_lists::quantum_lengths(set_m, set_sheets, set_orders) {
         return 1;
     }
-    let given = saftvrqmie_parameters::saft_vrq_mie_pars(
-        count, m, sigma, epsilon_k, lr, la, mass, order, k_ij, l_ij,
-    );
-    match given {
+    let lists = ComponentLists {
+        count,
+        m,
+        sigma,
+        epsilon_k,
+        lr,
+        la,
+        mass,
+        fh: order,
+        k_ij,
+        l_ij,
+    };
+    match saftvrqmie_parameters::saft_vrq_mie_pars(&lists) {
         Err(r) => r.code(),
         Ok(set) => {
             set_lists::write_quantum(set, set_m, set_sheets, set_orders);
@@ -387,7 +397,7 @@ pub fn domthelv_vrq_stage(
     if out.len() != 3 {
         return 1;
     }
-    let worked = stages::quantum_stage(
+    let lists = ComponentLists {
         count,
         m,
         sigma,
@@ -395,14 +405,11 @@ pub fn domthelv_vrq_stage(
         lr,
         la,
         mass,
-        order,
+        fh: order,
         k_ij,
         l_ij,
-        temperature,
-        fractions,
-        densities,
-        non_additive,
-    );
+    };
+    let worked = stages::quantum_stage(&lists, temperature, fractions, densities, non_additive);
     match worked {
         Err(r) => r.code(),
         Ok(e) => {

@@ -1,14 +1,15 @@
 // The numbers that the quantum formulas are written over (the Rust's DualNum beside f64): floats, enclosures, and floats with a slope beside plain ones.
 #![tactic(auto)]
 
-ghost use Rattle.std.specs.Prelude.{◌≡◌, ◌&&◌, Bool, true, false, cond, refl, ℕ, Float};
+ghost use Rattle.std.specs.Prelude.{List, length, ◌<◌, ◌≡◌, ◌&&◌, Bool, true, false, cond, refl, ℕ, Float};
 ghost use Rattle.std.proofs.Common.{rules};
 ghost use Rattle.number.specs.Ans.{Ans, held, refused};
 ghost use Rattle.number.specs.Answer.{answer_by};
+ghost use Rattle.number.specs.Lists.{at};
 ghost use Rattle.number.specs.Arith.{Arith, floats, whole, epsilon64};
 ghost use Rattle.number.specs.Functions.{Functions, calls};
 ghost use Rattle.elementary.specs.Port.{port};
-ghost use Rattle.enclosure.specs.Enclosure.{enclosures};
+ghost use Rattle.enclosure.specs.Enclosure.{enclosures, point};
 ghost use Rattle.dual.specs.Value.{dual_of};
 ghost use Rattle.slopes.specs.Mixed.{plain, sloped, as_dual};
 ghost use Rattle.slopes.specs.Rules.{mixed_functions};
@@ -64,6 +65,13 @@ pub struct DualExponent {
     pub inside: bool,
 }
 
+// A list of numbers: floats, points, or floats with their slopes in the second.
+#[derive(Clone, Copy)]
+pub struct NumberList<'a> {
+    pub values: &'a [f64],
+    pub slopes: &'a [f64],
+}
+
 pub trait DualNum: Copy
     + Drop
     + Add<Self, Output = Self>
@@ -104,6 +112,11 @@ pub trait DualNum: Copy
     ghost exponent_in: { Self.Exponent → Bool };
 
     ghost raised: { (w : Bool) → Self.Base → Self.Exponent → (beside w).Num };
+
+    // Whether a list has an entry, and the entry.
+    ghost has: { List Float → List Float → ℕ → Type 0 };
+
+    ghost entry_of: { (w : Bool) → List Float → List Float → ℕ → (beside w).Num };
 
     // A number taken as a D: a plain one has slope +0.
     ghost taken: { (w : Bool) → (beside w).Num → (beside w).Num };
@@ -161,6 +174,10 @@ pub trait DualNum: Copy
     // 1 / x.
     fn recip(self) -> Self
         ensures { (w : Bool) → of w result ≡ (beside w).div (whole (beside w) 1) (of w self) };
+
+    fn entry(l: &NumberList, i: usize) -> Self
+        requires { has l.now.values.now l.now.slopes.now i }
+        ensures { (w : Bool) → of w result ≡ entry_of w l.now.values.now l.now.slopes.now i };
 
     // The constants, as plain numbers.
     fn pi() -> Self::Plain
@@ -311,6 +328,10 @@ impl DualNum for f64 {
 
     ghost raised = { λ w b n. float_raised b n };
 
+    ghost has = { λ l s i. i < length l };
+
+    ghost entry_of = { λ w l s i. at l i };
+
     ghost taken = { λ w m. m };
 
     fn lift(c: f64) -> f64 {
@@ -375,6 +396,10 @@ impl DualNum for f64 {
 
     fn recip(self) -> f64 {
         1.0 / self
+    }
+
+    fn entry(l: &NumberList, i: usize) -> f64 {
+        l.values[i]
     }
 
     fn pi() -> f64 {
@@ -520,6 +545,10 @@ impl DualNum for Enclosure {
 
     ghost raised = { λ w b n. enclosure_raised b n };
 
+    ghost has = { λ l s i. i < length l };
+
+    ghost entry_of = { λ w l s i. point (at l i) };
+
     ghost taken = { λ w m. m };
 
     fn lift(c: Enclosure) -> Enclosure {
@@ -584,6 +613,10 @@ impl DualNum for Enclosure {
 
     fn recip(self) -> Enclosure {
         Enclosure::point(1.0) / self
+    }
+
+    fn entry(l: &NumberList, i: usize) -> Enclosure {
+        Enclosure::point(l.values[i])
     }
 
     fn pi() -> Enclosure {
@@ -731,6 +764,10 @@ impl DualNum for Dual {
 
     ghost raised = { λ w b n. dual_raised b n };
 
+    ghost has = { λ l s i. (i < length l) × (i < length s) };
+
+    ghost entry_of = { λ w l s i. sloped (record { re = at l i; eps = at s i }) };
+
     ghost taken = { λ w m. sloped (as_dual m) };
 
     fn lift(c: f64) -> Dual {
@@ -801,6 +838,13 @@ impl DualNum for Dual {
 
     fn recip(self) -> Dual {
         slopes::recip(self)
+    }
+
+    fn entry(l: &NumberList, i: usize) -> Dual {
+        Dual {
+            re: l.values[i],
+            eps: l.slopes[i],
+        }
     }
 
     fn pi() -> f64 {

@@ -2,12 +2,67 @@
 // arguments' bits, and the answer's bits, or all ones for a refusal. Writes for each function how many answers were as they should be.
 #![tactic(auto)]
 
-ghost use Rattle.std.specs.Prelude.{◌<◌};
-
 use number::Refusal;
+use records::{Records, word};
 use std::fs::File;
-use std::io::{self, ErrorKind, Read};
+use std::io::{self, Read};
 use std::rt::Files;
+
+// In the order of the numbers that the records have for them.
+#[derive(Clone, Copy)]
+enum Function {
+    Sqrt,
+    Ln,
+    Ln1p,
+    Exp,
+    ExpM1,
+    Tanh,
+    Powf,
+}
+
+impl Function {
+    const ALL: [Function; 7] = [
+        Function::Sqrt,
+        Function::Ln,
+        Function::Ln1p,
+        Function::Exp,
+        Function::ExpM1,
+        Function::Tanh,
+        Function::Powf,
+    ];
+
+    fn name(self) -> &'static str {
+        match self {
+            Function::Sqrt => "sqrt",
+            Function::Ln => "ln",
+            Function::Ln1p => "ln_1p",
+            Function::Exp => "exp",
+            Function::ExpM1 => "exp_m1",
+            Function::Tanh => "tanh",
+            Function::Powf => "powf",
+        }
+    }
+
+    fn worked(self, x: f64, y: f64) -> Result<f64, Refusal> {
+        match self {
+            Function::Sqrt => elementary::sqrt(x),
+            Function::Ln => elementary::ln(x),
+            Function::Ln1p => elementary::ln_1p(x),
+            Function::Exp => elementary::exp(x),
+            Function::ExpM1 => elementary::exp_m1(x),
+            Function::Tanh => elementary::tanh(x),
+            Function::Powf => elementary::powf(x, y),
+        }
+    }
+
+    // Whether the answer at a record's arguments has the record's bits.
+    fn agrees(self, record: &[u8; 32]) -> bool {
+        let x = number::of_bits(word(record, 1));
+        let y = number::of_bits(word(record, 2));
+        let bits = self.worked(x, y).map_or(u64::MAX, number::bits_of);
+        bits == word(record, 3)
+    }
+}
 
 #[derive(Drop)]
 struct Tally {
@@ -15,126 +70,32 @@ struct Tally {
     other: u64,
 }
 
-#[derive(Drop)]
-enum Turn {
-    Same,
-    Other,
-    Skipped,
-    End,
-}
-
-fn wide(x: u8) -> u64
-    ensures { result < 256 }
-{
-    x as u64
-}
-
-fn half(a: u8, b: u8, c: u8, d: u8) -> u64
-    ensures { result < 4294967296 }
-{
-    wide(a) + 256 * wide(b) + 65536 * wide(c) + 16777216 * wide(d)
-}
-
-// Eight bytes at 8 * k of a record.
-fn word(b: &[u8; 32], k: usize) -> u64 {
-    if 4 <= k {
-        return 0;
-    }
-    let i = 8 * k;
-    half(b[i], b[i + 1], b[i + 2], b[i + 3])
-        + 4294967296 * half(b[i + 4], b[i + 5], b[i + 6], b[i + 7])
-}
-
-fn worked(which: u64, x: f64, y: f64) -> Result<f64, Refusal> {
-    match which {
-        0 => elementary::sqrt(x),
-        1 => elementary::ln(x),
-        2 => elementary::ln_1p(x),
-        3 => elementary::exp(x),
-        4 => elementary::exp_m1(x),
-        5 => elementary::tanh(x),
-        _ => elementary::powf(x, y),
-    }
-}
-
-fn agrees(a: Result<f64, Refusal>, bits: u64) -> bool {
-    match a {
-        Ok(v) => number::bits_of(v) == bits,
-        Err(_) => bits == 0xffff_ffff_ffff_ffff,
-    }
-}
-
-// Whether the whole record could be read before the end.
-fn is_read(file: &mut impl Read, record: &mut [u8]) -> io::Result<bool> {
-    match file.read_exact(record) {
-        Ok(()) => Ok(true),
-        Err(e) => {
-            if e.kind() == ErrorKind::UnexpectedEof {
-                return Ok(false);
-            }
-            Err(e)
-        }
-    }
-}
-
-// One record of the function that is asked for: read, worked, compared.
-fn one(file: &mut impl Read, which: u64) -> io::Result<Turn> {
-    let mut record = [0u8; 32];
-    if !is_read(file, &mut record)? {
-        return Ok(Turn::End);
-    }
-    if word(&record, 0) != which {
-        return Ok(Turn::Skipped);
-    }
-    let x = number::of_bits(word(&record, 1));
-    let y = number::of_bits(word(&record, 2));
-    if agrees(worked(which, x, y), word(&record, 3)) {
-        return Ok(Turn::Same);
-    }
-    Ok(Turn::Other)
-}
-
-fn all(file: &mut impl Read, which: u64) -> io::Result<Tally> {
-    let mut turns: u64 = 100000000;
-    let mut same: u64 = 0;
-    let mut other: u64 = 0;
-    while turns > 0 {
-        turns -= 1;
-        let t = one(file, which)?;
-        match t {
-            Turn::Same => {
-                same += 1;
-            }
-            Turn::Other => {
-                other += 1;
-            }
-            Turn::Skipped => {}
-            Turn::End => {
-                return Ok(Tally {
-                    same: same,
-                    other: other,
-                });
+// The records of one function.
+fn tallied(file: &mut impl Read, function: Function) -> io::Result<Tally> {
+    let mut tally = Tally { same: 0, other: 0 };
+    for record in Records::<_, 32>::new(file) {
+        let record = record?;
+        if word(&record, 0) == function as u64 {
+            if function.agrees(&record) {
+                tally.same = tally.same.saturating_add(1);
+            } else {
+                tally.other = tally.other.saturating_add(1);
             }
         }
     }
-    Ok(Tally {
-        same: same,
-        other: other,
-    })
+    Ok(tally)
 }
 
-fn run(rt: &(impl Files + Print), name: &str, which: u64) -> io::Result<()> {
+fn run(rt: &(impl Files + Print), function: Function) -> io::Result<()> {
     let mut file = File::open(rt, "vectors.bin")?;
-    let t = all(&mut file, which)?;
-    println!(rt; "{name}{} same, {} differ", t.same, t.other)
+    let t = tallied(&mut file, function)?;
+    let name = function.name();
+    println!(rt; "{name:<7}{} same, {} differ", t.same, t.other)
 }
 
 fn main(rt: HostRuntime) -> io::Result<()> {
-    run(&rt, "sqrt   ", 0)?;
-    run(&rt, "ln     ", 1)?;
-    run(&rt, "ln_1p  ", 2)?;
-    run(&rt, "exp    ", 3)?;
-    run(&rt, "exp_m1 ", 4)?;
-    run(&rt, "tanh   ", 5)?;
-    run(&rt, "powf   ", 6)
+    for function in Function::ALL {
+        run(&rt, function)?;
+    }
+    Ok(())
 }

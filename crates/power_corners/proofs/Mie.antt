@@ -26,10 +26,10 @@ use Rattle.limits.specs.Limits.{square, same_bits, pair_within, pairs_within, co
 use Rattle.mie_parameters.specs.Combine.{lambda_ij, c_ij}
 use Rattle.mie_parameters.proofs.Laws.{and_left, and_right}
 use Rattle.saftvrmie_parameters.specs.Combine.{lr_ij}
-use Rattle.saftvrmie_parameters.specs.Parameters.{Lists, right_lengths, component_of, within_limits, pair_parameters, store_pair, sheets_turn, sheets_row, sheets_of, saft_vr_mie_pars}
+use Rattle.saftvrmie_parameters.specs.Parameters.{Lists, right_lengths, component_of, within_in, within_limits, pair_parameters, store_pair, sheets_turn, sheets_row, sheets_of, saft_vr_mie_pars}
 use Rattle.saftvrmie_parameters.specs.declared.PairParameters.{PairParameters}
 use Rattle.saftvrmie_parameters.specs.declared.SaftVRMiePars.{SaftVRMiePars}
-use Rattle.saftvrmie_parameters.proofs.Laws.{lengths, Within, sheets_in}
+use Rattle.saftvrmie_parameters.proofs.Laws.{lengths, sheets_in}
 use Rattle.power_corners.specs.Corners.{ComponentsAt, MieSet}
 use Rattle.power_corners.proofs.Sheets.{Stands, rows}
 use Rattle.power_corners.proofs.Only.{only_one}
@@ -75,7 +75,7 @@ every_at (suc n) p i l h = go (eq-or-lt_of_le (le_of_suc-le-suc l)) (λ k. every
     go (inl e) before = rw e (and_right (every n p) (p n) h)
     go (inr k) before = before k
 
-gammas_within : (l : Lists) → Within l ≡ true → pairs_within l.count (square l.count l.gamma_ij) ≡ true
+gammas_within : (l : Lists) → within_in l ≡ true → pairs_within l.count (square l.count l.gamma_ij) ≡ true
 unfolding within_limits
 gammas_within l h =
     let n = l.count in
@@ -105,7 +105,7 @@ module _ (l : Lists) where
   -- what a held set is made of
   record Made (s : SaftVRMiePars) : Type 0 where
     high : l.count ≤ side
-    within : Within l ≡ true
+    within : within_in l ≡ true
     count : l.count ≡ s.count
     sheets : sheets_in l ≡ held s.sheets
 
@@ -113,12 +113,12 @@ module _ (l : Lists) where
   unfolding saft_vr_mie_pars
   made s h =
       let a = then_held (demand 1 (right_lengths l)) _ s h in
-      let b = then_held (demand 2 (Within l)) _ s a.2 in
+      let b = then_held (demand 2 (within_in l)) _ s a.2 in
       let e = then_held (sheets_in l) _ s b.2 in
       let is = held_inj _ s e.2 in
       record {
         high = (lengths l (demanded 1 (right_lengths l) a.0 a.1)).high;
-        within = demanded 2 (Within l) b.0 b.1;
+        within = demanded 2 (within_in l) b.0 b.1;
         count = ap (λ (q : SaftVRMiePars). q.count) is;
         sheets = e.1 ∙ ap (λ (q : SaftVRMiePars). held q.sheets) is;
       }

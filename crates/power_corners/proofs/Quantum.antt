@@ -16,10 +16,10 @@ use Rattle.elementary.specs.Port.{port}
 use Rattle.limits.specs.declared.Component.{Component}
 use Rattle.limits.specs.Limits.{square, all_one}
 use Rattle.mie_parameters.specs.Combine.{lambda_ij, c_ij}
-use Rattle.saftvrqmie_parameters.specs.Parameters.{Lists, right_lengths, component_of, order_walk, pair_parameters, store_pair, sheets_turn, sheets_row, sheets_of, saft_vrq_mie_pars}
+use Rattle.saftvrqmie_parameters.specs.Parameters.{Lists, right_lengths, component_of, within_in, order_walk, pair_parameters, store_pair, sheets_turn, sheets_row, sheets_of, saft_vrq_mie_pars}
 use Rattle.saftvrqmie_parameters.specs.declared.PairParameters.{PairParameters}
 use Rattle.saftvrqmie_parameters.specs.declared.SaftVRQMiePars.{SaftVRQMiePars}
-use Rattle.saftvrqmie_parameters.proofs.Laws.{lengths, Within, sheets_in}
+use Rattle.saftvrqmie_parameters.proofs.Laws.{lengths, sheets_in}
 use Rattle.power_corners.specs.Corners.{ComponentsAt, QuantumSet}
 use Rattle.power_corners.proofs.Sheets.{Stands, rows}
 use Rattle.power_corners.proofs.Numbers.{c_12_6, lambda_12, lambda_6, demanded}
@@ -73,7 +73,7 @@ module _ (l : Lists) where
   unfolding saft_vrq_mie_pars
   made s h =
       let a = then_held (demand 1 (right_lengths l)) _ s h in
-      let b = then_held (demand 2 (Within l)) _ s a.2 in
+      let b = then_held (demand 2 (within_in l)) _ s a.2 in
       let c = then_held (demand 3 (all_one l.count (at l.m))) _ s b.2 in
       let d = then_held (order_walk l.count l.fh) _ s c.2 in
       let e = then_held (sheets_in l) _ s d.2 in

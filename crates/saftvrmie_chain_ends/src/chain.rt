@@ -6,18 +6,15 @@ ghost use Rattle.number.specs.Answer.{answer};
 ghost use Rattle.enclosure.specs.Enclosure.{enclosures, point};
 ghost use Rattle.enclosure_dual.specs.Value.{dual_of};
 ghost use Rattle.saftvrmie_dispersion.specs.Chain.{rho_dual, zeta_dual, fluid_dual, g1_of, g2_of, link_pref, g_hs, gamma_of, ln_g_mie, link_of, add_link, chain_pure};
-ghost use Rattle.saftvrmie_dispersion.specs.Answer.{pair_in};
-ghost use Rattle.saftvrmie_dispersion_ends.specs.Answer.{bar_in, sums_in, sums_answer};
-ghost use Rattle.saftvrmie_properties_ends.specs.Answer.{k_in};
+ghost use Rattle.saftvrmie_dispersion.specs.Answer.{pair_in, bar_in, sums_in, k_in, sums_answer};
 ghost use Rattle.saftvrmie_chain_ends.specs.Duals.{fluid_dual_in, orders_dual_in, link_in};
 
 use crate::{FluidDuals, LinkEnclosures, OrdersDuals, orders, sutherland};
 use enclosure::Enclosure;
 use enclosure_dual::EnclosureDual;
 use number::Refusal;
-use saftvrmie_dispersion_ends::{BarEnclosures, SumsEnclosures, TermsEnclosures};
+use saftvrmie_dispersion::{Bar, KValues, Sums, Terms};
 use saftvrmie_parameters::PairParameters;
-use saftvrmie_properties_ends::KEnclosures;
 
 fn rho_dual(rho: Enclosure) -> EnclosureDual
     ensures { dual_of result ≡ rho_dual enclosures rho }
@@ -90,7 +87,7 @@ fn link_pref(d3: Enclosure, eps_k: Enclosure) -> Enclosure
     d3 * eps_k * two * pi
 }
 
-fn g_hs(k: KEnclosures, x0: Enclosure) -> Result<Enclosure, Refusal>
+fn g_hs(k: KValues<Enclosure>, x0: Enclosure) -> Result<Enclosure, Refusal>
     ensures { answer result ≡ g_hs enclosures (calls enclosures port) (k_in k) x0 }
 {
     let first = k.k0 + k.k1 * x0;
@@ -131,7 +128,7 @@ fn ln_g_mie(
 
 // What a component adds to a_chain.
 fn link_term(
-    k: KEnclosures,
+    k: KValues<Enclosure>,
     zeta_x_bar: Enclosure,
     o: OrdersDuals,
     k_hs: Enclosure,
@@ -144,7 +141,7 @@ fn link_term(
     let eps_k = Enclosure::point(p.epsilon_k);
     let pref = link_pref(d.pow_up(3), eps_k);
     let beta_eps = link.t_inv * eps_k;
-    let x0 = saftvrmie_dispersion_ends::x0_of(d, Enclosure::point(p.sigma));
+    let x0 = saftvrmie_dispersion::x0_of(d, Enclosure::point(p.sigma));
     let g = g_hs(k, x0)?;
     let alpha = Enclosure::point(p.alpha);
     let gamma = gamma(zeta_x_bar, beta_eps, alpha)?;
@@ -155,13 +152,13 @@ fn link_term(
     Ok(links * ln_g)
 }
 
-fn add_link(s: SumsEnclosures, l: Enclosure) -> SumsEnclosures
+fn add_link(s: Sums<Enclosure>, l: Enclosure) -> Sums<Enclosure>
     ensures { sums_in result ≡ add_link enclosures (sums_in s) l }
 {
     let a1 = s.a1;
     let a2 = s.a2;
     let a3 = s.a3;
-    SumsEnclosures {
+    Sums {
         a1,
         a2,
         a3,
@@ -172,26 +169,26 @@ fn add_link(s: SumsEnclosures, l: Enclosure) -> SumsEnclosures
 // A component of the chain, added to the sums.
 pub fn chain_pure(
     w: FluidDuals,
-    bar: BarEnclosures,
-    k: KEnclosures,
+    bar: Bar<Enclosure>,
+    k: KValues<Enclosure>,
     p: PairParameters,
     d: Enclosure,
     of: LinkEnclosures,
     xs: Enclosure,
-    s: SumsEnclosures,
-) -> Result<SumsEnclosures, Refusal>
+    s: Sums<Enclosure>,
+) -> Result<Sums<Enclosure>, Refusal>
     ensures { sums_answer result ≡ chain_pure enclosures (calls enclosures port) (fluid_dual_in w) (bar_in bar) (k_in k) (pair_in point p) d (link_in of) xs (sums_in s) }
 {
     let o = orders::orders_dual(w, p, d)?;
-    let six = saftvrmie_dispersion_ends::six_of(p.alpha);
+    let six = saftvrmie_dispersion::six_of::<Enclosure>(p.alpha);
     let eps_k = Enclosure::point(p.epsilon_k);
     let zeta_x_bar = bar.zeta_x_bar;
-    let a3 = saftvrmie_dispersion_ends::a3(zeta_x_bar, six, eps_k)?;
+    let a3 = saftvrmie_dispersion::a3(zeta_x_bar, six, eps_k)?;
     let a1 = o.a1.re;
     let a2 = o.a2.re;
-    let xi = saftvrmie_dispersion_ends::xi(bar, six);
-    let terms = TermsEnclosures { a1, a2, a3, xi };
-    let t = saftvrmie_dispersion_ends::add_pure(xs, terms, s);
+    let xi = saftvrmie_dispersion::xi(bar, six);
+    let terms = Terms { a1, a2, a3, xi };
+    let t = saftvrmie_dispersion::add_pure(xs, terms, s);
     let l = link_term(k, zeta_x_bar, o, w.k_hs.re, p, d, of)?;
     Ok(add_link(t, l))
 }

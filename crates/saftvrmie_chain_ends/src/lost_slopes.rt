@@ -3,7 +3,7 @@ ghost use Rattle.std.specs.Prelude.{◌≡◌};
 ghost use Rattle.enclosure.specs.Enclosure.{enclosures, add_e, mul_e};
 ghost use Rattle.dual.specs.Dual.{duals, plain_d, mul_d};
 ghost use Rattle.enclosure_dual.specs.Value.{dual_of};
-ghost use Rattle.saftvrmie_dispersion_ends.specs.Shared.{i_by, j_by};
+ghost use Rattle.saftvrmie_dispersion.specs.Shared.{i_by, j_by};
 ghost use Rattle.saftvrmie_chain_ends.specs.Slope.{finite_ends, i_slope, j_slope, quotient_slope, stays_of, moderate_of, tiny_of, tiny_slope, lost_in, lost_sum};
 
 use enclosure::Enclosure;
@@ -117,7 +117,7 @@ fn whole_sum(x: Enclosure, b: Enclosure, t: Enclosure, c: Enclosure, e: Enclosur
 
 // b times i.
 pub fn times_i(b: EnclosureDual, p3: Enclosure, l3: Enclosure) -> EnclosureDual
-    ensures { dual_of result ≡ mul_d enclosures (dual_of b) (i_by (duals enclosures) (plain_d enclosures) (plain_d enclosures p3) l3) }
+    ensures { dual_of result ≡ mul_d enclosures (dual_of b) (i_by enclosures (duals enclosures) (plain_d enclosures) (plain_d enclosures p3) l3) }
 {
     let c = -(p3 - Enclosure::point(1.0));
     let i = c / l3;
@@ -140,7 +140,7 @@ pub fn times_j(
     l3: Enclosure,
     l4: Enclosure,
 ) -> EnclosureDual
-    ensures { dual_of result ≡ mul_d enclosures (dual_of b) (j_by (duals enclosures) (plain_d enclosures) (plain_d enclosures p4) (plain_d enclosures p3) l3 l4) }
+    ensures { dual_of result ≡ mul_d enclosures (dual_of b) (j_by enclosures (duals enclosures) (plain_d enclosures) (plain_d enclosures p4) (plain_d enclosures p3) l3 l4) }
 {
     let a = p4 * l3 - p3 * l4;
     let c = -(a - Enclosure::point(1.0));

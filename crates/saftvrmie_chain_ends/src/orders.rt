@@ -8,11 +8,11 @@ ghost use Rattle.enclosure_dual.specs.Value.{dual_of};
 ghost use Rattle.saftvrmie_dispersion.specs.Sutherland.{a1s_b};
 ghost use Rattle.saftvrmie_dispersion.specs.Terms.{five, pref_of, a1_of, a2_of, term_orders_of};
 ghost use Rattle.saftvrmie_dispersion.specs.Answer.{pair_in};
-ghost use Rattle.saftvrmie_dispersion_ends.specs.Shared.{power_at};
+ghost use Rattle.dual_num.specs.Base.{enclosure_power};
 ghost use Rattle.saftvrmie_chain_ends.specs.Duals.{fluid_dual_in, five_dual_in, dual_answer, five_dual_answer, orders_dual_answer};
 
 use crate::{FiveDuals, FluidDuals, OrdersDuals, lost_slopes, sutherland};
-use binary_log::Log;
+use dual_num::{DualNum, EnclosureBase};
 use enclosure::Enclosure;
 use enclosure_dual::EnclosureDual;
 use number::Refusal;
@@ -32,19 +32,18 @@ fn b_dual(b3: EnclosureDual, i: EnclosureDual, j: EnclosureDual) -> EnclosureDua
 
 // x0 to lambda, to 3 - lambda and to 4 - lambda, then the sum.
 fn a1s_b_ij_dual(
-    l: Log,
-    x0: Enclosure,
+    x0: EnclosureBase,
     w: FluidDuals,
     lambda: Enclosure,
 ) -> Result<EnclosureDual, Refusal>
-    ensures { dual_answer result ≡ a1s_b enclosures (duals enclosures) (plain_d enclosures) (power_at l x0) (fluid_dual_in w) lambda }
+    ensures { dual_answer result ≡ a1s_b enclosures (duals enclosures) (plain_d enclosures) (enclosure_power x0) (fluid_dual_in w) lambda }
 {
     let l3 = Enclosure::point(3.0) - lambda;
     let l4 = Enclosure::point(4.0) - lambda;
-    let p = saftvrmie_dispersion_ends::power_of(l, x0, lambda)?;
-    let p3 = saftvrmie_dispersion_ends::power_of(l, x0, l3)?;
-    let p4 = saftvrmie_dispersion_ends::power_of(l, x0, l4)?;
-    let of = saftvrmie_dispersion_ends::lambda_of(lambda);
+    let p = Enclosure::powf_at(x0, lambda)?;
+    let p3 = Enclosure::powf_at(x0, l3)?;
+    let p4 = Enclosure::powf_at(x0, l4)?;
+    let of = saftvrmie_dispersion::lambda_of::<Enclosure>(lambda);
     let i = lost_slopes::times_i(w.b1, p3, of.l3);
     let j = lost_slopes::times_j(w.b2, p4, p3, of.l3, of.l4);
     let b = b_dual(w.b3, i, j);
@@ -57,25 +56,24 @@ fn a1s_b_ij_dual(
     })
 }
 
-// The powers of x0 share its logarithm, l.
+// The powers of x0 share its logarithm.
 fn five_dual_by(
-    l: Log,
-    x0: Enclosure,
+    x0: EnclosureBase,
     w: FluidDuals,
     la: Enclosure,
     lr: Enclosure,
 ) -> Result<FiveDuals, Refusal>
-    ensures { five_dual_answer result ≡ five enclosures (duals enclosures) (plain_d enclosures) (power_at l x0) (fluid_dual_in w) la lr }
+    ensures { five_dual_answer result ≡ five enclosures (duals enclosures) (plain_d enclosures) (enclosure_power x0) (fluid_dual_in w) la lr }
 {
     let two = Enclosure::point(2.0);
     let l2a = two * la;
     let lar = la + lr;
     let l2r = two * lr;
-    let at_la = a1s_b_ij_dual(l, x0, w, la)?;
-    let at_lr = a1s_b_ij_dual(l, x0, w, lr)?;
-    let at_2la = a1s_b_ij_dual(l, x0, w, l2a)?;
-    let at_lalr = a1s_b_ij_dual(l, x0, w, lar)?;
-    let at_2lr = a1s_b_ij_dual(l, x0, w, l2r)?;
+    let at_la = a1s_b_ij_dual(x0, w, la)?;
+    let at_lr = a1s_b_ij_dual(x0, w, lr)?;
+    let at_2la = a1s_b_ij_dual(x0, w, l2a)?;
+    let at_lalr = a1s_b_ij_dual(x0, w, lar)?;
+    let at_2lr = a1s_b_ij_dual(x0, w, l2r)?;
     Ok(FiveDuals {
         at_la,
         at_lr,
@@ -85,7 +83,6 @@ fn five_dual_by(
     })
 }
 
-// No power has a value where x0 is outside their domain.
 fn five_dual(
     x0: Enclosure,
     w: FluidDuals,
@@ -94,10 +91,7 @@ fn five_dual(
 ) -> Result<FiveDuals, Refusal>
     ensures { five_dual_answer result ≡ five enclosures (duals enclosures) (plain_d enclosures) ((calls enclosures port).powf x0) (fluid_dual_in w) la lr }
 {
-    if !binary_log::base_inside(x0.value) {
-        return Err(Refusal::Domain);
-    }
-    five_dual_by(binary_log::log_base(x0.value), x0, w, la, lr)
+    five_dual_by(x0.base(), w, la, lr)
 }
 
 fn pref_dual(rho: EnclosureDual, d3: Enclosure, eps_k: Enclosure, c: Enclosure) -> EnclosureDual
@@ -141,7 +135,7 @@ pub fn orders_dual(w: FluidDuals, p: PairParameters, d: Enclosure) -> Result<Ord
     let lr = Enclosure::point(p.lr);
     let eps_k = Enclosure::point(p.epsilon_k);
     let c = Enclosure::point(p.c);
-    let x0 = saftvrmie_dispersion_ends::x0_of(d, Enclosure::point(p.sigma));
+    let x0 = saftvrmie_dispersion::x0_of(d, Enclosure::point(p.sigma));
     let s = five_dual(x0, w, la, lr)?;
     let pref = pref_dual(w.segment_density, d.pow_up(3), eps_k, c);
     Ok(OrdersDuals {

@@ -5,11 +5,11 @@ ghost use Rattle.enclosure.specs.Enclosure.{enclosures, point};
 ghost use Rattle.dual.specs.Dual.{duals, plain_d, add_d, mul_d, neg_d, pow_d};
 ghost use Rattle.enclosure_dual.specs.Value.{dual_of};
 ghost use Rattle.saftvrmie_dispersion.specs.Sutherland.{k_hs};
-ghost use Rattle.saftvrmie_dispersion_ends.specs.Shared.{zeta_eff_by, a1s_by};
+ghost use Rattle.saftvrmie_dispersion.specs.Shared.{zeta_eff_by, a1s_by};
 
 use enclosure::Enclosure;
 use enclosure_dual::EnclosureDual;
-use saftvrmie_dispersion_ends::LambdaEnclosures;
+use saftvrmie_dispersion::Lambda;
 
 // The powers 2, 3 and 4 of a number.
 #[derive(Clone, Copy)]
@@ -77,8 +77,8 @@ pub fn k_hs_dual(zeta_x: EnclosureDual) -> EnclosureDual
 }
 
 // The operations of dual numbers are written out in the functions of a sum: a call of each takes its operands through memory.
-fn zeta_eff_dual(zeta: EnclosureDual, of: LambdaEnclosures) -> EnclosureDual
-    ensures { dual_of result ≡ zeta_eff_by (duals enclosures) (plain_d enclosures) (dual_of zeta) of }
+fn zeta_eff_dual(zeta: EnclosureDual, of: Lambda<Enclosure>) -> EnclosureDual
+    ensures { dual_of result ≡ zeta_eff_by enclosures (duals enclosures) (plain_d enclosures) (dual_of zeta) of }
 {
     let zero = Enclosure::point(0.0);
     let z = zeta.re;
@@ -129,8 +129,8 @@ fn a1s_under(y: EnclosureDual, l3: Enclosure) -> EnclosureDual
     }
 }
 
-pub fn a1s_ij_dual(zeta_x: EnclosureDual, of: LambdaEnclosures) -> EnclosureDual
-    ensures { dual_of result ≡ a1s_by (duals enclosures) (plain_d enclosures) (dual_of zeta_x) of }
+pub fn a1s_ij_dual(zeta_x: EnclosureDual, of: Lambda<Enclosure>) -> EnclosureDual
+    ensures { dual_of result ≡ a1s_by enclosures (duals enclosures) (plain_d enclosures) (dual_of zeta_x) of }
 {
     let ze = -zeta_eff_dual(zeta_x, of);
     let a = a1s_over(ze);

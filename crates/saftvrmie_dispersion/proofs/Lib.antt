@@ -1,2 +1,3 @@
 pub mod Staged
 pub mod Relation
+pub mod Shared

@@ -1,24 +1,18 @@
 -- The powers of one base share its logarithm: the five sums by it, where its powers lie inside their domain, and 6 where one does not. Assumes nothing.
 use Prim.Native.Nat.{ℕ}
 use lib.Ieee.{Float}
-use lib.ListN.{set, replicate}
 use mathlib.Core.Path.{◌≡◌, refl}
-use mathlib.Core.List.{List}
 use mathlib.Core.Bool.{Bool, true, false, ◌&&◌, cond}
 use Rattle.number.specs.Ans.{Ans, held, refused, ◌>>=◌, demand}
-use Rattle.number.specs.Arith.{Arith, floats, decimal, zero64}
-use Rattle.number.specs.Lists.{at}
-use Rattle.number.specs.Walk.{walk}
+use Rattle.number.specs.Arith.{Arith, floats, decimal}
 use Rattle.number.specs.Functions.{calls, answered, answered₂}
 use Rattle.number.specs.Domain.{base_inside, exponent_inside}
 use Rattle.elementary.specs.Port.{port}
-use Rattle.binary_log.specs.declared.Log.{Log}
 use Rattle.binary_log.specs.BinaryLog.{log_of}
 use Rattle.power.specs.Power.{powf_of}
 use Rattle.saftvrmie_dispersion.specs.Sutherland.{FluidIn, a1s_b_of, a1s_b}
-use Rattle.saftvrmie_dispersion.specs.Terms.{FiveIn, five}
-use Rattle.saftvrmie_dispersion.specs.Chain.{k_of}
-use Rattle.saftvrmie_dispersion.specs.Staged.{power_by, three_less, four_less, twice, lambda_inside, five_inside, a1s_b_at, five_at, lambdas, five_tested, k_tested}
+use Rattle.saftvrmie_dispersion.specs.Terms.{five}
+use Rattle.saftvrmie_dispersion.specs.Staged.{power_by, three_less, four_less, twice, lambda_inside, five_inside, a1s_b_at, five_at}
 
 -- a call of the float run is the answer itself
 pub once : (a : Ans Float) (x : Float) → answered floats a x ≡ a
@@ -89,59 +83,3 @@ module _ (x : Float) where
       pub five_outside : base_inside x ≡ false → five floats D plain ((calls floats port).powf x) w la lr ≡ refused 6
       unfolding five a1s_b ◌>>=◌
       five_outside e = rw (outside e)
-
-pub five_tested_is : (x : Float) (w : FluidIn Float) (la lr : Float) → base_inside x ≡ true → five floats floats (λ x. x) ((calls floats port).powf x) w la lr ≡ five_tested (log_of x) w la lr
-unfolding five_tested
-five_tested_is x w la lr e = five_is x floats (λ x. x) w la lr e
-
--- ---- the five sums of floats, one after another
-module _ (l : Log) (w : FluidIn Float) (la lr : Float) where
-  -- the sum at exponent k, in its place
-  unfoldable pub sum_turn : ℕ → List Float → Ans (List Float)
-  sum_turn k s = demand 6 (lambda_inside (at (lambdas la lr) k)) >>= λ _. held (set s k (a1s_b_at floats (λ x. x) l w (at (lambdas la lr) k)))
-
-  abbrev five_in : List Float → FiveIn Float
-  five_in s = record { at_la = at s 0; at_lr = at s 1; at_2la = at s 2; at_lalr = at s 3; at_2lr = at s 4 }
-
-  in_turn : (a b c d e : Bool) (u v x y z : Float)
-      → ((demand 6 a >>= λ _. held (set (replicate 5 zero64) 0 u)) >>= (λ s. demand 6 b >>= λ _. held (set s 1 v)) >>= (λ s. demand 6 c >>= λ _. held (set s 2 x)) >>= (λ s. demand 6 d >>= λ _. held (set s 3 y)) >>= (λ s. demand 6 e >>= λ _. held (set s 4 z)) >>= λ s. held (five_in s))
-      ≡ tested (a && (b && (c && (d && e)))) (record { at_la = u; at_lr = v; at_2la = x; at_lalr = y; at_2lr = z })
-  unfolding demand ◌>>=◌
-  in_turn true true true true true u v x y z = refl
-  in_turn true true true true false u v x y z = refl
-  in_turn true true true false e u v x y z = refl
-  in_turn true true false d e u v x y z = refl
-  in_turn true false c d e u v x y z = refl
-  in_turn false b c d e u v x y z = refl
-
-  five_walked : (walk 5 sum_turn (replicate 5 zero64) >>= λ s. held (five_in s)) ≡ five_tested l w la lr
-  unfolding walk sum_turn lambdas five_tested five_inside five_at ◌>>=◌
-  five_walked =
-      let at : Float → Float = a1s_b_at floats (λ x. x) l w in
-      in_turn (lambda_inside la) (lambda_inside lr) (lambda_inside (twice la)) (lambda_inside (floats.add la lr)) (lambda_inside (twice lr)) (at la) (at lr) (at (twice la)) (at (floats.add la lr)) (at (twice lr))
-
-  module _ (k : ℕ) (s ys : List Float) (t : Bool) (are-ys : ys ≡ lambdas la lr) (is-t : t ≡ lambda_inside (at ys k)) where
-    pub turn_refused : t ≡ false → sum_turn k s ≡ refused 6
-    unfolding sum_turn demand ◌>>=◌
-    turn_refused h = rw (← are-ys, ← is-t, h)
-
-    pub turn_held : (x : Float) → t ≡ true → x ≡ a1s_b_at floats (λ x. x) l w (at ys k) → sum_turn k s ≡ held (set s k x)
-    unfolding sum_turn demand ◌>>=◌
-    turn_held x h q = rw (← are-ys, ← is-t, h, q)
-
-  pub all_summed : (s : List Float) → held s ≡ walk 5 sum_turn (replicate 5 zero64) → held (five_in s) ≡ five_tested l w la lr
-  unfolding ◌>>=◌
-  all_summed s h = rw (← h) at five_walked
-
-  pub sum_refused : refused 6 ≡ walk 5 sum_turn (replicate 5 zero64) → refused 6 ≡ five_tested l w la lr
-  unfolding ◌>>=◌
-  sum_refused h = rw (← h) at five_walked
-
--- ---- whether k0 to k3 have a value
-pub k_held : (z v : Float) → (calls floats port).ln (floats.add (floats.neg z) (decimal false 1 0)) ≡ held v → held true ≡ k_tested z
-unfolding k_tested k_of ◌>>=◌
-k_held z v h = rw h
-
-pub k_refused : (z : Float) (k : ℕ) → (calls floats port).ln (floats.add (floats.neg z) (decimal false 1 0)) ≡ refused k → refused k ≡ k_tested z
-unfolding k_tested k_of ◌>>=◌
-k_refused z k h = rw h

@@ -27,17 +27,25 @@ pair_in lit p = record { sigma = lit p.sigma; epsilon_k = lit p.epsilon_k; lr = 
 abbrev pub pair_of : PairParameters → PairIn Float
 pair_of p = pair_in (λ x. x) p
 
-abbrev pub fluid_in : Fluid → FluidIn Float
-fluid_in w = record { segment_density = w.segment_density; zeta_x = w.zeta_x; k_hs = w.k_hs; b1 = w.b1; b2 = w.b2; b3 = w.b3 }
+-- numbers read by `of`, or as they are
+abbrev pub fluid_by : {S N : Type 0} → (S → N) → Fluid S → FluidIn N
+fluid_by of w =
+    record { segment_density = of w.segment_density; zeta_x = of w.zeta_x; k_hs = of w.k_hs; b1 = of w.b1; b2 = of w.b2; b3 = of w.b3 }
+
+abbrev pub fluid_in : {N : Type 0} → Fluid N → FluidIn N
+fluid_in w = fluid_by (λ x. x) w
 
 abbrev pub fluid_dual_in : FluidDual → FluidIn (DualOf Float)
 fluid_dual_in w = record { segment_density = dual_of w.segment_density; zeta_x = dual_of w.zeta_x; k_hs = dual_of w.k_hs; b1 = dual_of w.b1; b2 = dual_of w.b2; b3 = dual_of w.b3 }
 
-abbrev pub bar_in : Bar → BarIn Float
-bar_in b = record { zeta_x_bar = b.zeta_x_bar; zx5 = b.zx5; zx8 = b.zx8 }
+abbrev pub bar_by : {S N : Type 0} → (S → N) → Bar S → BarIn N
+bar_by of b = record { zeta_x_bar = of b.zeta_x_bar; zx5 = of b.zx5; zx8 = of b.zx8 }
 
-abbrev pub five_in : Five → FiveIn Float
-five_in s = record { at_la = s.at_la; at_lr = s.at_lr; at_2la = s.at_2la; at_lalr = s.at_lalr; at_2lr = s.at_2lr }
+abbrev pub bar_in : {N : Type 0} → Bar N → BarIn N
+bar_in b = bar_by (λ x. x) b
+
+abbrev pub five_by : {S N : Type 0} → (S → N) → Five S → FiveIn N
+five_by of s = record { at_la = of s.at_la; at_lr = of s.at_lr; at_2la = of s.at_2la; at_lalr = of s.at_lalr; at_2lr = of s.at_2lr }
 
 abbrev pub five_dual_in : FiveDual → FiveIn (DualOf Float)
 five_dual_in s = record { at_la = dual_of s.at_la; at_lr = dual_of s.at_lr; at_2la = dual_of s.at_2la; at_lalr = dual_of s.at_lalr; at_2lr = dual_of s.at_2lr }
@@ -45,29 +53,32 @@ five_dual_in s = record { at_la = dual_of s.at_la; at_lr = dual_of s.at_lr; at_2
 abbrev pub orders_dual_in : OrdersDual → OrdersIn (DualOf Float)
 orders_dual_in o = record { five = five_dual_in o.five; a1 = dual_of o.a1; a2 = dual_of o.a2 }
 
-abbrev pub terms_in : Terms → TermsIn Float
-terms_in t = record { a1 = t.a1; a2 = t.a2; a3 = t.a3; xi = t.xi }
+abbrev pub terms_by : {S N : Type 0} → (S → N) → Terms S → TermsIn N
+terms_by of t = record { a1 = of t.a1; a2 = of t.a2; a3 = of t.a3; xi = of t.xi }
 
-abbrev pub sums_in : Sums → SumsIn Float
-sums_in s = record { a1 = s.a1; a2 = s.a2; a3 = s.a3; a_chain = s.a_chain }
+abbrev pub terms_in : {N : Type 0} → Terms N → TermsIn N
+terms_in t = terms_by (λ x. x) t
 
-abbrev pub k_in : KValues → KIn Float
-k_in k = record { k0 = k.k0; k1 = k.k1; k2 = k.k2; k3 = k.k3 }
+abbrev pub sums_by : {S N : Type 0} → (S → N) → Sums S → SumsIn N
+sums_by of s = record { a1 = of s.a1; a2 = of s.a2; a3 = of s.a3; a_chain = of s.a_chain }
+
+abbrev pub sums_in : {N : Type 0} → Sums N → SumsIn N
+sums_in s = sums_by (λ x. x) s
+
+abbrev pub k_by : {S N : Type 0} → (S → N) → KValues S → KIn N
+k_by of k = record { k0 = of k.k0; k1 = of k.k1; k2 = of k.k2; k3 = of k.k3 }
+
+abbrev pub k_in : {N : Type 0} → KValues N → KIn N
+k_in k = k_by (λ x. x) k
 
 abbrev pub link_in : Link → LinkIn Float
 link_in l = record { m = l.m; fraction = l.fraction; t_inv = l.t_inv }
 
-abbrev pub five_answer : Result Five Refusal → Ans (FiveIn Float)
-five_answer = answer_by five_in
-
 abbrev pub orders_dual_answer : Result OrdersDual Refusal → Ans (OrdersIn (DualOf Float))
 orders_dual_answer = answer_by orders_dual_in
 
-abbrev pub terms_answer : Result Terms Refusal → Ans (TermsIn Float)
+abbrev pub terms_answer : {N : Type 0} → Result (Terms N) Refusal → Ans (TermsIn N)
 terms_answer = answer_by terms_in
 
-abbrev pub sums_answer : Result Sums Refusal → Ans (SumsIn Float)
+abbrev pub sums_answer : {N : Type 0} → Result (Sums N) Refusal → Ans (SumsIn N)
 sums_answer = answer_by sums_in
-
-abbrev pub k_answer : Result KValues Refusal → Ans (KIn Float)
-k_answer = answer_by k_in

@@ -3,3 +3,4 @@ pub mod Terms
 pub mod Chain
 pub mod Answer
 pub mod Staged
+pub mod Shared

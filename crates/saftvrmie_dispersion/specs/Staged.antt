@@ -1,15 +1,11 @@
--- What the float code works of the five sums where all powers of x0 lie inside their domain, and of k0 to k3 where nothing reads them: the contracts of helpers alone. That this is `five`, values and refusals, is shown in proofs/Staged.
-use Rattle.std.specs.Prelude.{Float, Bool, true, false, ◌&&◌, cond, List, [], ◌∷◌}
-use Rattle.number.specs.Ans.{Ans, held, refused, ◌>>=◌}
+-- What the float code works of the five sums where all powers of x0 lie inside their domain: the contracts of helpers alone. That this is `five`, values and refusals, is shown in proofs/Staged.
+use Rattle.std.specs.Prelude.{Float, Bool, false, ◌&&◌}
 use Rattle.number.specs.Arith.{Arith, floats, decimal}
-use Rattle.number.specs.Functions.{calls}
 use Rattle.number.specs.Domain.{exponent_inside}
-use Rattle.elementary.specs.Port.{port}
 use Rattle.binary_log.specs.declared.Log.{Log}
 use Rattle.power.specs.Power.{exponent_of, power_of}
 use Rattle.saftvrmie_dispersion.specs.Sutherland.{FluidIn, a1s_b_of}
 use Rattle.saftvrmie_dispersion.specs.Terms.{FiveIn}
-use Rattle.saftvrmie_dispersion.specs.Chain.{k_of}
 
 -- the power y of a base by its logarithm
 abbrev pub power_by : Log → Float → Float
@@ -38,15 +34,3 @@ module _ (D : Arith) (plain : Float → D.Num) (l : Log) (w : FluidIn D.Num) whe
 
   unfoldable pub five_at : Float → Float → FiveIn D.Num
   five_at la lr = record { at_la = a1s_b_at la; at_lr = a1s_b_at lr; at_2la = a1s_b_at (twice la); at_lalr = a1s_b_at (floats.add la lr); at_2lr = a1s_b_at (twice lr) }
-
--- la, lr, 2 la, la + lr, 2 lr
-unfoldable pub lambdas : Float → Float → List Float
-lambdas la lr = la ∷ lr ∷ twice la ∷ floats.add la lr ∷ twice lr ∷ []
-
--- the five sums in floats, or 6
-unfoldable pub five_tested : Log → FluidIn Float → Float → Float → Ans (FiveIn Float)
-five_tested l w la lr = cond (five_inside la lr) (held (five_at floats (λ x. x) l w la lr)) (refused 6)
-
--- whether k0 to k3 have a value, or 6
-unfoldable pub k_tested : Float → Ans Bool
-k_tested zeta_x = k_of floats (calls floats port) zeta_x >>= λ _. held true

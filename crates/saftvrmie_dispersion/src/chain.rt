@@ -1,44 +1,80 @@
 // The chain: the hard spheres' k-values, the fluid with slopes, and what a component's link adds.
-ghost use Rattle.std.specs.Prelude.{true, ◌≡◌};
-ghost use Rattle.number.specs.Answer.{answer};
-ghost use Rattle.mie_parameters.specs.Answer.{outcome};
-ghost use Rattle.number.specs.Arith.{floats};
+ghost use Rattle.std.specs.Prelude.{◌≡◌, Bool, false};
+ghost use Rattle.number.specs.Answer.{answer, answer_by};
+ghost use Rattle.number.specs.Arith.{floats, decimal, whole};
 ghost use Rattle.number.specs.Functions.{calls};
 ghost use Rattle.elementary.specs.Port.{port};
 ghost use Rattle.dual.specs.Value.{dual_of};
 ghost use Rattle.saftvrmie_dispersion.specs.Chain.{k_of, rho_dual, zeta_dual, fluid_dual, g1_of, g2_of, link_pref, g_hs, gamma_of, ln_g_mie, link_of, add_link, chain_pure};
-ghost use Rattle.saftvrmie_dispersion.specs.Answer.{pair_of, fluid_dual_in, bar_in, orders_dual_in, sums_in, k_in, link_in, sums_answer, k_answer};
-ghost use Rattle.saftvrmie_dispersion.specs.Staged.{k_tested};
+ghost use Rattle.saftvrmie_dispersion.specs.Answer.{pair_of, fluid_dual_in, bar_in, orders_dual_in, sums_in, k_by, k_in, link_in, sums_answer};
 
-use crate::{Bar, FluidDual, KValues, Link, OrdersDual, Sums, Terms, orders, slopes};
+use crate::{Bar, FluidDual, KValues, Link, OrdersDual, Sums, Terms, dual_sums, orders};
 use dual::Dual;
 use mie_parameters::PI;
-use number::Refusal;
+use number::{Arithmetic, Refusal};
+use plain_num::PlainNum;
 use saftvrmie_parameters::PairParameters;
 
-// k0 to k3 of `Properties::new`.
-pub fn k_values(zeta_x: f64) -> Result<KValues, Refusal>
-    ensures { k_answer result ≡ k_of floats (calls floats port) zeta_x }
+// k0's polynomial.
+fn k0_sum<D: PlainNum>(z: D, z2: D, z3: D) -> D
+    ensures { (w : Bool) → let A = D.beside w in
+        let a = A.mul (A.neg (D.of w z)) (whole A 39) in
+        let b = A.mul (D.of w z2) (whole A 9) in
+        let c = A.mul (D.of w z3) (whole A 2) in
+        D.of w result ≡ A.add (A.sub (A.add a b) c) (whole A 42) }
 {
-    let frac = 1.0 / number::pow_up(-zeta_x + 1.0, 3);
-    let z = zeta_x;
-    let z2 = z * z;
-    let z3 = z2 * z;
-    let l = elementary::ln(-z + 1.0)?;
-    Ok(KValues {
-        k0: -l + z * (-z * 39.0 + z2 * 9.0 - z3 * 2.0 + 42.0) * frac / 6.0,
-        k1: z * frac * 0.5 * (z3 + z * 6.0 - 12.0),
-        k2: -z2 * 3.0 / 8.0 * frac * (-zeta_x + 1.0),
-        k3: z * frac / 6.0 * (-z3 + z * 3.0 + 3.0),
-    })
+    -z * D::Plain::lit(39.0) + z2 * D::Plain::lit(9.0) - z3 * D::Plain::lit(2.0)
+        + D::Plain::lit(42.0)
 }
 
-// Whether they have a value: all that dispersion alone asks of them.
-pub fn k_inside(zeta_x: f64) -> Result<(), Refusal>
-    ensures { outcome result true ≡ k_tested zeta_x }
+fn k0<D: PlainNum>(l: D, z: D, sum: D, frac: D) -> D
+    ensures { (w : Bool) → let A = D.beside w in
+        D.of w result ≡ A.add (A.neg (D.of w l)) (A.div (A.mul (A.mul (D.of w z) (D.of w sum)) (D.of w frac)) (whole A 6)) }
 {
-    elementary::ln(-zeta_x + 1.0)?;
-    Ok(())
+    -l + z * sum * frac / D::Plain::lit(6.0)
+}
+
+fn k1<D: PlainNum>(z: D, z3: D, frac: D) -> D
+    ensures { (w : Bool) → let A = D.beside w in
+        let a = A.mul (A.mul (D.of w z) (D.of w frac)) (A.lit (decimal false 5 1)) in
+        D.of w result ≡ A.mul a (A.sub (A.add (D.of w z3) (A.mul (D.of w z) (whole A 6))) (whole A 12)) }
+{
+    z * frac * D::Plain::lit(0.5) * (z3 + z * D::Plain::lit(6.0) - D::Plain::lit(12.0))
+}
+
+// The last factor is -z + 1.
+fn k2<D: PlainNum>(z2: D, frac: D, factor: D) -> D
+    ensures { (w : Bool) → let A = D.beside w in
+        D.of w result ≡ A.mul (A.mul (A.div (A.mul (A.neg (D.of w z2)) (whole A 3)) (whole A 8)) (D.of w frac)) (D.of w factor) }
+{
+    -z2 * D::Plain::lit(3.0) / D::Plain::lit(8.0) * frac * factor
+}
+
+fn k3<D: PlainNum>(z: D, z3: D, frac: D) -> D
+    ensures { (w : Bool) → let A = D.beside w in
+        let a = A.div (A.mul (D.of w z) (D.of w frac)) (whole A 6) in
+        D.of w result ≡ A.mul a (A.add (A.add (A.neg (D.of w z3)) (A.mul (D.of w z) (whole A 3))) (whole A 3)) }
+{
+    let three = D::Plain::lit(3.0);
+    z * frac / D::Plain::lit(6.0) * (-z3 + z * three + three)
+}
+
+// k0 to k3 of `Properties::new`; inlined, so that what a run leaves unused is not worked.
+#[inline(always)]
+pub fn k_values<D: PlainNum>(zeta_x: D) -> Result<KValues<D>, Refusal>
+    ensures { (w : Bool) → answer_by (k_by (D.of w)) result ≡ k_of (D.beside w) (D.functions w) (D.of w zeta_x) }
+{
+    let z2 = zeta_x * zeta_x;
+    let z3 = z2 * zeta_x;
+    let factor = -zeta_x + D::Plain::lit(1.0);
+    let frac = factor.cube().recip();
+    let l = factor.ln()?;
+    Ok(KValues {
+        k0: k0(l, zeta_x, k0_sum(zeta_x, z2, z3), frac),
+        k1: k1(zeta_x, z3, frac),
+        k2: k2(z2, frac, factor),
+        k3: k3(zeta_x, z3, frac),
+    })
 }
 
 fn rho_dual(rho: f64) -> Dual
@@ -66,7 +102,7 @@ pub fn fluid_dual(zeta_x: f64, rho: f64) -> FluidDual
     FluidDual {
         segment_density: rho_dual(rho),
         zeta_x: z,
-        k_hs: slopes::k_hs_dual(z),
+        k_hs: dual_sums::k_hs_dual(z),
         b1: minus * Dual::plain(0.5) + one,
         b2: z * (z + one) * Dual::plain(4.5),
         b3: (minus + one).pow_down(3),
@@ -94,7 +130,7 @@ fn link_pref(d3: f64, eps_k: f64) -> f64
     d3 * eps_k * 2.0 * PI
 }
 
-fn g_hs(k: KValues, x0: f64) -> Result<f64, Refusal>
+fn g_hs(k: KValues<f64>, x0: f64) -> Result<f64, Refusal>
     ensures { answer result ≡ g_hs floats (calls floats port) (k_in k) x0 }
 {
     elementary::exp(k.k0 + k.k1 * x0 + k.k2 * number::pow_up(x0, 2) + k.k3 * number::pow_up(x0, 3))
@@ -119,7 +155,7 @@ fn ln_g_mie(g_hs: f64, beta_eps: f64, g1: f64, g2: f64) -> Result<f64, Refusal>
 
 // What a component adds to a_chain.
 fn link_term(
-    k: KValues,
+    k: KValues<f64>,
     zeta_x_bar: f64,
     o: OrdersDual,
     k_hs: f64,
@@ -138,7 +174,7 @@ fn link_term(
     Ok(-link.fraction * (link.m - 1.0) * ln_g)
 }
 
-fn add_link(s: Sums, l: f64) -> Sums
+fn add_link(s: Sums<f64>, l: f64) -> Sums<f64>
     ensures { sums_in result ≡ add_link floats (sums_in s) l }
 {
     Sums {
@@ -152,23 +188,24 @@ fn add_link(s: Sums, l: f64) -> Sums
 // A component of the chain, added to the sums.
 pub fn chain_pure(
     w: FluidDual,
-    bar: Bar,
-    k: KValues,
+    bar: Bar<f64>,
+    k: KValues<f64>,
     p: PairParameters,
     d: f64,
     of: Link,
     xs: f64,
-    s: Sums,
-) -> Result<Sums, Refusal>
+    s: Sums<f64>,
+) -> Result<Sums<f64>, Refusal>
     ensures { sums_answer result ≡ chain_pure floats (calls floats port) (fluid_dual_in w) (bar_in bar) (k_in k) (pair_of p) d (link_in of) xs (sums_in s) }
 {
-    let o = slopes::orders_dual(w, p, d)?;
-    let a3 = orders::a3(bar.zeta_x_bar, p.alpha, p.epsilon_k)?;
+    let o = dual_sums::orders_dual(w, p, d)?;
+    let six = orders::six_of::<f64>(p.alpha);
+    let a3 = orders::a3(bar.zeta_x_bar, six, p.epsilon_k)?;
     let terms = Terms {
         a1: o.a1.re,
         a2: o.a2.re,
         a3,
-        xi: orders::xi(bar, p.alpha),
+        xi: orders::xi(bar, six),
     };
     let t = orders::add_pure(xs, terms, s);
     let l = link_term(k, bar.zeta_x_bar, o, w.k_hs.re, p, d, of)?;

@@ -1,26 +1,28 @@
-// What a pair and a component add to the Helmholtz energies of SAFT-VR Mie (saftvrmie/eos/dispersion.rs), in floats; the chain's pure terms in dual numbers. The powers of one x0 share its logarithm.
+// What a pair and a component add to the Helmholtz energies of SAFT-VR Mie (saftvrmie/eos/dispersion.rs), in any numbers; the chain in floats, its pure terms in dual numbers. The powers of one x0 share its logarithm.
 #![tactic(auto)]
 
 mod chain;
+mod dual_sums;
 mod orders;
-mod slopes;
 mod sutherland;
 
-pub use crate::chain::{chain_pure, fluid_dual, k_inside, k_values};
-pub use crate::orders::{add_pair, add_pure, bar_of, orders_sum, pair_terms};
-pub use crate::slopes::{a1s_ij_dual, k_hs_dual, orders_dual, zeta_eff_dual};
-pub use crate::sutherland::{a1s_ij, fluid_of, k_hs, zeta_eff};
+pub use crate::chain::{chain_pure, fluid_dual, k_values};
+pub use crate::dual_sums::{a1s_ij_dual, k_hs_dual, orders_dual, zeta_eff_dual};
+pub use crate::orders::{
+    a3, add_pair, add_pure, bar_of, orders_sum, pair_terms, six_of, x0_of, xi,
+};
+pub use crate::sutherland::{fluid_of, k_hs, lambda_of};
 use dual::Dual;
 
 // What all pairs of a state share: b1, b2 and b3 are the factors of `b_ij` that hang on zeta_x alone.
 #[derive(Clone, Copy)]
-pub struct Fluid {
-    pub segment_density: f64,
-    pub zeta_x: f64,
-    pub k_hs: f64,
-    pub b1: f64,
-    pub b2: f64,
-    pub b3: f64,
+pub struct Fluid<D> {
+    pub segment_density: D,
+    pub zeta_x: D,
+    pub k_hs: D,
+    pub b1: D,
+    pub b2: D,
+    pub b3: D,
 }
 
 // The same with slopes by the segment density.
@@ -36,20 +38,42 @@ pub struct FluidDual {
 
 // zeta_x_bar and its powers 5 and 8.
 #[derive(Clone, Copy)]
-pub struct Bar {
-    pub zeta_x_bar: f64,
-    pub zx5: f64,
-    pub zx8: f64,
+pub struct Bar<D> {
+    pub zeta_x_bar: D,
+    pub zx5: D,
+    pub zx8: D,
+}
+
+// What the sums work of an exponent alone: lambda - 3, lambda - 4, and the rows of C at 1 / lambda.
+#[derive(Clone, Copy)]
+pub struct Lambda<P> {
+    pub l3: P,
+    pub l4: P,
+    pub c0: P,
+    pub c1: P,
+    pub c2: P,
+    pub c3: P,
+}
+
+// `f` of the six rows of PHI at one alpha.
+#[derive(Clone, Copy)]
+pub struct Six<P> {
+    pub f0: P,
+    pub f1: P,
+    pub f2: P,
+    pub f3: P,
+    pub f4: P,
+    pub f5: P,
 }
 
 // a1s_b at la, lr, 2 la, la + lr, 2 lr.
 #[derive(Clone, Copy)]
-pub struct Five {
-    pub at_la: f64,
-    pub at_lr: f64,
-    pub at_2la: f64,
-    pub at_lalr: f64,
-    pub at_2lr: f64,
+pub struct Five<D> {
+    pub at_la: D,
+    pub at_lr: D,
+    pub at_2la: D,
+    pub at_lalr: D,
+    pub at_2lr: D,
 }
 
 #[derive(Clone, Copy)]
@@ -71,28 +95,28 @@ pub struct OrdersDual {
 
 // The three orders of a pair, and the chi that corrects the second.
 #[derive(Clone, Copy)]
-pub struct Terms {
-    pub a1: f64,
-    pub a2: f64,
-    pub a3: f64,
-    pub xi: f64,
+pub struct Terms<D> {
+    pub a1: D,
+    pub a2: D,
+    pub a3: D,
+    pub xi: D,
 }
 
 #[derive(Clone, Copy)]
-pub struct Sums {
-    pub a1: f64,
-    pub a2: f64,
-    pub a3: f64,
-    pub a_chain: f64,
+pub struct Sums<D> {
+    pub a1: D,
+    pub a2: D,
+    pub a3: D,
+    pub a_chain: D,
 }
 
 // The k-values of the hard spheres' pair correlation function.
 #[derive(Clone, Copy)]
-pub struct KValues {
-    pub k0: f64,
-    pub k1: f64,
-    pub k2: f64,
-    pub k3: f64,
+pub struct KValues<D> {
+    pub k0: D,
+    pub k1: D,
+    pub k2: D,
+    pub k3: D,
 }
 
 // What only the chain reads of a component and of the state; t_inv is 1/T.

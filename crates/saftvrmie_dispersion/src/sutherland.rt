@@ -1,80 +1,143 @@
-// The Sutherland sums of a pair in floats: k_hs, zeta_eff, a1s, b, and a1s_b at the five exponents. The powers of one x0 share its logarithm.
-ghost use Rattle.std.specs.Prelude.{◌≡◌};
-ghost use Rattle.number.specs.Arith.{floats};
-ghost use Rattle.saftvrmie_dispersion.specs.Sutherland.{k_hs, fluid_of, c_row, zeta_eff, a1s, i_of, j_of, b_of};
-ghost use Rattle.saftvrmie_dispersion.specs.Answer.{fluid_in, five_answer};
-ghost use Rattle.saftvrmie_dispersion.specs.Staged.{lambda_inside, five_inside, a1s_b_at, lambdas, five_tested};
+// The Sutherland sums of a pair: k_hs, zeta_eff, a1s, b, and a1s_b at the five exponents. The powers of one x0 share its logarithm.
+ghost use Rattle.std.specs.Prelude.{◌≡◌, Bool};
+ghost use Rattle.number.specs.Answer.{answer_by};
+ghost use Rattle.saftvrmie_dispersion.specs.Sutherland.{k_hs, fluid_of, c_row, b_of, a1s_b};
+ghost use Rattle.saftvrmie_dispersion.specs.Terms.{five};
+ghost use Rattle.saftvrmie_dispersion.specs.Answer.{fluid_by, five_by};
+ghost use Rattle.saftvrmie_dispersion.specs.Shared.{lambda_by, lambda_of, zeta_eff_by, a1s_by, i_by, j_by, a1s_b_by};
+ghost use Rattle.saftvrmie_dispersion.specs.Staged.{lambda_inside, five_inside};
 
-use crate::{Five, Fluid};
-use binary_log::Log;
+use crate::{Five, Fluid, Lambda};
+use dual_num::DualNum;
 use mie_parameters::LAM_COEFF;
-use number::Refusal;
+use number::{Arithmetic, Refusal};
 
-pub fn k_hs(zeta_x: f64) -> f64
-    ensures { result ≡ k_hs floats zeta_x }
+pub fn k_hs<D: DualNum>(zeta_x: D) -> D
+    ensures { (w : Bool) → D.of w result ≡ k_hs (D.beside w) (D.of w zeta_x) }
 {
-    number::pow_up(zeta_x - 1.0, 4)
-        / ((zeta_x + number::pow_up(zeta_x, 2) - number::pow_up(zeta_x, 3)) * 4.0
-            + number::pow_up(zeta_x, 4)
-            + 1.0)
+    let one = D::Plain::lit(1.0);
+    let four = D::Plain::lit(4.0);
+    (zeta_x - one).powi(4)
+        / ((zeta_x + zeta_x.square() - zeta_x.cube()) * four + zeta_x.powi(4) + one)
 }
 
-pub fn fluid_of(rho: f64, zeta_x: f64, k_hs: f64) -> Fluid
-    ensures { fluid_in result ≡ fluid_of floats rho zeta_x k_hs }
+pub fn fluid_of<D: DualNum>(rho: D, zeta_x: D, k_hs: D) -> Fluid<D>
+    ensures { (w : Bool) → fluid_by (D.of w) result ≡ fluid_of (D.beside w) (D.of w rho) (D.of w zeta_x) (D.of w k_hs) }
 {
+    let one = D::Plain::lit(1.0);
     Fluid {
         segment_density: rho,
         zeta_x,
         k_hs,
-        b1: -zeta_x * 0.5 + 1.0,
-        b2: zeta_x * (zeta_x + 1.0) * 4.5,
-        b3: number::pow_down(-zeta_x + 1.0, 3),
+        b1: -zeta_x * D::Plain::lit(0.5) + one,
+        b2: zeta_x * (zeta_x + one) * D::Plain::lit(4.5),
+        b3: (-zeta_x + one).powi_down(3),
     }
 }
 
-pub fn c_row(li: f64, li2: f64, li3: f64, c: [f64; 4]) -> f64
-    ensures { result ≡ c_row floats li li2 li3 c }
+// A row of C; inlined, so that its numbers are known where it is worked.
+#[inline(always)]
+pub fn c_row<D: DualNum>(li: D::Plain, li2: D::Plain, li3: D::Plain, c: [f64; 4]) -> D::Plain
+    ensures { (w : Bool) → D.plain w result ≡ c_row (D.beside w) (D.plain w li) (D.plain w li2) (D.plain w li3) c }
 {
-    li * c[1] + li2 * c[2] + li3 * c[3] + c[0]
+    li * D::Plain::lit(c[1])
+        + li2 * D::Plain::lit(c[2])
+        + li3 * D::Plain::lit(c[3])
+        + D::Plain::lit(c[0])
 }
 
-pub fn zeta_eff(zeta: f64, lambda: f64) -> f64
-    ensures { result ≡ zeta_eff floats floats (λ x. x) zeta lambda }
+pub fn lambda_of<D: DualNum>(lambda: D::Plain) -> Lambda<D::Plain>
+    ensures { (w : Bool) → lambda_by (D.plain w) result ≡ lambda_of (D.beside w) (D.plain w lambda) }
 {
-    let li = 1.0 / lambda;
+    let li = D::Plain::lit(1.0) / lambda;
     let li2 = li * li;
     let li3 = li * li2;
-    let c0 = c_row(li, li2, li3, LAM_COEFF[0]);
-    let c1 = c_row(li, li2, li3, LAM_COEFF[1]);
-    let c2 = c_row(li, li2, li3, LAM_COEFF[2]);
-    let c3 = c_row(li, li2, li3, LAM_COEFF[3]);
-    zeta * (zeta * (zeta * (zeta * c3 + c2) + c1) + c0)
+    Lambda {
+        l3: lambda - D::Plain::lit(3.0),
+        l4: lambda - D::Plain::lit(4.0),
+        c0: c_row::<D>(li, li2, li3, LAM_COEFF[0]),
+        c1: c_row::<D>(li, li2, li3, LAM_COEFF[1]),
+        c2: c_row::<D>(li, li2, li3, LAM_COEFF[2]),
+        c3: c_row::<D>(li, li2, li3, LAM_COEFF[3]),
+    }
 }
 
-pub fn a1s_ij(zeta_x: f64, lambda: f64) -> f64
-    ensures { result ≡ a1s floats floats (λ x. x) zeta_x lambda }
+fn zeta_eff<D: DualNum>(zeta: D, of: Lambda<D::Plain>) -> D
+    ensures { (w : Bool) → D.of w result ≡ zeta_eff_by (D.beside w) (D.beside w) (λ x. x) (D.of w zeta) (lambda_by (D.plain w) of) }
 {
-    let ze = zeta_eff(zeta_x, lambda);
-    -(-ze * 0.5 + 1.0) / (number::pow_up(-ze + 1.0, 3) * (lambda - 3.0))
+    zeta * (zeta * (zeta * (zeta * of.c3 + of.c2) + of.c1) + of.c0)
 }
 
-fn i_of(x0_3ml: f64, lambda: f64) -> f64
-    ensures { result ≡ i_of floats floats (λ x. x) x0_3ml lambda }
+fn a1s_ij<D: DualNum>(zeta_x: D, of: Lambda<D::Plain>) -> D
+    ensures { (w : Bool) → D.of w result ≡ a1s_by (D.beside w) (D.beside w) (λ x. x) (D.of w zeta_x) (lambda_by (D.plain w) of) }
 {
-    -(x0_3ml - 1.0) / (lambda - 3.0)
+    let one = D::Plain::lit(1.0);
+    let half = D::Plain::lit(0.5);
+    let ze = zeta_eff(zeta_x, of);
+    -(-ze * half + one) / ((-ze + one).cube() * of.l3)
 }
 
-fn j_of(x0_4ml: f64, x0_3ml: f64, lambda: f64) -> f64
-    ensures { result ≡ j_of floats floats (λ x. x) x0_4ml x0_3ml lambda }
+fn i_of<D: DualNum>(x0_3ml: D, l3: D::Plain) -> D
+    ensures { (w : Bool) → D.of w result ≡ i_by (D.beside w) (D.beside w) (λ x. x) (D.of w x0_3ml) (D.plain w l3) }
 {
-    -(x0_4ml * (lambda - 3.0) - x0_3ml * (lambda - 4.0) - 1.0) / ((lambda - 3.0) * (lambda - 4.0))
+    -(x0_3ml - D::Plain::lit(1.0)) / l3
 }
 
-fn b_of(w: Fluid, i: f64, j: f64) -> f64
-    ensures { result ≡ b_of floats floats (λ x. x) (fluid_in w) i j }
+fn j_of<D: DualNum>(x0_4ml: D, x0_3ml: D, l3: D::Plain, l4: D::Plain) -> D
+    ensures { (w : Bool) → D.of w result ≡ j_by (D.beside w) (D.beside w) (λ x. x) (D.of w x0_4ml) (D.of w x0_3ml) (D.plain w l3) (D.plain w l4) }
 {
-    (w.b1 * i - w.b2 * j) * w.b3
+    -(x0_4ml * l3 - x0_3ml * l4 - D::Plain::lit(1.0)) / (l3 * l4)
 }
+
+fn b_of<D: DualNum>(fluid: &Fluid<D>, i: D, j: D) -> D
+    ensures { (w : Bool) → D.of w result ≡ b_of (D.beside w) (D.beside w) (λ x. x) (fluid_by (D.of w) fluid.now) (D.of w i) (D.of w j) }
+{
+    (fluid.b1 * i - fluid.b2 * j) * fluid.b3
+}
+
+// `a1s_b_ij` from its powers of x0: p to lambda, p3 to 3 - lambda, p4 to 4 - lambda.
+fn a1s_b_of<D: DualNum>(fluid: &Fluid<D>, of: Lambda<D::Plain>, p: D, p3: D, p4: D) -> D
+    ensures { (w : Bool) → D.of w result ≡ a1s_b_by (D.beside w) (D.beside w) (λ x. x) (fluid_by (D.of w) fluid.now) (lambda_by (D.plain w) of) (D.of w p) (D.of w p3) (D.of w p4) }
+{
+    let b = b_of(fluid, i_of(p3, of.l3), j_of(p4, p3, of.l3, of.l4));
+    p * (a1s_ij(fluid.zeta_x, of) + b)
+}
+
+fn a1s_b_ij<D: DualNum>(x0: D::Base, fluid: &Fluid<D>, lambda: D::Plain) -> Result<D, Refusal>
+    ensures { (w : Bool) → answer_by (D.of w) result ≡ a1s_b (D.beside w) (D.beside w) (λ x. x) (D.power_at w x0) (fluid_by (D.of w) fluid.now) (D.plain w lambda) }
+{
+    let p = D::powf_at(x0, lambda)?;
+    let p3 = D::powf_at(x0, D::Plain::lit(3.0) - lambda)?;
+    let p4 = D::powf_at(x0, D::Plain::lit(4.0) - lambda)?;
+    Ok(a1s_b_of(fluid, lambda_of::<D>(lambda), p, p3, p4))
+}
+
+// The powers of x0 share its logarithm.
+pub fn five_sums<D: DualNum>(
+    x0: D,
+    fluid: &Fluid<D>,
+    la: D::Plain,
+    lr: D::Plain,
+) -> Result<Five<D>, Refusal>
+    ensures { (w : Bool) → answer_by (five_by (D.of w)) result ≡ five (D.beside w) (D.beside w) (λ x. x) ((D.functions w).powf (D.of w x0)) (fluid_by (D.of w) fluid.now) (D.plain w la) (D.plain w lr) }
+{
+    let base = x0.base();
+    let two = D::Plain::lit(2.0);
+    let at_la = a1s_b_ij(base, fluid, la)?;
+    let at_lr = a1s_b_ij(base, fluid, lr)?;
+    let at_2la = a1s_b_ij(base, fluid, two * la)?;
+    let at_lalr = a1s_b_ij(base, fluid, la + lr)?;
+    let at_2lr = a1s_b_ij(base, fluid, two * lr)?;
+    Ok(Five {
+        at_la,
+        at_lr,
+        at_2la,
+        at_lalr,
+        at_2lr,
+    })
+}
+
+// ---- in floats, for the sums with slopes
 
 fn lambda_inside(lambda: f64) -> bool
     ensures { result ≡ lambda_inside lambda }
@@ -90,42 +153,4 @@ pub fn five_inside(la: f64, lr: f64) -> bool
     lambda_inside(la)
         & (lambda_inside(lr)
             & (lambda_inside(2.0 * la) & (lambda_inside(la + lr) & lambda_inside(2.0 * lr))))
-}
-
-fn a1s_b_ij(l: Log, w: Fluid, lambda: f64) -> f64
-    ensures { result ≡ a1s_b_at floats (λ x. x) l (fluid_in w) lambda }
-{
-    let p = power::raise(l, power::exponent(lambda));
-    let p3 = power::raise(l, power::exponent(3.0 - lambda));
-    let p4 = power::raise(l, power::exponent(4.0 - lambda));
-    p * (a1s_ij(w.zeta_x, lambda) + b_of(w, i_of(p3, lambda), j_of(p4, p3, lambda)))
-}
-
-// The five exponents.
-fn lambdas(la: f64, lr: f64) -> [f64; 5]
-    ensures { result ≡ lambdas la lr }
-{
-    [la, lr, 2.0 * la, la + lr, 2.0 * lr]
-}
-
-// In a loop, so that each sum's code stands once: the tests of an exponent and its powers then share what they read.
-pub fn five_sums(l: Log, w: Fluid, la: f64, lr: f64) -> Result<Five, Refusal>
-    ensures { five_answer result ≡ five_tested l (fluid_in w) la lr }
-{
-    let y = lambdas(la, lr);
-    let mut s = [0.0; 5];
-    for k in 0usize..5usize {
-        let lambda = y[k];
-        if !lambda_inside(lambda) {
-            return Err(Refusal::Domain);
-        }
-        s[k] = a1s_b_ij(l, w, lambda);
-    }
-    Ok(Five {
-        at_la: s[0],
-        at_lr: s[1],
-        at_2la: s[2],
-        at_lalr: s[3],
-        at_2lr: s[4],
-    })
 }

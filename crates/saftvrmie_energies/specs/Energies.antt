@@ -10,24 +10,9 @@ use Rattle.elementary.specs.Port.{port}
 use Rattle.limits.specs.Limits.{count_within, state_within}
 use Rattle.saftvrmie_parameters.specs.declared.PairParameters.{PairParameters}
 use Rattle.saftvrmie_parameters.specs.declared.SaftVRMiePars.{SaftVRMiePars}
-use Rattle.mie_parameters.specs.Sums.{weighted}
 use Rattle.saftvrmie_parameters.specs.Parameters.{pair_at}
-use Rattle.saftvrmie_dispersion.specs.Terms.{PairIn}
 use Rattle.saftvrmie_dispersion.specs.Answer.{pair_in}
-use Rattle.saftvrmie_energies.specs.Properties.{d3_ij, s3_ij, zeta_sum}
 use Rattle.saftvrmie_energies.specs.Dispersion.{StateIn, dispersion, dispersion_chain}
-use Rattle.saftvrmie_energies.specs.declared.Properties.{Properties}
-
--- segment_density, zeta_x and zeta_x_bar of `properties` in floats: the contract of a helper alone. proofs/Laws shows that `properties` is this and `k_of`
-unfoldable pub packing_of : ℕ → (ℕ → Float) → (ℕ → Float) → (ℕ → Float) → (ℕ → Float) → (ℕ → ℕ → PairIn Float) → Properties
-packing_of n xs density d m pair =
-    let rho = weighted floats n density m in
-    let factor = floats.mul rho (calls floats port).frac_pi_6 in
-    record {
-      segment_density = rho;
-      zeta_x = floats.mul (zeta_sum floats n xs (d3_ij floats d)) factor;
-      zeta_x_bar = floats.mul (zeta_sum floats n xs (s3_ij floats pair)) factor;
-    }
 
 -- ---- what is read where
 

@@ -1,3 +1,4 @@
 pub mod Properties
 pub mod Dispersion
 pub mod Energies
+pub mod Reads

@@ -7,168 +7,58 @@ ghost use Rattle.number.specs.Functions.{calls};
 ghost use Rattle.sizes.specs.Sizes.{side};
 ghost use Rattle.elementary.specs.Port.{port};
 ghost use Rattle.number.specs.Answer.{answer};
-ghost use Rattle.enclosure.specs.Enclosure.{enclosures, div_e, after_e, point};
+ghost use Rattle.enclosure.specs.Enclosure.{enclosures, div_e, point};
 ghost use Rattle.enclosure.specs.declared.Enclosure.{Enclosure};
 ghost use Rattle.saftvrmie_parameters.specs.declared.SaftVRMiePars.{SaftVRMiePars};
 ghost use Rattle.saftvrmie_dispersion.specs.Terms.{PairIn};
 ghost use Rattle.saftvrmie_dispersion.specs.Chain.{LinkIn};
-ghost use Rattle.saftvrmie_dispersion.specs.Answer.{pair_in};
-ghost use Rattle.number.specs.Lists.{nth};
-ghost use Rattle.saftvrmie_energies.specs.Dispersion.{pair_turn, pair_row, disp_row, chain_row, disp_rows, chain_rows, dispersion, dispersion_chain};
+ghost use Rattle.saftvrmie_energies.specs.Dispersion.{chain_row, chain_rows, dispersion, dispersion_chain};
 ghost use Rattle.saftvrmie_energies.specs.Energies.{pure_at, state_in, energy_run};
-ghost use Rattle.saftvrmie_dispersion_ends.specs.Answer.{fluid_in, bar_in, sums_in, sums_answer};
-ghost use Rattle.saftvrmie_properties_ends.specs.Answer.{k_in};
-ghost use Rattle.saftvrmie_properties_ends.specs.Points.{points, pairs};
+ghost use Rattle.saftvrmie_dispersion.specs.Answer.{pair_in, fluid_in, bar_in, sums_in, k_in, sums_answer};
+ghost use Rattle.saftvrmie_energies.specs.Reads.{entries, pairs, read};
 ghost use Rattle.saftvrmie_chain_ends.specs.Duals.{fluid_dual_in, link_in};
 ghost use Rattle.saftvrmie_energies_ends.specs.Operation.{dispersion_ends};
 
 use enclosure::{Enclosure, Ends};
 use number::Refusal;
 use saftvrmie_chain_ends::{FluidDuals, LinkEnclosures};
-use saftvrmie_dispersion_ends::{BarEnclosures, FluidEnclosures, SumsEnclosures};
+use saftvrmie_dispersion::{Bar, Fluid, KValues, Sums};
 use saftvrmie_parameters::{PairParameters, SaftVRMiePars};
-use saftvrmie_properties_ends::KEnclosures;
 use sizes::{SHEETS, SIDE};
 
 // ---- the sums
-
-fn pair_turn(
-    sheets: &[f64; SHEETS],
-    xs: [Enclosure; SIDE],
-    d: &[f64],
-    w: FluidEnclosures,
-    bar: BarEnclosures,
-    i: usize,
-    j: usize,
-    s: SumsEnclosures,
-) -> Result<SumsEnclosures, Refusal>
-    requires { (i < side) × (j < side) × (i < length d.now) × (j < length d.now) }
-    ensures { let xs = nth enclosures xs in
-        let d = points d.entry.now in
-        let pair = pairs sheets.now in
-        sums_answer result ≡ pair_turn enclosures (calls enclosures port) xs d pair (fluid_in w) (bar_in bar) i j (sums_in s) }
-{
-    let p = saftvrmie_energies::pair_at(sheets, i, j);
-    let e = saftvrmie_properties_ends::d_ij(d, i, j);
-    let t = saftvrmie_dispersion_ends::pair_terms(w, bar, p, e)?;
-    let xi = saftvrmie_properties_ends::at_component(xs, i);
-    let xj = saftvrmie_properties_ends::at_component(xs, j);
-    Ok(saftvrmie_dispersion_ends::add_pair(xi, xj, t, s))
-}
-
-// The pairs (i, j) with j > i.
-fn pair_row(
-    n: usize,
-    sheets: &[f64; SHEETS],
-    xs: [Enclosure; SIDE],
-    d: &[f64],
-    w: FluidEnclosures,
-    bar: BarEnclosures,
-    i: usize,
-    start: SumsEnclosures,
-) -> Result<SumsEnclosures, Refusal>
-    requires { (n ≤ side) × (i < n) × (length d.now ≡ n) }
-    ensures { let xs = nth enclosures xs in
-        let d = points d.entry.now in
-        let pair = pairs sheets.now in
-        sums_answer result ≡ pair_row enclosures (calls enclosures port) n xs d pair (fluid_in w) (bar_in bar) i (sums_in start) }
-{
-    let mut s = start;
-    for k in 0usize..n - (i + 1) {
-        s = pair_turn(sheets, xs, d, w, bar, i, i + 1 + k, s)?;
-    }
-    Ok(s)
-}
-
-// Component i without chain, then its pairs.
-fn disp_row(
-    n: usize,
-    sheets: &[f64; SHEETS],
-    xs: [Enclosure; SIDE],
-    d: &[f64],
-    w: FluidEnclosures,
-    bar: BarEnclosures,
-    p: PairParameters,
-    i: usize,
-    s: SumsEnclosures,
-) -> Result<SumsEnclosures, Refusal>
-    requires { (n ≤ side) × (i < n) × (length d.now ≡ n) }
-    ensures { let xs = nth enclosures xs in
-        let d = points d.entry.now in
-        let pair = pairs sheets.now in
-        sums_answer result ≡ disp_row enclosures (calls enclosures port) n xs d pair (fluid_in w) (bar_in bar) (pair_in point p) i (sums_in s) }
-{
-    let e = Enclosure::point(d[i]);
-    let t = saftvrmie_dispersion_ends::pair_terms(w, bar, p, e)?;
-    let xi = saftvrmie_properties_ends::at_component(xs, i);
-    let next = saftvrmie_dispersion_ends::add_pure(xi, t, s);
-    pair_row(n, sheets, xs, d, w, bar, i, next)
-}
 
 // Component i with slopes and its link, then its pairs.
 fn chain_row(
     n: usize,
     sheets: &[f64; SHEETS],
-    xs: [Enclosure; SIDE],
+    xs: &[Enclosure; SIDE],
     d: &[f64],
-    w: FluidEnclosures,
-    bar: BarEnclosures,
+    w: Fluid<Enclosure>,
+    bar: Bar<Enclosure>,
     v: FluidDuals,
-    k: KEnclosures,
+    k: KValues<Enclosure>,
     p: PairParameters,
     of: LinkEnclosures,
     i: usize,
-    s: SumsEnclosures,
-) -> Result<SumsEnclosures, Refusal>
+    s: Sums<Enclosure>,
+) -> Result<Sums<Enclosure>, Refusal>
     requires { (n ≤ side) × (i < n) × (length d.now ≡ n) }
-    ensures { let xs = nth enclosures xs in
-        let d = points d.entry.now in
-        let pair = pairs sheets.now in
+    ensures { let xs = read enclosures (λ x. x) xs.entry.now in
+        let d = entries enclosures d.entry.now in
+        let pair = pairs enclosures sheets.now in
         sums_answer result ≡ chain_row enclosures (calls enclosures port) n xs d pair (fluid_in w) (bar_in bar) (fluid_dual_in v) (k_in k) (pair_in point p) (link_in of) i (sums_in s) }
 {
     let e = Enclosure::point(d[i]);
-    let xi = saftvrmie_properties_ends::at_component(xs, i);
+    let xi = saftvrmie_energies::component(xs, i);
     let t = saftvrmie_chain_ends::chain_pure(v, bar, k, p, e, of, xi, s)?;
-    pair_row(n, sheets, xs, d, w, bar, i, t)
-}
-
-fn disp_rows(
-    n: usize,
-    sigma: &[f64; SIDE],
-    epsilon_k: &[f64; SIDE],
-    lr: &[f64; SIDE],
-    la: &[f64; SIDE],
-    sheets: &[f64; SHEETS],
-    xs: [Enclosure; SIDE],
-    d: &[f64],
-    w: FluidEnclosures,
-    bar: BarEnclosures,
-) -> Result<SumsEnclosures, Refusal>
-    requires { (n ≤ side) × (length d.now ≡ n) }
-    ensures { let xs = nth enclosures xs in
-        let d = points d.entry.now in
-        let pair = pairs sheets.now in
-        let pure : ℕ → PairIn Enclosure = λ i. pair_in point (pure_at sigma.now epsilon_k.now lr.now la.now sheets.now i) in
-        sums_answer result ≡ disp_rows enclosures (calls enclosures port) n xs d pair (fluid_in w) (bar_in bar) pure }
-{
-    let zero = Enclosure::point(0.0);
-    let mut s = SumsEnclosures {
-        a1: zero,
-        a2: zero,
-        a3: zero,
-        a_chain: zero,
-    };
-    for i in 0usize..n {
-        let p = saftvrmie_energies::pure_at(sigma, epsilon_k, lr, la, sheets, i);
-        s = disp_row(n, sheets, xs, d, w, bar, p, i, s)?;
-    }
-    Ok(s)
+    saftvrmie_energies::pair_row(n, sheets, xs, d, w, bar, i, t)
 }
 
 // What the chain reads of component i.
 fn link_at(m: &[f64; SIDE], x: &[f64], t_inv: Enclosure, i: usize) -> LinkEnclosures
     requires { (i < side) × (i < length x.now) }
-    ensures { link_in result ≡ record { m = points m.entry.now i; fraction = points x.now i; t_inv = t_inv } }
+    ensures { link_in result ≡ record { m = entries enclosures m.entry.now i; fraction = entries enclosures x.now i; t_inv = t_inv } }
 {
     let a = Enclosure::point(m[i]);
     let b = Enclosure::point(x[i]);
@@ -188,24 +78,24 @@ fn chain_rows(
     la: &[f64; SIDE],
     sheets: &[f64; SHEETS],
     x: &[f64],
-    xs: [Enclosure; SIDE],
+    xs: &[Enclosure; SIDE],
     d: &[f64],
-    w: FluidEnclosures,
-    bar: BarEnclosures,
+    w: Fluid<Enclosure>,
+    bar: Bar<Enclosure>,
     v: FluidDuals,
-    k: KEnclosures,
+    k: KValues<Enclosure>,
     t_inv: Enclosure,
-) -> Result<SumsEnclosures, Refusal>
+) -> Result<Sums<Enclosure>, Refusal>
     requires { (n ≤ side) × (length x.now ≡ n) × (length d.now ≡ n) }
-    ensures { let xs = nth enclosures xs in
-        let d = points d.entry.now in
-        let pair = pairs sheets.now in
+    ensures { let xs = read enclosures (λ x. x) xs.entry.now in
+        let d = entries enclosures d.entry.now in
+        let pair = pairs enclosures sheets.now in
         let pure : ℕ → PairIn Enclosure = λ i. pair_in point (pure_at sigma.now epsilon_k.now lr.now la.now sheets.now i) in
-        let link : ℕ → LinkIn Enclosure = λ i. record { m = points m.entry.now i; fraction = points x.now i; t_inv = t_inv } in
+        let link : ℕ → LinkIn Enclosure = λ i. record { m = entries enclosures m.entry.now i; fraction = entries enclosures x.now i; t_inv = t_inv } in
         sums_answer result ≡ chain_rows enclosures (calls enclosures port) n xs d pair (fluid_in w) (bar_in bar) pure (fluid_dual_in v) (k_in k) link }
 {
     let zero = Enclosure::point(0.0);
-    let mut s = SumsEnclosures {
+    let mut s = Sums {
         a1: zero,
         a2: zero,
         a3: zero,
@@ -229,14 +119,6 @@ fn inverse(temperature: f64) -> Enclosure
     one / Enclosure::point(temperature)
 }
 
-// x, where k0 to k3 were worked on the way: `Properties::new` works them, dispersion alone does not use them.
-fn after_ks(k: KEnclosures, x: Enclosure) -> Enclosure
-    ensures { result ≡ after_e k.k0 (after_e k.k1 (after_e k.k2 (after_e k.k3 x))) }
-{
-    let a = x.after(k.k3).after(k.k2);
-    a.after(k.k1).after(k.k0)
-}
-
 fn helmholtz_energy_density_disp(
     n: usize,
     m: &[f64; SIDE],
@@ -255,17 +137,17 @@ fn helmholtz_energy_density_disp(
         record { count = n; m = m.now; sigma = sigma.now; epsilon_k = epsilon_k.now; lr = lr.now; la = la.now; sheets = sheets.now } in
         answer result ≡ dispersion enclosures (calls enclosures port) n (state_in point set temperature x.now rho.now d.now) }
 {
-    let mean = saftvrmie_properties_ends::weighted(n, x, m);
-    let xs = saftvrmie_properties_ends::xs_of(n, x, m, mean);
-    let q = saftvrmie_properties_ends::properties_of(n, m, sheets, xs, rho, d)?;
-    let k_hs = saftvrmie_dispersion_ends::k_hs(q.zeta_x);
-    let w = saftvrmie_dispersion_ends::fluid_of(q.segment_density, q.zeta_x, k_hs);
-    let bar = saftvrmie_dispersion_ends::bar_of(q.zeta_x_bar);
-    let a = disp_rows(n, sigma, epsilon_k, lr, la, sheets, xs, d, w, bar)?;
-    let orders = saftvrmie_dispersion_ends::orders_sum(a, inverse(temperature));
-    let all = saftvrmie_properties_ends::total(n, rho);
+    let mean = saftvrmie_energies::weighted::<Enclosure>(n, x, m);
+    let xs = saftvrmie_energies::xs_of(n, x, m, mean);
+    let q = saftvrmie_energies::properties_of(n, m, sheets, &xs, rho, d)?;
+    let k_hs = saftvrmie_dispersion::k_hs(q.zeta_x);
+    let w = saftvrmie_dispersion::fluid_of(q.segment_density, q.zeta_x, k_hs);
+    let bar = saftvrmie_dispersion::bar_of(q.zeta_x_bar);
+    let a = saftvrmie_energies::disp_rows(n, sigma, epsilon_k, lr, la, sheets, &xs, d, w, bar)?;
+    let orders = saftvrmie_dispersion::orders_sum(a, inverse(temperature));
+    let all = saftvrmie_energies::total::<Enclosure>(n, rho);
     let v = all * mean * orders;
-    Ok(after_ks(q.k, v))
+    Ok(saftvrmie_energies::after_ks(q.k, v))
 }
 
 fn helmholtz_energy_density_disp_chain(
@@ -286,18 +168,18 @@ fn helmholtz_energy_density_disp_chain(
         record { count = n; m = m.now; sigma = sigma.now; epsilon_k = epsilon_k.now; lr = lr.now; la = la.now; sheets = sheets.now } in
         answer result ≡ dispersion_chain enclosures (calls enclosures port) n (state_in point set temperature x.now rho.now d.now) }
 {
-    let mean = saftvrmie_properties_ends::weighted(n, x, m);
-    let xs = saftvrmie_properties_ends::xs_of(n, x, m, mean);
-    let q = saftvrmie_properties_ends::properties_of(n, m, sheets, xs, rho, d)?;
+    let mean = saftvrmie_energies::weighted::<Enclosure>(n, x, m);
+    let xs = saftvrmie_energies::xs_of(n, x, m, mean);
+    let q = saftvrmie_energies::properties_of(n, m, sheets, &xs, rho, d)?;
     let v = saftvrmie_chain_ends::fluid_dual(q.zeta_x, q.segment_density);
-    let w = saftvrmie_dispersion_ends::fluid_of(q.segment_density, q.zeta_x, v.k_hs.re);
-    let bar = saftvrmie_dispersion_ends::bar_of(q.zeta_x_bar);
+    let w = saftvrmie_dispersion::fluid_of(q.segment_density, q.zeta_x, v.k_hs.re);
+    let bar = saftvrmie_dispersion::bar_of(q.zeta_x_bar);
     let t_inv = inverse(temperature);
     let a = chain_rows(
-        n, m, sigma, epsilon_k, lr, la, sheets, x, xs, d, w, bar, v, q.k, t_inv,
+        n, m, sigma, epsilon_k, lr, la, sheets, x, &xs, d, w, bar, v, q.k, t_inv,
     )?;
-    let orders = saftvrmie_dispersion_ends::orders_sum(a, t_inv);
-    let all = saftvrmie_properties_ends::total(n, rho);
+    let orders = saftvrmie_dispersion::orders_sum(a, t_inv);
+    let all = saftvrmie_energies::total::<Enclosure>(n, rho);
     let e = mean * orders + a.a_chain;
     Ok(all * e)
 }

@@ -3,7 +3,7 @@ use Prim.Native.Nat.{ℕ, ◌*◌, ◌≤◌}
 use Rattle.std.specs.Prelude.{Err, Ok, Result}
 use Rattle.number.specs.declared.refusal.Refusal.{Refusal}
 use mathlib.Core.Path.{◌≡◌}
-use mathlib.Core.Bool.{Bool, true, false, ◌&&◌}
+use mathlib.Core.Bool.{true, false, ◌&&◌}
 use lib.Dec.{eqb}
 use lib.ListN.{length}
 use lib.Ieee.{Float}
@@ -20,7 +20,7 @@ use Rattle.limits.specs.Limits.{square, count_within}
 use Rattle.saftvrmie_parameters.specs.declared.PairParameters.{PairParameters}
 use Rattle.mie_parameters.specs.Places.{in_places}
 use Rattle.mie_parameters.proofs.Laws.{and_left, and_right, count_low, count_high}
-use Rattle.saftvrmie_parameters.specs.Parameters.{Lists, pair_parameters, store_pair, sheets_turn, sheets_of, right_lengths, within_limits, component_of, saft_vr_mie_pars}
+use Rattle.saftvrmie_parameters.specs.Parameters.{Lists, Fitting, pair_parameters, store_pair, sheets_turn, sheets_of, right_lengths, within_in, component_of, saft_vr_mie_pars}
 
 -- a turn of the sheets, over plain values
 module _ (n : ℕ) (c : ℕ → Component) (k l : ℕ → ℕ → Float) (i j : ℕ) (x : List Float) (a b : Component) (r : Result PairParameters Refusal) where
@@ -81,10 +81,10 @@ lengths l p7 =
       gamma_ij = eqb-true (length l.gamma_ij) (n * n) (and_right c6 e7 p7);
     }
 
--- the operation, test by test
-abbrev pub Within : Lists → Bool
-Within l = within_limits l.count (component_of l) (at l.m) (square l.count l.k_ij) (square l.count l.gamma_ij)
+pub fitting : (l : Lists) → right_lengths l ≡ true → Fitting l
+fitting l p = let h = lengths l p in (h.high, h.sigma, h.epsilon_k, h.lr, h.la, h.k_ij, h.gamma_ij)
 
+-- the operation, test by test
 abbrev pub sheets_in : Lists → Ans (List Float)
 sheets_in l = sheets_of l.count (component_of l) (square l.count l.k_ij) (square l.count l.gamma_ij)
 
@@ -93,15 +93,15 @@ module _ (l : Lists) where
   unfolding saft_vr_mie_pars demand ◌>>=◌
   refuses_1 p = rw p
 
-  pub refuses_2 : right_lengths l ≡ true → Within l ≡ false → saft_vr_mie_pars l ≡ refused 2
+  pub refuses_2 : right_lengths l ≡ true → within_in l ≡ false → saft_vr_mie_pars l ≡ refused 2
   unfolding saft_vr_mie_pars demand ◌>>=◌
   refuses_2 p q = rw (p, q)
 
-  pub refuses_6 : (k : ℕ) → right_lengths l ≡ true → Within l ≡ true → sheets_in l ≡ refused k → saft_vr_mie_pars l ≡ refused k
+  pub refuses_6 : (k : ℕ) → right_lengths l ≡ true → within_in l ≡ true → sheets_in l ≡ refused k → saft_vr_mie_pars l ≡ refused k
   unfolding saft_vr_mie_pars demand ◌>>=◌
   refuses_6 k p q t = rw (p, q, t)
 
-  pub holds : (x m s e r a : List Float) → right_lengths l ≡ true → Within l ≡ true → sheets_in l ≡ held x
+  pub holds : (x m s e r a : List Float) → right_lengths l ≡ true → within_in l ≡ true → sheets_in l ≡ held x
       → m ≡ in_places floats l.count (at l.m) → s ≡ in_places floats l.count (at l.sigma) → e ≡ in_places floats l.count (at l.epsilon_k) → r ≡ in_places floats l.count (at l.lr) → a ≡ in_places floats l.count (at l.la)
       → held (record { count = l.count; m = m; sigma = s; epsilon_k = e; lr = r; la = a; sheets = x }) ≡ saft_vr_mie_pars l
   unfolding saft_vr_mie_pars demand ◌>>=◌

@@ -1,5 +1,5 @@
 -- The parameters of SAFT-VR Mie: their tests in document 01's order, and the set.
-use Rattle.std.specs.Prelude.{ℕ, ◌+◌, ◌*◌, eqb, Float, length, set, replicate, List, Bool, ◌&&◌}
+use Rattle.std.specs.Prelude.{◌≡◌, ◌≤◌, ℕ, ◌+◌, ◌*◌, eqb, Float, length, set, replicate, List, Bool, ◌&&◌}
 use Rattle.number.specs.Arith.{floats, zero64}
 use Rattle.number.specs.Ans.{Ans, held, refused, ◌>>=◌, demand}
 use Rattle.number.specs.Functions.{calls}
@@ -12,6 +12,7 @@ use Rattle.limits.specs.declared.Component.{Component}
 use Rattle.limits.specs.Limits.{square, components, count_within, components_within, segments_within, pairs_within}
 use Rattle.saftvrmie_parameters.specs.Combine.{sigma_ij, alpha_ij, lr_ij}
 use Rattle.mie_parameters.specs.Places.{in_places}
+use Rattle.saftvrmie_parameters.specs.declared.ComponentLists.{ComponentLists}
 use Rattle.saftvrmie_parameters.specs.declared.PairParameters.{PairParameters}
 use Rattle.saftvrmie_parameters.specs.declared.SaftVRMiePars.{SaftVRMiePars}
 
@@ -25,6 +26,19 @@ pub record Lists : Type 0 where
   pub la : List Float
   pub k_ij : List Float
   pub gamma_ij : List Float
+
+abbrev pub lists_of : ComponentLists → Lists
+lists_of l =
+    record {
+      count = l.count;
+      m = l.m.now;
+      sigma = l.sigma.now;
+      epsilon_k = l.epsilon_k.now;
+      lr = l.lr.now;
+      la = l.la.now;
+      k_ij = l.k_ij.now;
+      gamma_ij = l.gamma_ij.now;
+    }
 
 -- ---- 1 and 2
 
@@ -40,12 +54,22 @@ right_lengths l =
     && eqb (length l.k_ij) (l.count * l.count)
     && eqb (length l.gamma_ij) (l.count * l.count)
 
+-- what right lengths say of the lists that the sheets are worked from
+abbrev pub Fitting : Lists → Type 0
+Fitting l =
+    (l.count ≤ side)
+    × (length l.sigma ≡ l.count) × (length l.epsilon_k ≡ l.count) × (length l.lr ≡ l.count) × (length l.la ≡ l.count)
+    × (length l.k_ij ≡ l.count * l.count) × (length l.gamma_ij ≡ l.count * l.count)
+
 abbrev pub component_of : Lists → ℕ → Component
 component_of l = components l.sigma l.epsilon_k l.lr l.la
 
 -- 2: a number is outside its limit
 unfoldable pub within_limits : ℕ → (ℕ → Component) → (ℕ → Float) → (ℕ → ℕ → Float) → (ℕ → ℕ → Float) → Bool
 within_limits n c m k gamma = components_within n c && segments_within n m && pairs_within n k && pairs_within n gamma
+
+abbrev pub within_in : Lists → Bool
+within_in l = within_limits l.count (component_of l) (at l.m) (square l.count l.k_ij) (square l.count l.gamma_ij)
 
 -- ---- the set
 
@@ -87,6 +111,9 @@ module _ (n : ℕ) (c : ℕ → Component) (k gamma : ℕ → ℕ → Float) whe
   -- +0 where unused
   unfoldable pub sheets_of : Ans (List Float)
   sheets_of = walk n sheets_row (replicate (6 * sheet) zero64)
+
+abbrev pub sheets_row_in : Lists → ℕ → List Float → Ans (List Float)
+sheets_row_in l = sheets_row l.count (component_of l) (square l.count l.k_ij) (square l.count l.gamma_ij)
 
 -- ---- the operation: the first that applies is given
 unfoldable pub saft_vr_mie_pars : Lists → Ans SaftVRMiePars

@@ -11,7 +11,7 @@ ghost use Rattle.sizes.specs.Sizes.{side, sheet};
 ghost use Rattle.number.specs.Walk.{walk};
 ghost use Rattle.limits.specs.Limits.{square, components};
 ghost use Rattle.saftvrmie_parameters.specs.Combine.{sigma_ij, alpha_ij, lr_ij};
-ghost use Rattle.saftvrmie_parameters.specs.Parameters.{empty_set, set_of, Lists, right_lengths, within_limits, pair_parameters, store_pair, sheets_row, saft_vr_mie_pars};
+ghost use Rattle.saftvrmie_parameters.specs.Parameters.{empty_set, set_of, lists_of, Fitting, right_lengths, within_in, pair_parameters, store_pair, sheets_row_in, saft_vr_mie_pars};
 ghost use Rattle.mie_parameters.specs.Answer.{outcome};
 
 use limits::Component;
@@ -19,6 +19,7 @@ use number::Refusal;
 use sizes::mie_set::{ALPHA_IJ, C_IJ, EPSILON_K_IJ, LA_IJ, LR_IJ};
 use sizes::{SHEETS, SIDE};
 
+// Document 01's Forms ask for a struct by value with the count and the flat array: no list of its own length.
 #[derive(Clone, Copy)]
 pub struct SaftVRMiePars {
     pub count: usize,
@@ -35,6 +36,19 @@ pub struct SaftVRMiePars {
 pub struct ParameterSet {
     pub answer: Result<(), Refusal>,
     pub set: SaftVRMiePars,
+}
+
+// The lists that a caller hands.
+#[derive(Clone, Copy)]
+pub struct ComponentLists<'a> {
+    pub count: usize,
+    pub m: &'a [f64],
+    pub sigma: &'a [f64],
+    pub epsilon_k: &'a [f64],
+    pub lr: &'a [f64],
+    pub la: &'a [f64],
+    pub k_ij: &'a [f64],
+    pub gamma_ij: &'a [f64],
 }
 
 #[derive(Clone, Copy)]
@@ -135,201 +149,91 @@ fn store_pair(s: &mut [f64; SHEETS], e: usize, p: PairParameters)
 }
 
 // Row i of the six sheets.
-fn sheets_row(
-    n: usize,
-    sigma: &[f64],
-    epsilon_k: &[f64],
-    lr: &[f64],
-    la: &[f64],
-    k_ij: &[f64],
-    gamma_ij: &[f64],
-    i: usize,
-    s: &mut [f64; SHEETS],
-) -> Result<(), Refusal>
-    requires { (n ≤ side) × (i < n)
-        × (length sigma.now ≡ n) × (length epsilon_k.now ≡ n) × (length lr.now ≡ n) × (length la.now ≡ n)
-        × (length k_ij.now ≡ n * n) × (length gamma_ij.now ≡ n * n) }
-    ensures { let c = components sigma.now epsilon_k.now lr.now la.now in
-        let k = square n k_ij.now in
-        let gamma = square n gamma_ij.now in
-        outcome result s.new ≡ sheets_row n c k gamma i s.old }
+fn sheets_row(l: &ComponentLists, i: usize, s: &mut [f64; SHEETS]) -> Result<(), Refusal>
+    requires { (i < l.now.count) × Fitting (lists_of l.now) }
+    ensures { outcome result s.new ≡ sheets_row_in (lists_of l.now) i s.old }
 {
-    let a = limits::component_at(sigma, epsilon_k, lr, la, i);
+    let n = l.count;
+    let a = limits::component_at(l.sigma, l.epsilon_k, l.lr, l.la, i);
     for j in 0usize..n {
-        let b = limits::component_at(sigma, epsilon_k, lr, la, j);
-        let p = pair_parameters(a, b, k_ij[n * i + j], gamma_ij[n * i + j])?;
+        let b = limits::component_at(l.sigma, l.epsilon_k, l.lr, l.la, j);
+        let p = pair_parameters(a, b, l.k_ij[n * i + j], l.gamma_ij[n * i + j])?;
         store_pair(s, SIDE * i + j, p);
     }
     Ok(())
 }
 
-fn fill_sheets(
-    n: usize,
-    sigma: &[f64],
-    epsilon_k: &[f64],
-    lr: &[f64],
-    la: &[f64],
-    k_ij: &[f64],
-    gamma_ij: &[f64],
-    s: &mut [f64; SHEETS],
-) -> Result<(), Refusal>
-    requires { (n ≤ side)
-        × (length sigma.now ≡ n) × (length epsilon_k.now ≡ n) × (length lr.now ≡ n) × (length la.now ≡ n)
-        × (length k_ij.now ≡ n * n) × (length gamma_ij.now ≡ n * n) }
-    ensures { let c = components sigma.now epsilon_k.now lr.now la.now in
-        let k = square n k_ij.now in
-        let gamma = square n gamma_ij.now in
-        outcome result s.new ≡ walk n (sheets_row n c k gamma) s.old }
+fn fill_sheets(l: &ComponentLists, s: &mut [f64; SHEETS]) -> Result<(), Refusal>
+    requires { Fitting (lists_of l.now) }
+    ensures { outcome result s.new ≡ walk l.now.count (sheets_row_in (lists_of l.now)) s.old }
 {
-    for i in 0usize..n {
-        sheets_row(n, sigma, epsilon_k, lr, la, k_ij, gamma_ij, i, s)?;
+    for i in 0usize..l.count {
+        sheets_row(l, i, s)?;
     }
     Ok(())
 }
 
-fn right_lengths(
-    count: usize,
-    m: &[f64],
-    sigma: &[f64],
-    epsilon_k: &[f64],
-    lr: &[f64],
-    la: &[f64],
-    k_ij: &[f64],
-    gamma_ij: &[f64],
-) -> bool
-    ensures { let l : Lists = record {
-      count = count;
-      m = m.now;
-      sigma = sigma.now;
-      epsilon_k = epsilon_k.now;
-      lr = lr.now;
-      la = la.now;
-      k_ij = k_ij.now;
-      gamma_ij = gamma_ij.now;
-    } in
-        result ≡ right_lengths l }
+fn right_lengths(l: &ComponentLists) -> bool
+    ensures { result ≡ right_lengths (lists_of l.now) }
 {
-    if !limits::count_within(count) {
+    if !limits::count_within(l.count) {
         return false;
     }
-    let square = count * count;
-    (m.len() == count)
-        & (sigma.len() == count)
-        & (epsilon_k.len() == count)
-        & (lr.len() == count)
-        & (la.len() == count)
-        & (k_ij.len() == square)
-        & (gamma_ij.len() == square)
+    let square = l.count * l.count;
+    (l.m.len() == l.count)
+        & (l.sigma.len() == l.count)
+        & (l.epsilon_k.len() == l.count)
+        & (l.lr.len() == l.count)
+        & (l.la.len() == l.count)
+        & (l.k_ij.len() == square)
+        & (l.gamma_ij.len() == square)
 }
 
-// The numbers' limits; the lists are as long as the count.
-fn within_limits(
-    n: usize,
-    m: &[f64],
-    sigma: &[f64],
-    epsilon_k: &[f64],
-    lr: &[f64],
-    la: &[f64],
-    k_ij: &[f64],
-    gamma_ij: &[f64],
-) -> bool
-    requires { (n ≤ side) × (length m.now ≡ n)
-        × (length sigma.now ≡ n) × (length epsilon_k.now ≡ n) × (length lr.now ≡ n) × (length la.now ≡ n)
-        × (length k_ij.now ≡ n * n) × (length gamma_ij.now ≡ n * n) }
-    ensures { let c = components sigma.now epsilon_k.now lr.now la.now in
-        let m = at m.entry.now in
-        let k = square n k_ij.now in
-        let gamma = square n gamma_ij.now in
-        result ≡ within_limits n c m k gamma }
+// The numbers' limits.
+fn within_limits(l: &ComponentLists) -> bool
+    requires { (length l.now.m.now ≡ l.now.count) × Fitting (lists_of l.now) }
+    ensures { result ≡ within_in (lists_of l.now) }
 {
-    limits::components_within(n, sigma, epsilon_k, lr, la)
-        & limits::segments_within(n, m)
-        & limits::pairs_within(n, k_ij)
-        & limits::pairs_within(n, gamma_ij)
+    limits::components_within(l.count, l.sigma, l.epsilon_k, l.lr, l.la)
+        & limits::segments_within(l.count, l.m)
+        & limits::pairs_within(l.count, l.k_ij)
+        & limits::pairs_within(l.count, l.gamma_ij)
 }
 
 // `SaftVRMiePars::new`: the set, or the first refusal that applies.
-pub fn saft_vr_mie_pars(
-    count: usize,
-    m: &[f64],
-    sigma: &[f64],
-    epsilon_k: &[f64],
-    lr: &[f64],
-    la: &[f64],
-    k_ij: &[f64],
-    gamma_ij: &[f64],
-) -> Result<SaftVRMiePars, Refusal>
-    ensures { let l : Lists = record {
-      count = count;
-      m = m.now;
-      sigma = sigma.now;
-      epsilon_k = epsilon_k.now;
-      lr = lr.now;
-      la = la.now;
-      k_ij = k_ij.now;
-      gamma_ij = gamma_ij.now;
-    } in
-        answer result ≡ saft_vr_mie_pars l }
+pub fn saft_vr_mie_pars(l: &ComponentLists) -> Result<SaftVRMiePars, Refusal>
+    ensures { answer result ≡ saft_vr_mie_pars (lists_of l.now) }
 {
-    if !right_lengths(count, m, sigma, epsilon_k, lr, la, k_ij, gamma_ij) {
+    if !right_lengths(l) {
         return Err(Refusal::Length);
     }
-    if !within_limits(count, m, sigma, epsilon_k, lr, la, k_ij, gamma_ij) {
+    if !within_limits(l) {
         return Err(Refusal::Limit);
     }
     let mut sheets = [0.0; SHEETS];
-    fill_sheets(count, sigma, epsilon_k, lr, la, k_ij, gamma_ij, &mut sheets)?;
-    let m_list = mie_parameters::in_places(count, m);
-    let sigma_list = mie_parameters::in_places(count, sigma);
-    let epsilon_k_list = mie_parameters::in_places(count, epsilon_k);
-    let lr_list = mie_parameters::in_places(count, lr);
-    let la_list = mie_parameters::in_places(count, la);
+    fill_sheets(l, &mut sheets)?;
+    let m = mie_parameters::in_places(l.count, l.m);
+    let sigma = mie_parameters::in_places(l.count, l.sigma);
+    let epsilon_k = mie_parameters::in_places(l.count, l.epsilon_k);
+    let lr = mie_parameters::in_places(l.count, l.lr);
+    let la = mie_parameters::in_places(l.count, l.la);
     Ok(SaftVRMiePars {
-        count,
-        m: m_list,
-        sigma: sigma_list,
-        epsilon_k: epsilon_k_list,
-        lr: lr_list,
-        la: la_list,
+        count: l.count,
+        m,
+        sigma,
+        epsilon_k,
+        lr,
+        la,
         sheets,
     })
 }
 
 // The same with the set beside the answer, as document 01 has it: of a refused call the empty set.
-pub fn parameters(
-    count: usize,
-    m: &[f64],
-    sigma: &[f64],
-    epsilon_k: &[f64],
-    lr: &[f64],
-    la: &[f64],
-    k_ij: &[f64],
-    gamma_ij: &[f64],
-) -> ParameterSet
-    ensures answer { let l : Lists = record {
-      count = count;
-      m = m.now;
-      sigma = sigma.now;
-      epsilon_k = epsilon_k.now;
-      lr = lr.now;
-      la = la.now;
-      k_ij = k_ij.now;
-      gamma_ij = gamma_ij.now;
-    } in
-        outcome result.answer result.set ≡ saft_vr_mie_pars l }
-    ensures set { let l : Lists = record {
-      count = count;
-      m = m.now;
-      sigma = sigma.now;
-      epsilon_k = epsilon_k.now;
-      lr = lr.now;
-      la = la.now;
-      k_ij = k_ij.now;
-      gamma_ij = gamma_ij.now;
-    } in
-        result.set ≡ set_of (saft_vr_mie_pars l) }
+pub fn parameters(l: &ComponentLists) -> ParameterSet
+    ensures answer { outcome result.answer result.set ≡ saft_vr_mie_pars (lists_of l.now) }
+    ensures set { result.set ≡ set_of (saft_vr_mie_pars (lists_of l.now)) }
 {
-    match saft_vr_mie_pars(count, m, sigma, epsilon_k, lr, la, k_ij, gamma_ij) {
+    match saft_vr_mie_pars(l) {
         Ok(set) => ParameterSet {
             answer: Ok(()),
             set,

@@ -1,39 +1,40 @@
--- Of a tame pair, at a sound radius from 1 to 32, both derivatives of the potential are sound, and u is what the code works alone. Assumes nothing.
-use mathlib.Core.Path.{◌≡◌, refl, sym, ap, subst}
-use mathlib.Core.Bool.{Bool, true, false, ◌&&◌}
+-- Of a tame pair, at a sound radius above 1, both derivatives of the potential are sound: u after both is u. Assumes nothing.
+use mathlib.Core.Path.{◌≡◌, refl, sym, ap, ◌∙◌, subst}
+use mathlib.Core.Bool.{Bool, true, false, ◌&&◌, cond, not}
 use Prim.Native.Nat.{ℕ, suc, ◌+◌, ◌*◌, ◌^◌, ◌≤◌, ◌<◌}
 use native.Mathlib.Omega.{arith}
 use lib.IntN.{pos}
 use lib.Dec.{T, lit<, lit≤}
-use lib.Ieee.{Float, fin, binary64, up, down, fits, le, lt, neg, add, of_bits}
+use lib.Ieee.{Float, fin, binary64, up, down, fits, le, lt, neg, of_bits}
 use lib.Ieee.Fits.{and_l, and_r}
 use lib.Ieee.Bits.{is_true}
 use lib.Ieee.Scale.{finite}
-use Rattle.number.specs.Ans.{held, ◌>>=◌, demand}
+use Rattle.number.specs.Ans.{Ans, held, ◌>>=◌}
 use Rattle.number.specs.Arith.{one64, decimal, whole}
-use Rattle.number.specs.Functions.{calls, answered₂}
-use Rattle.number.specs.Domain.{base_inside, exponent_inside}
+use Rattle.number.specs.Functions.{calls}
+use Rattle.number.specs.Domain.{base_inside}
 use Rattle.elementary.specs.Port.{port}
 use Rattle.exponential.proofs.Decode.{inside_is}
-use Rattle.binary_log.specs.declared.Log.{Log}
 use Rattle.binary_log.specs.BinaryLog.{log_of}
-use Rattle.power.specs.Power.{exponent_of, power_of, powf_of}
+use Rattle.power.specs.Power.{power_of}
 use Rattle.interval.specs.Interval as I
 use Rattle.interval.specs.Interval.{div_i, after_i}
 use Rattle.interval.proofs.Encloses.{add_sound, sub_sound, mul_sound, div_sound}
 use Rattle.interval.proofs.Bounded.{both_true}
 use Rattle.enclosure.specs.declared.Enclosure.{Enclosure}
-use Rattle.enclosure.specs.Enclosure.{enclosures, point, add_e, sub_e, mul_e, div_e, neg_e, after_e}
-use Rattle.saftvrqmie_parameters.specs.declared.FeynmanHibbsOrder.{FeynmanHibbsOrder}
-use Rattle.saftvrqmie_parameters.specs.declared.FeynmanHibbsOrder.TheVariants.{FH0, FH1, FH2}
-use Rattle.saftvrqmie_potential_ends.specs.Pair.{pair_in}
-use Rattle.saftvrqmie_potential.specs.Potential.{PotentialIn, first_order, second_order, recip, u_mie, ur_mie, urr_mie, ur_first, urr_first, ur_second, urr_second, corrected, scaled, after_shared, line, mie, add_first, add_second, potential, u_quantum}
-use Rattle.saftvrqmie_potential_ends.specs.declared.PairShared.{PairShared}
-use Rattle.saftvrqmie_potential_ends.specs.Shared.{Sharing}
-use Rattle.saftvrqmie_alone_ends.specs.Alone.{big, within_of, small_ends, plain_of, plain_from, tame_of, alone_of, sure_of, sound_of, power_point, u_alone, u_after}
+use Rattle.enclosure.specs.Enclosure.{enclosures, point, add_e, sub_e, mul_e, div_e, neg_e, pow_e, after_e}
+use Rattle.dual_num.specs.declared.EnclosureBase.{EnclosureBase}
+use Rattle.dual_num.specs.declared.EnclosureExponent.{EnclosureExponent}
+use Rattle.dual_num.specs.Base.{float_base_of, enclosure_raised}
+use Rattle.dual_num.specs.Laws.{enclosure_power_is}
+use Rattle.dual_num.proofs.Powers.{enclosure_is}
+use Rattle.saftvrqmie_potential.specs.Potential.{PairIn, PotentialIn, first_order, second_order, quantum_d, q1, q2, recip, scaled, after_shared, potential}
+use Rattle.saftvrqmie_potential.specs.Shared.{alone, exponents_inside}
+use Rattle.saftvrqmie_potential.proofs.Alone as W
+use Rattle.saftvrqmie_potential.proofs.Alone.{potential_tested, base_outside}
+use Rattle.saftvrqmie_alone_ends.specs.Alone.{EnclosureTerm, EnclosureShared, EnclosureSharing, big, within_of, above_one, small_ends, plain_of, tame_term, tame_of, u_after}
 use Rattle.saftvrqmie_alone_ends.proofs.Tame.{Within, Tame, top, mul_tame, add_tame, sub_tame, neg_tame, recip_tame, widened}
-use Rattle.saftvrqmie_alone_ends.proofs.Same.{Same, same, add_same, sub_same, mul_same, div_same, one_flag, flags}
-use Rattle.saftvrqmie_alone_ends.proofs.Raised.{above_one, power_from_one}
+use Rattle.saftvrqmie_alone_ends.proofs.Raised.{power_from_one, upward}
 
 -- ---- what the tests tell
 within_100 : (x : Float) → T (le (neg big) x && le x big) → T (fits binary64 x) → Within 100 x
@@ -65,102 +66,103 @@ small_tame x t =
       size = record { is_sound = and_l g (l && fl) s; at_lower = within_100 x.ends.lower (and_l l fl p) (and_r l fl p); at_upper = within_100 x.ends.upper (and_l u fu q) (and_r u fu q) };
     }
 
-record Plain (y : Float) : Type 0 where
-  inside : exponent_inside y ≡ true
-  from_zero : (exponent_of y).negative ≡ false
-  not_one : (exponent_of y).one ≡ false
+record Plain (n : EnclosureExponent) : Type 0 where
+  is_sound : T n.x.ends.sound
+  inside : n.at.inside ≡ true
+  from_zero : n.at.fixed.negative ≡ false
+  not_one : n.at.fixed.one ≡ false
 
-plain_is : (y : Float) → T (plain_of y) → Plain y
+no : (b : Bool) → T (not b) → b ≡ false
+no false t = refl
+no true t = absurd t
+
+plain_is : (n : EnclosureExponent) → T (plain_of n) → Plain n
 unfolding plain_of
-plain_is y t =
-    let a = exponent_inside y in
-    let b = lt one64 y in
-    let c = fits binary64 y in
-    let s = and_l (a && b) c t in
-    let k = above_one y (and_l a b s) (and_r (a && b) c t) (and_r a b s) in
-    record { inside = is_true a (and_l a b s); from_zero = k.0; not_one = k.1 }
+plain_is n t =
+    let a = n.x.ends.sound in
+    let b = n.at.inside in
+    let c = not n.at.fixed.negative in
+    let s = and_l (a && b && c) (not n.at.fixed.one) t in
+    let r = and_l (a && b) c s in
+    record {
+      is_sound = and_l a b r;
+      inside = is_true b (and_r a b r);
+      from_zero = no n.at.fixed.negative (and_r (a && b) c s);
+      not_one = no n.at.fixed.one (and_r (a && b && c) (not n.at.fixed.one) t);
+    }
+
+record TameT (t : EnclosureTerm) : Type 0 where
+  lambda : TameE 100 t.lambda
+  q1 : TameE 100 t.q1
+  q2 : TameE 100 t.q2
+  power : TameE 100 t.power
+  p0 : Plain t.e0
+  p1 : Plain t.e1
+  p2 : Plain t.e2
+  p3 : Plain t.e3
+  p4 : Plain t.e4
+  p5 : Plain t.e5
+  p6 : Plain t.e6
+
+term_is : (t : EnclosureTerm) → T (tame_term t) → TameT t
+unfolding tame_term
+term_is t h =
+    let l = small_ends t.lambda in let q1 = small_ends t.q1 in let q2 = small_ends t.q2 in let s = small_ends t.power in
+    let p : EnclosureExponent → Bool = λ n. plain_of n in
+    let A = l && q1 && q2 && s in
+    let B = p t.e0 && p t.e1 && p t.e2 && p t.e3 in
+    let h5 = and_l (A && B && p t.e4 && p t.e5) (p t.e6) h in
+    let h4 = and_l (A && B && p t.e4) (p t.e5) h5 in
+    let h3 = and_l (A && B) (p t.e4) h4 in
+    let a = and_l A B h3 in
+    let a3 = and_l (l && q1 && q2) s a in
+    let a2 = and_l (l && q1) q2 a3 in
+    let b = and_r A B h3 in
+    let b3 = and_l (p t.e0 && p t.e1 && p t.e2) (p t.e3) b in
+    let b2 = and_l (p t.e0 && p t.e1) (p t.e2) b3 in
+    record {
+      lambda = small_tame _ (and_l l q1 a2);
+      q1 = small_tame _ (and_r l q1 a2);
+      q2 = small_tame _ (and_r (l && q1) q2 a3);
+      power = small_tame _ (and_r (l && q1 && q2) s a);
+      p0 = plain_is _ (and_l (p t.e0) (p t.e1) b2);
+      p1 = plain_is _ (and_r (p t.e0) (p t.e1) b2);
+      p2 = plain_is _ (and_r (p t.e0 && p t.e1) (p t.e2) b3);
+      p3 = plain_is _ (and_r (p t.e0 && p t.e1 && p t.e2) (p t.e3) b);
+      p4 = plain_is _ (and_r (A && B) (p t.e4) h4);
+      p5 = plain_is _ (and_r (A && B && p t.e4) (p t.e5) h5);
+      p6 = plain_is _ (and_r (A && B && p t.e4 && p t.e5) (p t.e6) h);
+    }
+
+record Tamed (s : EnclosureShared) : Type 0 where
+  r : TameT s.r
+  a : TameT s.a
+  d : TameE 100 s.d
+  d2 : TameE 100 s.d2
+  ce : TameE 100 s.ce
+
+tamed : (s : EnclosureShared) → T (tame_of s) → Tamed s
+unfolding tame_of
+tamed s t =
+    let r = tame_term s.r in
+    let a = tame_term s.a in
+    let d = small_ends s.d in
+    let d2 = small_ends s.d2 in
+    let ce = small_ends s.ce in
+    let t3 = and_l (r && a && d && d2) ce t in
+    let t2 = and_l (r && a && d) d2 t3 in
+    let t1 = and_l (r && a) d t2 in
+    record {
+      r = term_is _ (and_l r a t1);
+      a = term_is _ (and_r r a t1);
+      d = small_tame _ (and_r (r && a) d t2);
+      d2 = small_tame _ (and_r (r && a && d) d2 t3);
+      ce = small_tame _ (and_r (r && a && d && d2) ce t);
+    }
 
 -- l plus k
 abbrev up_by : Enclosure → ℕ → Enclosure
 up_by l k = add_e l (whole enclosures k)
-
-record Plains (l : Enclosure) : Type 0 where
-  p0 : Plain l.value
-  p1 : Plain (up_by l 1).value
-  p2 : Plain (up_by l 2).value
-  p3 : Plain (up_by l 3).value
-  p4 : Plain (up_by l 4).value
-  p5 : Plain (up_by l 5).value
-  p6 : Plain (up_by l 6).value
-
-plains_are : (l : Enclosure) → T (plain_from l.value) → Plains l
-unfolding plain_from add_e point
-plains_are l t =
-    let at : ℕ → Bool = λ k. plain_of (add binary64 l.value (decimal false k 0)) in
-    let a0 = plain_of l.value in
-    let s5 = and_l (a0 && at 1 && at 2 && at 3 && at 4 && at 5) (at 6) t in
-    let s4 = and_l (a0 && at 1 && at 2 && at 3 && at 4) (at 5) s5 in
-    let s3 = and_l (a0 && at 1 && at 2 && at 3) (at 4) s4 in
-    let s2 = and_l (a0 && at 1 && at 2) (at 3) s3 in
-    let s1 = and_l (a0 && at 1) (at 2) s2 in
-    record {
-      p0 = plain_is _ (and_l a0 (at 1) s1);
-      p1 = plain_is _ (and_r a0 (at 1) s1);
-      p2 = plain_is _ (and_r (a0 && at 1) (at 2) s2);
-      p3 = plain_is _ (and_r (a0 && at 1 && at 2) (at 3) s3);
-      p4 = plain_is _ (and_r (a0 && at 1 && at 2 && at 3) (at 4) s4);
-      p5 = plain_is _ (and_r (a0 && at 1 && at 2 && at 3 && at 4) (at 5) s5);
-      p6 = plain_is _ (and_r (a0 && at 1 && at 2 && at 3 && at 4 && at 5) (at 6) t);
-    }
-
-record Tamed (w : PairShared) : Type 0 where
-  lr : TameE 100 w.pair.lr
-  la : TameE 100 w.pair.la
-  sr : TameE 100 w.sr
-  sa : TameE 100 w.sa
-  q1r : TameE 100 w.q1r
-  q1a : TameE 100 w.q1a
-  q2r : TameE 100 w.q2r
-  q2a : TameE 100 w.q2a
-  d : TameE 100 w.d
-  d2 : TameE 100 w.d2
-  ce : TameE 100 w.ce
-  r : Plains w.pair.lr
-  a : Plains w.pair.la
-
-tamed : (w : PairShared) → T (tame_of w) → Tamed w
-unfolding tame_of
-tamed w t =
-    let p : Enclosure → Bool = λ x. small_ends x in
-    let lr = p w.pair.lr in let la = p w.pair.la in let sr = p w.sr in let sa = p w.sa in
-    let q1r = p w.q1r in let q1a = p w.q1a in let q2r = p w.q2r in let q2a = p w.q2a in
-    let d = p w.d in let d2 = p w.d2 in let ce = p w.ce in
-    let A = lr && la && sr && sa in
-    let B = q1r && q1a && q2r && q2a in
-    let C = d && d2 && ce in
-    let R = plain_from w.pair.lr.value in
-    let L = plain_from w.pair.la.value in
-    let t3 = and_l (A && B && C && R) L t in
-    let t2 = and_l (A && B && C) R t3 in
-    let t1 = and_l (A && B) C t2 in
-    let a = and_l A B t1 in
-    let b = and_r A B t1 in
-    let c = and_r (A && B) C t2 in
-    record {
-      lr = small_tame _ (and_l lr la (and_l (lr && la) sr (and_l (lr && la && sr) sa a)));
-      la = small_tame _ (and_r lr la (and_l (lr && la) sr (and_l (lr && la && sr) sa a)));
-      sr = small_tame _ (and_r (lr && la) sr (and_l (lr && la && sr) sa a));
-      sa = small_tame _ (and_r (lr && la && sr) sa a);
-      q1r = small_tame _ (and_l q1r q1a (and_l (q1r && q1a) q2r (and_l (q1r && q1a && q2r) q2a b)));
-      q1a = small_tame _ (and_r q1r q1a (and_l (q1r && q1a) q2r (and_l (q1r && q1a && q2r) q2a b)));
-      q2r = small_tame _ (and_r (q1r && q1a) q2r (and_l (q1r && q1a && q2r) q2a b));
-      q2a = small_tame _ (and_r (q1r && q1a && q2r) q2a b);
-      d = small_tame _ (and_l d d2 (and_l (d && d2) ce c));
-      d2 = small_tame _ (and_r d d2 (and_l (d && d2) ce c));
-      ce = small_tame _ (and_r (d && d2) ce c);
-      r = plains_are _ (and_r (A && B && C) R t3);
-      a = plains_are _ (and_r (A && B && C && R) L t);
-    }
 
 -- ---- the laws of size on enclosures
 module _ (j k : ℕ) (h : suc (j + k) < 1024) {x y : Enclosure} where
@@ -230,263 +232,211 @@ one_is : decimal false 1 0 ≡ top 0
 unfolding decimal of_bits
 one_is = refl
 
+-- x after a number that is sound where x is
+and_known : (a b : Bool) → (T b → T a) → (a && b) ≡ b
+and_known true b h = refl
+and_known false true h = absurd (h tt)
+and_known false false h = refl
+
+after_known : (u x : Enclosure) → (T x.ends.sound → T u.ends.sound) → after_e u x ≡ x
+unfolding after_e after_i
+after_known u x h = ap (λ (g : Bool). record { value = x.value; ends = record { lower = x.ends.lower; upper = x.ends.upper; sound = g } }) (and_known u.ends.sound x.ends.sound h)
+
+-- what is after a number is sound where both are
+before : (u x : Enclosure) → T (after_e u x).ends.sound → T x.ends.sound
+unfolding after_e after_i
+before u x t = and_r u.ends.sound x.ends.sound t
+
+added : (x y : Enclosure) → T (add_e x y).ends.sound → T x.ends.sound
+unfolding add_e
+added x y t = and_l x.ends.sound y.ends.sound (add_sound x.ends y.ends t)
+
+multiplied : (x y : Enclosure) → T (mul_e x y).ends.sound → T x.ends.sound
+unfolding mul_e
+multiplied x y t = and_l x.ends.sound y.ends.sound (mul_sound x.ends y.ends t)
+
 -- ---- at a radius
-module _ (w : PairShared) (s : Sharing w) (z : Tamed w) (r : Enclosure) (base : base_inside r.value ≡ true) (upward : (log_of r.value).negative ≡ false) where
-  abbrev lr : Enclosure
-  lr = w.pair.lr
+module _ {p : PairIn Enclosure} {s : EnclosureShared} (h : EnclosureSharing p s) (z : Tamed s) (r : Enclosure) (base : base_inside r.value ≡ true) (up : (log_of r.value).negative ≡ false) where
+  abbrev b : EnclosureBase
+  b = record { x = r; base = float_base_of r.value }
 
-  abbrev la : Enclosure
-  la = w.pair.la
+  abbrev power : EnclosureExponent → Enclosure
+  power n = enclosure_raised b n
 
-  -- the power as the formula has it
-  abbrev power : Enclosure → Enclosure
-  power e = after_e r (after_e e (power_point (log_of r.value) (exponent_of e.value)))
+  abbrev v₀ : PotentialIn Enclosure
+  v₀ = W.v₀ (λ b. b.base.inside) enclosure_raised enclosure_power_is h (enclosure_is r) base
 
-  call_held : (e : Enclosure) → Plain e.value → (calls enclosures port).powf r e ≡ held (power e)
-  unfolding answered₂ powf_of demand ◌>>=◌
-  call_held e p = rw (base, p.inside)
+  abbrev first_at : PotentialIn Enclosure → PotentialIn Enclosure
+  first_at = W.first_at (λ b. b.base.inside) enclosure_raised enclosure_power_is h (enclosure_is r) base
 
-  line_held : (er ea : Enclosure) (f : Enclosure → Enclosure → Enclosure → Enclosure → Enclosure) → Plain er.value → Plain ea.value → line enclosures (calls enclosures port) (pair_in w.pair) r er ea f ≡ held (f (power er) w.sr (power ea) w.sa)
-  unfolding line ◌>>=◌
-  line_held er ea f p q = rw (call_held er p, s.sr, call_held ea q, s.sa)
+  abbrev second_at : PotentialIn Enclosure → PotentialIn Enclosure
+  second_at = W.second_at (λ b. b.base.inside) enclosure_raised enclosure_power_is h (enclosure_is r) base
 
-  abbrev mie_v : PotentialIn Enclosure
-  mie_v =
-      record {
-        u = u_mie enclosures (power lr) w.sr (power la) w.sa;
-        u_r = ur_mie enclosures lr la (power (up_by lr 1)) w.sr (power (up_by la 1)) w.sa;
-        u_rr = urr_mie enclosures lr la (power (up_by lr 2)) w.sr (power (up_by la 2)) w.sa;
-      }
+  abbrev v₁ : PotentialIn Enclosure
+  v₁ = cond (first_order p.order) (first_at v₀) v₀
 
-  mie_held : mie enclosures (calls enclosures port) (pair_in w.pair) r ≡ held mie_v
-  unfolding mie ◌>>=◌
-  mie_held =
-      rw (
-        line_held lr la (u_mie enclosures) z.r.p0 z.a.p0,
-        line_held (up_by lr 1) (up_by la 1) (ur_mie enclosures lr la) z.r.p1 z.a.p1,
-        line_held (up_by lr 2) (up_by la 2) (urr_mie enclosures lr la) z.r.p2 z.a.p2,
-      )
+  abbrev v₂ : PotentialIn Enclosure
+  v₂ = cond (second_order p.order) (second_at v₁) v₁
 
-  module _ (v : PotentialIn Enclosure) where
-    abbrev first_v : PotentialIn Enclosure
-    first_v =
-        corrected enclosures w.d v
-        (u_quantum enclosures w.q1r w.q1a (power (up_by lr 2)) w.sr (power (up_by la 2)) w.sa)
-        (ur_first enclosures lr la w.q1r w.q1a (power (up_by lr 3)) w.sr (power (up_by la 3)) w.sa)
-        (urr_first enclosures lr la w.q1r w.q1a (power (up_by lr 4)) w.sr (power (up_by la 4)) w.sa)
+  inside : s.inside ≡ true
+  unfolding exponents_inside
+  inside = rw (h.inside, z.r.p0.inside, z.r.p1.inside, z.r.p2.inside, z.r.p3.inside, z.r.p4.inside, z.r.p5.inside, z.r.p6.inside, z.a.p0.inside, z.a.p1.inside, z.a.p2.inside, z.a.p3.inside, z.a.p4.inside, z.a.p5.inside, z.a.p6.inside) (wanted s.first s.second)
+    where
+      wanted : (first second : Bool) → (cond first true true && cond second true true) ≡ true
+      wanted true true = refl
+      wanted true false = refl
+      wanted false true = refl
+      wanted false false = refl
 
-    first_held : add_first enclosures (calls enclosures port) (pair_in w.pair) r v ≡ held first_v
-    unfolding add_first ◌>>=◌
-    first_held =
-        rw (
-          ← s.d,
-          ← s.q1r,
-          ← s.q1a,
-          line_held (up_by lr 2) (up_by la 2) (u_quantum enclosures w.q1r w.q1a) z.r.p2 z.a.p2,
-          line_held (up_by lr 3) (up_by la 3) (ur_first enclosures lr la w.q1r w.q1a) z.r.p3 z.a.p3,
-          line_held (up_by lr 4) (up_by la 4) (urr_first enclosures lr la w.q1r w.q1a) z.r.p4 z.a.p4,
-        )
+  potential_held : potential enclosures (calls enclosures port) p r ≡ held (after_shared enclosures (calls enclosures port) p (scaled enclosures (mul_e p.c p.epsilon_k) v₂))
+  potential_held = potential_tested (λ b. b.base.inside) enclosure_raised enclosure_power_is h (enclosure_is r) base true inside
 
-    abbrev second_v : PotentialIn Enclosure
-    second_v =
-        corrected enclosures w.d2 v
-        (u_quantum enclosures w.q2r w.q2a (power (up_by lr 4)) w.sr (power (up_by la 4)) w.sa)
-        (ur_second enclosures lr la w.q2r w.q2a (power (up_by lr 5)) w.sr (power (up_by la 5)) w.sa)
-        (urr_second enclosures lr la w.q2r w.q2a (power (up_by lr 6)) w.sr (power (up_by la 6)) w.sa)
+  -- ---- the pair's numbers
+  lr : TameE 100 p.lr
+  lr = rw h.r.lambda at z.r.lambda
 
-    second_held : add_second enclosures (calls enclosures port) (pair_in w.pair) r v ≡ held second_v
-    unfolding add_second ◌>>=◌
-    second_held =
-        rw (
-          ← s.d2,
-          ← s.q2r,
-          ← s.q2a,
-          line_held (up_by lr 4) (up_by la 4) (u_quantum enclosures w.q2r w.q2a) z.r.p4 z.a.p4,
-          line_held (up_by lr 5) (up_by la 5) (ur_second enclosures lr la w.q2r w.q2a) z.r.p5 z.a.p5,
-          line_held (up_by lr 6) (up_by la 6) (urr_second enclosures lr la w.q2r w.q2a) z.r.p6 z.a.p6,
-        )
+  la : TameE 100 p.la
+  la = rw h.a.lambda at z.a.lambda
 
-  -- ---- and sound, where the radius is
+  q1r : TameE 100 (q1 enclosures p.lr)
+  q1r = rw h.r.q1 at z.r.q1
+
+  q1a : TameE 100 (q1 enclosures p.la)
+  q1a = rw h.a.q1 at z.a.q1
+
+  q2r : TameE 100 (q2 enclosures p.lr)
+  q2r = rw h.r.q2 at z.r.q2
+
+  q2a : TameE 100 (q2 enclosures p.la)
+  q2a = rw h.a.q2 at z.a.q2
+
+  d : TameE 100 (quantum_d enclosures (calls enclosures port) p.mass p.temperature)
+  d = rw h.d at z.d
+
+  d2 : TameE 100 (pow_e (quantum_d enclosures (calls enclosures port) p.mass p.temperature) 2)
+  d2 = rw h.d2 at z.d2
+
+  ce : TameE 100 (mul_e p.c p.epsilon_k)
+  ce = rw h.ce at z.ce
+
+  abbrev R : Plus p.lr
+  R = plus_tame lr
+
+  abbrev A : Plus p.la
+  A = plus_tame la
+
+  -- ---- sizes where the radius is sound
   module _ (held-r : T r.ends.sound) where
-    recip_size : (e : Enclosure) → Plain e.value → T e.ends.sound → TameE 1 (recip enclosures (power e))
+    recip_size : (n : EnclosureExponent) → Plain n → TameE 1 (recip enclosures (power n))
     unfolding div_e after_e point after_i I.point
-    recip_size e p t =
-        let y = power_of (log_of r.value) (exponent_of e.value) in
-        let f = power_from_one (log_of r.value) (exponent_of e.value) upward p.from_zero p.not_one in
+    recip_size n k =
+        let y = power_of (log_of r.value) n.at.fixed in
+        let f = power_from_one (log_of r.value) n.at.fixed up k.from_zero k.not_one in
         let g = finite y && fits binary64 y in
-        let h : T (r.ends.sound && (e.ends.sound && g)) = both_true r.ends.sound (e.ends.sound && g) held-r (both_true e.ends.sound g t (both_true (finite y) (fits binary64 y) f.is_finite f.is_fitting)) in
-        record { size = subst (λ (o : Float). Tame 1 (div_i (I.point o) (power e).ends)) (sym one_is) (recip_tame (power e).ends h f f) }
+        let t : T (r.ends.sound && (n.x.ends.sound && g)) = both_true r.ends.sound (n.x.ends.sound && g) held-r (both_true n.x.ends.sound g k.is_sound (both_true (finite y) (fits binary64 y) f.is_finite f.is_fitting)) in
+        record { size = subst (λ (o : Float). Tame 1 (div_i (I.point o) (power n).ends)) (sym one_is) (recip_tame (power n).ends t f f) }
 
-    abbrev R : Plus lr
-    R = plus_tame z.lr
-
-    abbrev A : Plus la
-    A = plus_tame z.la
-
-    mie_sizes : Sizes 104 205 308 mie_v
+    mie_sizes : Sizes 104 205 308 v₀
     mie_sizes =
-        let r0 = recip_size lr z.r.p0 z.lr.size.is_sound in
-        let a0 = recip_size la z.a.p0 z.la.size.is_sound in
-        let r1 = recip_size (up_by lr 1) z.r.p1 R.l1.size.is_sound in
-        let a1 = recip_size (up_by la 1) z.a.p1 A.l1.size.is_sound in
-        let r2 = recip_size (up_by lr 2) z.r.p2 R.l2.size.is_sound in
-        let a2 = recip_size (up_by la 2) z.a.p2 A.l2.size.is_sound in
+        let r0 = recip_size s.r.e0 z.r.p0 in
+        let a0 = recip_size s.a.e0 z.a.p0 in
+        let r1 = recip_size s.r.e1 z.r.p1 in
+        let a1 = recip_size s.a.e1 z.a.p1 in
+        let r2 = recip_size s.r.e2 z.r.p2 in
+        let a2 = recip_size s.a.e2 z.a.p2 in
         record {
-          u = difference 102 (lit< tt) (no_factor r0 z.sr) (no_factor a0 z.sa);
-          u_r = sum 203 (lit< tt) (one_factor (turned r1) z.sr z.lr) (one_factor a1 z.sa z.la);
-          u_rr = difference 306 (lit< tt) (two_factors r2 z.sr z.lr R.l1) (two_factors a2 z.sa z.la A.l1);
+          u = difference 102 (lit< tt) (no_factor r0 z.r.power) (no_factor a0 z.a.power);
+          u_r = sum 203 (lit< tt) (one_factor (turned r1) z.r.power lr) (one_factor a1 z.a.power la);
+          u_rr = difference 306 (lit< tt) (two_factors r2 z.r.power lr R.l1) (two_factors a2 z.a.power la A.l1);
         }
 
-    first_sizes : (v : PotentialIn Enclosure) → Sizes 104 205 308 v → Sizes 308 411 514 (first_v v)
+    first_sizes : (v : PotentialIn Enclosure) → Sizes 104 205 308 v → Sizes 308 411 514 (first_at v)
     first_sizes v x =
-        let r2 = recip_size (up_by lr 2) z.r.p2 R.l2.size.is_sound in
-        let a2 = recip_size (up_by la 2) z.a.p2 A.l2.size.is_sound in
-        let r3 = recip_size (up_by lr 3) z.r.p3 R.l3.size.is_sound in
-        let a3 = recip_size (up_by la 3) z.a.p3 A.l3.size.is_sound in
-        let r4 = recip_size (up_by lr 4) z.r.p4 R.l4.size.is_sound in
-        let a4 = recip_size (up_by la 4) z.a.p4 A.l4.size.is_sound in
+        let r2 = recip_size s.r.e2 z.r.p2 in
+        let a2 = recip_size s.a.e2 z.a.p2 in
+        let r3 = recip_size s.r.e3 z.r.p3 in
+        let a3 = recip_size s.a.e3 z.a.p3 in
+        let r4 = recip_size s.r.e4 z.r.p4 in
+        let a4 = recip_size s.a.e4 z.a.p4 in
         record {
-          u = sum 306 (lit< tt) (wide 104 306 (lit≤ tt) x.u) (times 100 205 (lit< tt) z.d (difference 203 (lit< tt) (one_factor r2 z.sr z.q1r) (one_factor a2 z.sa z.q1a)));
-          u_r = sum 409 (lit< tt) (wide 205 409 (lit≤ tt) x.u_r) (times 100 308 (lit< tt) z.d (sum 306 (lit< tt) (two_factors r3 z.sr (turned z.q1r) R.l2) (two_factors a3 z.sa z.q1a A.l2)));
-          u_rr = sum 512 (lit< tt) (wide 308 512 (lit≤ tt) x.u_rr) (times 100 411 (lit< tt) z.d (difference 409 (lit< tt) (three_factors r4 z.sr z.q1r R.l2 R.l3) (three_factors a4 z.sa z.q1a A.l2 A.l3)));
+          u = sum 306 (lit< tt) (wide 104 306 (lit≤ tt) x.u) (times 100 205 (lit< tt) d (difference 203 (lit< tt) (one_factor r2 z.r.power q1r) (one_factor a2 z.a.power q1a)));
+          u_r = sum 409 (lit< tt) (wide 205 409 (lit≤ tt) x.u_r) (times 100 308 (lit< tt) d (sum 306 (lit< tt) (two_factors r3 z.r.power (turned q1r) R.l2) (two_factors a3 z.a.power q1a A.l2)));
+          u_rr = sum 512 (lit< tt) (wide 308 512 (lit≤ tt) x.u_rr) (times 100 411 (lit< tt) d (difference 409 (lit< tt) (three_factors r4 z.r.power q1r R.l2 R.l3) (three_factors a4 z.a.power q1a A.l2 A.l3)));
         }
 
-    second_sizes : (v : PotentialIn Enclosure) → Sizes 308 411 514 v → Sizes 310 413 516 (second_v v)
+    second_sizes : (v : PotentialIn Enclosure) → Sizes 308 411 514 v → Sizes 310 413 516 (second_at v)
     second_sizes v x =
-        let r4 = recip_size (up_by lr 4) z.r.p4 R.l4.size.is_sound in
-        let a4 = recip_size (up_by la 4) z.a.p4 A.l4.size.is_sound in
-        let r5 = recip_size (up_by lr 5) z.r.p5 R.l5.size.is_sound in
-        let a5 = recip_size (up_by la 5) z.a.p5 A.l5.size.is_sound in
-        let r6 = recip_size (up_by lr 6) z.r.p6 R.l6.size.is_sound in
-        let a6 = recip_size (up_by la 6) z.a.p6 A.l6.size.is_sound in
+        let r4 = recip_size s.r.e4 z.r.p4 in
+        let a4 = recip_size s.a.e4 z.a.p4 in
+        let r5 = recip_size s.r.e5 z.r.p5 in
+        let a5 = recip_size s.a.e5 z.a.p5 in
+        let r6 = recip_size s.r.e6 z.r.p6 in
+        let a6 = recip_size s.a.e6 z.a.p6 in
         record {
-          u = sum 308 (lit< tt) x.u (wide 306 308 (lit≤ tt) (times 100 205 (lit< tt) z.d2 (difference 203 (lit< tt) (one_factor r4 z.sr z.q2r) (one_factor a4 z.sa z.q2a))));
-          u_r = sum 411 (lit< tt) x.u_r (wide 409 411 (lit≤ tt) (times 100 308 (lit< tt) z.d2 (sum 306 (lit< tt) (two_factors (turned r5) z.sr z.q2r R.l4) (two_factors a5 z.sa z.q2a A.l4))));
-          u_rr = sum 514 (lit< tt) x.u_rr (wide 512 514 (lit≤ tt) (times 100 411 (lit< tt) z.d2 (difference 409 (lit< tt) (three_factors r6 z.sr z.q2r R.l4 R.l5) (three_factors a6 z.sa z.q2a A.l4 A.l5))));
+          u = sum 308 (lit< tt) x.u (wide 306 308 (lit≤ tt) (times 100 205 (lit< tt) d2 (difference 203 (lit< tt) (one_factor r4 z.r.power q2r) (one_factor a4 z.a.power q2a))));
+          u_r = sum 411 (lit< tt) x.u_r (wide 409 411 (lit≤ tt) (times 100 308 (lit< tt) d2 (sum 306 (lit< tt) (two_factors (turned r5) z.r.power q2r R.l4) (two_factors a5 z.a.power q2a A.l4))));
+          u_rr = sum 514 (lit< tt) x.u_rr (wide 512 514 (lit≤ tt) (times 100 411 (lit< tt) d2 (difference 409 (lit< tt) (three_factors r6 z.r.power q2r R.l4 R.l5) (three_factors a6 z.a.power q2a A.l4 A.l5))));
         }
 
-  -- ---- by the order
-  abbrev values_of : FeynmanHibbsOrder → PotentialIn Enclosure
-  values_of FH0 = mie_v
-  values_of FH1 = first_v mie_v
-  values_of FH2 = second_v (first_v mie_v)
+    -- with or without an order
+    sizes₁ : (t : Bool) → Sizes 308 411 514 (cond t (first_at v₀) v₀)
+    sizes₁ true = first_sizes v₀ mie_sizes
+    sizes₁ false = record { u = wide 104 308 (lit≤ tt) mie_sizes.u; u_r = wide 205 411 (lit≤ tt) mie_sizes.u_r; u_rr = wide 308 514 (lit≤ tt) mie_sizes.u_rr }
 
-  -- u after the factors that are worked at every order
-  abbrev last : PotentialIn Enclosure → Enclosure
-  last v = after_e w.q1r (after_e w.q1a (after_e w.q2r (after_e w.q2a (after_e w.d (mul_e v.u w.ce)))))
+    sizes₂ : (t : Bool) (v : PotentialIn Enclosure) → Sizes 308 411 514 v → Sizes 310 413 516 (cond t (second_at v) v)
+    sizes₂ true v x = second_sizes v x
+    sizes₂ false v x = record { u = wide 308 310 (lit≤ tt) x.u; u_r = wide 411 413 (lit≤ tt) x.u_r; u_rr = wide 514 516 (lit≤ tt) x.u_rr }
 
-  abbrev ended : PotentialIn Enclosure → PotentialIn Enclosure
-  ended v = record { u = last v; u_r = mul_e v.u_r w.ce; u_rr = mul_e v.u_rr w.ce }
+    sizes : Sizes 310 413 516 v₂
+    sizes = sizes₂ (second_order p.order) v₁ (sizes₁ (first_order p.order))
 
-  potential_held : (o : FeynmanHibbsOrder) → w.pair.order ≡ o → potential enclosures (calls enclosures port) (pair_in w.pair) r ≡ held (ended (values_of o))
-  unfolding potential after_shared scaled ◌>>=◌
-  potential_held FH0 e = rw (mie_held, ap first_order e, ap second_order e, ← s.q1r, ← s.q1a, ← s.q2r, ← s.q2a, ← s.d, ← s.ce)
-  potential_held FH1 e = rw (mie_held, ap first_order e, ap second_order e, first_held mie_v, ← s.q1r, ← s.q1a, ← s.q2r, ← s.q2a, ← s.d, ← s.ce)
-  potential_held FH2 e = rw (mie_held, ap first_order e, ap second_order e, first_held mie_v, second_held (first_v mie_v), ← s.q1r, ← s.q1a, ← s.q2r, ← s.q2a, ← s.d, ← s.ce)
-
-  record Sounds (v : PotentialIn Enclosure) : Type 0 where
-    u : T (mul_e v.u w.ce).ends.sound
-    u_r : T (mul_e v.u_r w.ce).ends.sound
-    u_rr : T (mul_e v.u_rr w.ce).ends.sound
-
-  sounds : (o : FeynmanHibbsOrder) → T r.ends.sound → Sounds (values_of o)
-  sounds FH0 t =
-      let v = mie_sizes t in
-      record { u = (times 104 100 (lit< tt) v.u z.ce).size.is_sound; u_r = (times 205 100 (lit< tt) v.u_r z.ce).size.is_sound; u_rr = (times 308 100 (lit< tt) v.u_rr z.ce).size.is_sound }
-  sounds FH1 t =
-      let v = first_sizes t mie_v (mie_sizes t) in
-      record { u = (times 308 100 (lit< tt) v.u z.ce).size.is_sound; u_r = (times 411 100 (lit< tt) v.u_r z.ce).size.is_sound; u_rr = (times 514 100 (lit< tt) v.u_rr z.ce).size.is_sound }
-  sounds FH2 t =
-      let v = second_sizes t (first_v mie_v) (first_sizes t mie_v (mie_sizes t)) in
-      record { u = (times 310 100 (lit< tt) v.u z.ce).size.is_sound; u_r = (times 413 100 (lit< tt) v.u_r z.ce).size.is_sound; u_rr = (times 516 100 (lit< tt) v.u_rr z.ce).size.is_sound }
-
-  -- a sound u had a sound radius
-  mie_from : T mie_v.u.ends.sound → T r.ends.sound
+  -- ---- a sound u had a sound radius
+  from₀ : T v₀.u.ends.sound → T r.ends.sound
   unfolding sub_e mul_e div_e after_e after_i
-  mie_from t =
-      let a = mul_e (recip enclosures (power lr)) w.sr in
-      let b = mul_e (recip enclosures (power la)) w.sa in
-      let p = and_l a.ends.sound b.ends.sound (sub_sound a.ends b.ends t) in
-      let c = recip enclosures (power lr) in
-      let q = and_l c.ends.sound w.sr.ends.sound (mul_sound c.ends w.sr.ends p) in
+  from₀ t =
+      let a = mul_e (recip enclosures (power s.r.e0)) s.r.power in
+      let c = mul_e (recip enclosures (power s.a.e0)) s.a.power in
+      let i = and_l a.ends.sound c.ends.sound (sub_sound a.ends c.ends t) in
+      let x = power s.r.e0 in
       let one = whole enclosures 1 in
-      let x = power lr in
-      and_l r.ends.sound _ (and_r one.ends.sound x.ends.sound (div_sound one.ends x.ends q))
+      let j = multiplied (recip enclosures x) s.r.power i in
+      and_l r.ends.sound _ (and_r one.ends.sound x.ends.sound (div_sound one.ends x.ends j))
 
-  added : (x y : Enclosure) → T (add_e x y).ends.sound → T x.ends.sound
-  unfolding add_e
-  added x y t = and_l x.ends.sound y.ends.sound (add_sound x.ends y.ends t)
+  from₁ : (t : Bool) → T (cond t (first_at v₀) v₀).u.ends.sound → T v₀.u.ends.sound
+  from₁ true g = added _ _ g
+  from₁ false g = g
 
-  from : (o : FeynmanHibbsOrder) → T (values_of o).u.ends.sound → T r.ends.sound
-  from FH0 t = mie_from t
-  from FH1 t = mie_from (added _ _ t)
-  from FH2 t = mie_from (added _ _ (added _ _ t))
+  from₂ : (t : Bool) (v : PotentialIn Enclosure) → T (cond t (second_at v) v).u.ends.sound → T v.u.ends.sound
+  from₂ true v g = added _ _ g
+  from₂ false v g = g
 
-  -- ---- u, worked alone, has the same value and ends
-  abbrev L : Log
-  L = log_of r.value
+  from : T v₂.u.ends.sound → T r.ends.sound
+  from g = from₀ (from₁ (first_order p.order) (from₂ (second_order p.order) v₁ g))
 
-  at_power : (e : Enclosure) → Same (power_point L (exponent_of e.value)) (power e)
-  unfolding after_e after_i
-  at_power e = record { is = refl }
+  -- u and its factors
+  abbrev last : Enclosure
+  last = (after_shared enclosures (calls enclosures port) p (scaled enclosures (mul_e p.c p.epsilon_k) v₂)).u
 
-  at_recip : (e : Enclosure) → Same (recip enclosures (power_point L (exponent_of e.value))) (recip enclosures (power e))
-  at_recip e = div_same same (at_power e)
+  worked : T last.ends.sound → T r.ends.sound
+  unfolding after_shared scaled
+  worked t = from (multiplied v₂.u (mul_e p.c p.epsilon_k) (before _ _ (before _ _ (before _ _ (before _ _ (before _ _ t))))))
 
-  same_mie : Same (u_mie enclosures (power_point L (exponent_of lr.value)) w.sr (power_point L (exponent_of la.value)) w.sa) mie_v.u
-  same_mie = sub_same (mul_same (at_recip lr) same) (mul_same (at_recip la) same)
+  held_alone : u_after (potential enclosures (calls enclosures port) p r) ≡ alone (potential enclosures (calls enclosures port) p r)
+  unfolding u_after after_shared scaled ◌>>=◌
+  held_alone =
+      let ur = mul_e v₂.u_r (mul_e p.c p.epsilon_k) in
+      let urr = mul_e v₂.u_rr (mul_e p.c p.epsilon_k) in
+      rw potential_held (ap held (ap (after_e ur) (after_known urr last (λ t. (times 516 100 (lit< tt) (sizes (worked t)).u_rr ce).size.is_sound)) ∙ after_known ur last (λ t. (times 413 100 (lit< tt) (sizes (worked t)).u_r ce).size.is_sound)))
 
-  same_line : (d qr qa er ea u v : Enclosure) → Same u v
-      → Same (add_e u (mul_e d (u_quantum enclosures qr qa (power_point L (exponent_of er.value)) w.sr (power_point L (exponent_of ea.value)) w.sa))) (add_e v (mul_e d (u_quantum enclosures qr qa (power er) w.sr (power ea) w.sa)))
-  same_line d qr qa er ea u v p = add_same p (mul_same same (sub_same (mul_same (mul_same (at_recip er) same) same) (mul_same (mul_same (at_recip ea) same) same)))
+-- u alone is u after both derivatives
+module _ {p : PairIn Enclosure} {s : EnclosureShared} (h : EnclosureSharing p s) (r : Enclosure) where
+  by_base : Tamed s → T (above_one r.value) → (t : Bool) → base_inside r.value ≡ t → u_after (potential enclosures (calls enclosures port) p r) ≡ alone (potential enclosures (calls enclosures port) p r)
+  unfolding u_after above_one ◌>>=◌
+  by_base z above true e = held_alone h z r e (upward r.value e (and_r (lt one64 r.value) (fits binary64 r.value) above) (and_l (lt one64 r.value) (fits binary64 r.value) above))
+  by_base z above false e = rw (base_outside (λ b. b.base.inside) enclosure_raised enclosure_power_is h (enclosure_is r) e)
 
-  same_first : Same (add_e (u_mie enclosures (power_point L (exponent_of lr.value)) w.sr (power_point L (exponent_of la.value)) w.sa) (mul_e w.d (u_quantum enclosures w.q1r w.q1a (power_point L (exponent_of (up_by lr 2).value)) w.sr (power_point L (exponent_of (up_by la 2).value)) w.sa))) (first_v mie_v).u
-  same_first = same_line w.d w.q1r w.q1a (up_by lr 2) (up_by la 2) _ _ same_mie
-
-  same_u : (o : FeynmanHibbsOrder) → w.pair.order ≡ o → Same (u_alone w (alone_of w) L) (mul_e (values_of o).u w.ce)
-  unfolding u_alone alone_of add_e point
-  same_u FH0 e = rw (ap first_order e) (mul_same same_mie same)
-  same_u FH1 e = rw (ap first_order e, ap second_order e) (mul_same same_first same)
-  same_u FH2 e = rw (ap first_order e, ap second_order e) (mul_same (same_line w.d2 w.q2r w.q2a (up_by lr 4) (up_by la 4) _ _ same_first) same)
-
-  after_same : {a : Enclosure} (v p q : Enclosure) → Same a (mul_e v w.ce) → Same (after_e r (sound_of (sure_of a))) (after_e p (after_e q (after_e w.q1r (after_e w.q1a (after_e w.q2r (after_e w.q2a (after_e w.d (mul_e v w.ce))))))))
-  unfolding after_e after_i
-  after_same v p q h = record { is = h.is }
-
-  all_eight : (a b c d e f g h : Bool) → T a → T b → T c → T d → T e → T f → T g → T h → T (a && (b && (c && (d && (e && (f && (g && h)))))))
-  all_eight a b c d e f g h p q i j k l m n = both_true a (b && (c && (d && (e && (f && (g && h)))))) p (both_true b (c && (d && (e && (f && (g && h))))) q (both_true c (d && (e && (f && (g && h)))) i (both_true d (e && (f && (g && h))) j (both_true e (f && (g && h)) k (both_true f (g && h) l (both_true g h m n))))))
-
-  the_last : (a b c d e f g h : Bool) → T (a && (b && (c && (d && (e && (f && (g && h))))))) → T h
-  the_last a b c d e f g h t = and_r g h (and_r f (g && h) (and_r e (f && (g && h)) (and_r d (e && (f && (g && h))) (and_r c (d && (e && (f && (g && h)))) (and_r b (c && (d && (e && (f && (g && h))))) (and_r a (b && (c && (d && (e && (f && (g && h)))))) t))))))
-
-  multiplied : (x y : Enclosure) → T (mul_e x y).ends.sound → T x.ends.sound
-  unfolding mul_e
-  multiplied x y t = and_l x.ends.sound y.ends.sound (mul_sound x.ends y.ends t)
-
-  abbrev worked : PotentialIn Enclosure → Enclosure
-  worked v = after_e (mul_e v.u_r w.ce) (after_e (mul_e v.u_rr w.ce) (last v))
-
-  one_sound : (o : FeynmanHibbsOrder) (a : Enclosure) → (after_e r (sound_of (sure_of a))).ends.sound ≡ (worked (values_of o)).ends.sound
-  unfolding after_e after_i
-  one_sound o a =
-      let U = (mul_e (values_of o).u w.ce).ends.sound in
-      let U-r = (mul_e (values_of o).u_r w.ce).ends.sound in
-      let U-rr = (mul_e (values_of o).u_rr w.ce).ends.sound in
-      let Q1r = w.q1r.ends.sound in
-      let Q1a = w.q1a.ends.sound in
-      let Q2r = w.q2r.ends.sound in
-      let Q2a = w.q2a.ends.sound in
-      let D = w.d.ends.sound in
-      let S = r.ends.sound in
-      flags (S && true) (U-r && (U-rr && (Q1r && (Q1a && (Q2r && (Q2a && (D && U)))))))
-      (λ t. let v = sounds o (and_l S true t) in all_eight U-r U-rr Q1r Q1a Q2r Q2a D U v.u_r v.u_rr z.q1r.size.is_sound z.q1a.size.is_sound z.q2r.size.is_sound z.q2a.size.is_sound z.d.size.is_sound v.u)
-      (λ t. both_true S true (from o (multiplied (values_of o).u w.ce (the_last U-r U-rr Q1r Q1a Q2r Q2a D U t))) tt)
-
-  alone_at : (o : FeynmanHibbsOrder) → w.pair.order ≡ o → held (after_e r (sound_of (sure_of (u_alone w (alone_of w) L)))) ≡ u_after (potential enclosures (calls enclosures port) (pair_in w.pair) r)
-  unfolding u_after ◌>>=◌
-  alone_at o e = rw (potential_held o e) (ap held (one_flag _ _ (after_same (values_of o).u _ _ (same_u o e)) (one_sound o (u_alone w (alone_of w) L))))
-
--- the code's way: u alone after the radius is u after both derivatives
-pub alone_is : (w : PairShared) → Sharing w → T (tame_of w) → (r : Enclosure) → base_inside r.value ≡ true → (log_of r.value).negative ≡ false
-    → held (after_e r (sound_of (sure_of (u_alone w (alone_of w) (log_of r.value))))) ≡ u_after (potential enclosures (calls enclosures port) (pair_in w.pair) r)
-alone_is w s t r b u = alone_at w s (tamed w t) r b u w.pair.order refl
+  -- the code's way
+  pub alone_is : {tame above : Bool} → tame ≡ tame_of s → above ≡ above_one r.value → (tame && above) ≡ true → {a : Ans Enclosure} → a ≡ alone (potential enclosures (calls enclosures port) p r) → a ≡ u_after (potential enclosures (calls enclosures port) p r)
+  alone_is {tame = tame} {above = above} e f t q =
+      let k = subst T (sym t) tt in
+      q ∙ sym (by_base (tamed s (subst T e (and_l tame above k))) (subst T f (and_r tame above k)) (base_inside r.value) refl)

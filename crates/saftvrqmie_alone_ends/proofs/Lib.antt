@@ -1,5 +1,3 @@
 pub mod Tame
 pub mod Raised
-pub mod Same
 pub mod Derivatives
-pub mod Ways

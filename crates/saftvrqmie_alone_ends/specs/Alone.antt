@@ -1,19 +1,34 @@
--- What the code asks of a pair so that u's derivatives need not be worked, and u alone: the contracts of helpers. That the derivatives are then sound, and u so worked is the potential's, is shown in proofs/Derivatives (`alone-is`).
-use Rattle.std.specs.Prelude.{Bool, true, false, ◌&&◌, cond, Float}
+-- What the code asks of a pair so that u's derivatives need not be worked: the contracts of helpers. That they are then sound, so that u alone is u after both, is shown in proofs/Derivatives (`alone_is`).
+use Rattle.std.specs.Prelude.{Bool, ◌&&◌, not, Float, Result}
 use Rattle.std.specs.Float.{binary64}
-use Rattle.std.specs.Float.Ieee.{of_bits, fits, le, lt, neg, add}
+use Rattle.std.specs.Float.Ieee.{of_bits, fits, le, lt, neg}
+use Rattle.number.specs.declared.refusal.Refusal.{Refusal}
 use Rattle.number.specs.Ans.{Ans, held, ◌>>=◌}
-use Rattle.number.specs.Arith.{one64, decimal}
-use Rattle.number.specs.Domain.{exponent_inside}
-use Rattle.binary_log.specs.declared.Log.{Log}
-use Rattle.power.specs.declared.FixedExponent.{FixedExponent}
-use Rattle.power.specs.Power.{exponent_of, power_of}
+use Rattle.number.specs.Arith.{one64}
+use Rattle.number.specs.Functions.{calls}
+use Rattle.elementary.specs.Port.{port}
 use Rattle.enclosure.specs.declared.Enclosure.{Enclosure}
-use Rattle.enclosure.specs.Enclosure.{enclosures, point, add_e, mul_e, after_e}
-use Rattle.saftvrqmie_potential.specs.Potential.{PotentialIn, first_order, second_order, u_mie, u_quantum}
-use Rattle.saftvrqmie_potential_ends.specs.declared.PairShared.{PairShared}
-use Rattle.saftvrqmie_alone_ends.specs.declared.Alone.{Alone}
-use Rattle.saftvrqmie_alone_ends.specs.declared.Sure.{Sure}
+use Rattle.enclosure.specs.Enclosure.{enclosures, after_e}
+use Rattle.dual_num.specs.declared.EnclosureBase.{EnclosureBase}
+use Rattle.dual_num.specs.declared.EnclosureExponent.{EnclosureExponent}
+use Rattle.dual_num.specs.Base.{enclosure_power, enclosure_power_by}
+use Rattle.saftvrqmie_potential.specs.Potential.{PairIn, PotentialIn}
+use Rattle.saftvrqmie_potential.specs.Shared.{Sharing, Shares}
+use Rattle.saftvrqmie_potential.specs.declared.Term.{Term}
+use Rattle.saftvrqmie_potential.specs.declared.Shared.{Shared}
+
+abbrev pub EnclosureTerm : Type 0
+EnclosureTerm = Term Enclosure Enclosure EnclosureBase EnclosureExponent
+
+-- what the radii of a pair share in the two-ended run, and that it is the pair's
+abbrev pub EnclosureShared : Type 0
+EnclosureShared = Shared Enclosure Enclosure EnclosureBase EnclosureExponent
+
+abbrev pub EnclosureSharing : PairIn Enclosure → EnclosureShared → Type 0
+EnclosureSharing = Sharing enclosures (calls enclosures port) (λ x. x) enclosure_power enclosure_power_by (λ x. x) (λ n. n.at.inside)
+
+abbrev pub EnclosureShares : PairIn Enclosure → Result EnclosureShared Refusal → Type 0
+EnclosureShares = Shares enclosures (calls enclosures port) (λ x. x) enclosure_power enclosure_power_by (λ x. x) (λ n. n.at.inside)
 
 -- 2 ^ 100
 abbrev pub big : Float
@@ -23,67 +38,27 @@ big = of_bits binary64 0x4630_0000_0000_0000
 unfoldable pub within_of : Float → Bool
 within_of a = le (neg big) a && le a big && fits binary64 a
 
+unfoldable pub above_one : Float → Bool
+above_one a = lt one64 a && fits binary64 a
+
 -- sound, and both ends within
 unfoldable pub small_ends : Enclosure → Bool
 small_ends x = x.ends.sound && within_of x.ends.lower && within_of x.ends.upper
 
--- an exponent of the power's domain above 1
-unfoldable pub plain_of : Float → Bool
-plain_of y = exponent_inside y && lt one64 y && fits binary64 y
+-- a sound exponent of the power's domain, from 0 on and other than 1
+unfoldable pub plain_of : EnclosureExponent → Bool
+plain_of n = n.x.ends.sound && n.at.inside && not n.at.fixed.negative && not n.at.fixed.one
 
--- so are l to l + 6
-unfoldable pub plain_from : Float → Bool
-plain_from l =
-    plain_of l
-    && plain_of (add binary64 l (decimal false 1 0))
-    && plain_of (add binary64 l (decimal false 2 0))
-    && plain_of (add binary64 l (decimal false 3 0))
-    && plain_of (add binary64 l (decimal false 4 0))
-    && plain_of (add binary64 l (decimal false 5 0))
-    && plain_of (add binary64 l (decimal false 6 0))
+unfoldable pub tame_term : EnclosureTerm → Bool
+tame_term t =
+    (small_ends t.lambda && small_ends t.q1 && small_ends t.q2 && small_ends t.power)
+    && (plain_of t.e0 && plain_of t.e1 && plain_of t.e2 && plain_of t.e3)
+    && plain_of t.e4
+    && plain_of t.e5
+    && plain_of t.e6
 
-unfoldable pub tame_of : PairShared → Bool
-tame_of w =
-    (small_ends w.pair.lr && small_ends w.pair.la && small_ends w.sr && small_ends w.sa)
-    && (small_ends w.q1r && small_ends w.q1a && small_ends w.q2r && small_ends w.q2a)
-    && (small_ends w.d && small_ends w.d2 && small_ends w.ce)
-    && plain_from w.pair.lr.value
-    && plain_from w.pair.la.value
-
-unfoldable pub alone_of : PairShared → Alone
-alone_of w =
-    let lr = w.pair.lr.value in
-    let la = w.pair.la.value in
-    record {
-      er0 = exponent_of lr;
-      ea0 = exponent_of la;
-      er2 = exponent_of (add binary64 lr (decimal false 2 0));
-      ea2 = exponent_of (add binary64 la (decimal false 2 0));
-      er4 = exponent_of (add binary64 lr (decimal false 4 0));
-      ea4 = exponent_of (add binary64 la (decimal false 4 0));
-      first = first_order w.pair.order;
-      second = second_order w.pair.order;
-      tame = tame_of w;
-    }
-
--- an enclosure without its flag, and one with the flag set
-abbrev pub sure_of : Enclosure → Sure
-sure_of x = record { value = x.value; lower = x.ends.lower; upper = x.ends.upper }
-
-abbrev pub sound_of : Sure → Enclosure
-sound_of x = record { value = x.value; ends = record { lower = x.lower; upper = x.upper; sound = true } }
-
--- the power of a radius by its logarithm, as a point
-abbrev pub power_point : Log → FixedExponent → Enclosure
-power_point l e = point (power_of l e)
-
-module _ (w : PairShared) (x : Alone) (l : Log) where
-  unfoldable pub u_alone : Enclosure
-  u_alone =
-      let u = u_mie enclosures (power_point l x.er0) w.sr (power_point l x.ea0) w.sa in
-      let u₁ = add_e u (mul_e w.d (u_quantum enclosures w.q1r w.q1a (power_point l x.er2) w.sr (power_point l x.ea2) w.sa)) in
-      let u₂ = add_e u₁ (mul_e w.d2 (u_quantum enclosures w.q2r w.q2a (power_point l x.er4) w.sr (power_point l x.ea4) w.sa)) in
-      mul_e (cond x.first (cond x.second u₂ u₁) u) w.ce
+unfoldable pub tame_of : EnclosureShared → Bool
+tame_of s = tame_term s.r && tame_term s.a && small_ends s.d && small_ends s.d2 && small_ends s.ce
 
 -- u, both derivatives having been worked on the way
 unfoldable pub u_after : Ans (PotentialIn Enclosure) → Ans Enclosure

@@ -18,7 +18,7 @@ use Rattle.enclosure.specs.Ends.{Fair, Encloses, ends_alone}
 use Rattle.enclosure.proofs.Relations.{Value, values, contains}
 use Rattle.enclosure.proofs.TwoEnds.{operation_1, operation_2, operation_alone, operation_encloses}
 use Rattle.saftvrqmie_parameters.specs.declared.SaftVRQMiePars.{SaftVRQMiePars}
-use Rattle.saftvrqmie_potential.specs.Potential.{PairIn, pair_at_entry, points_of}
+use Rattle.saftvrqmie_potential.specs.Potential.{FloatPair, PairIn, pair_by, pair_at_entry, points_of}
 use Rattle.saftvrqmie_potential.specs.declared.Pair.{Pair}
 use Rattle.saftvrqmie_potential.proofs.Relation.{PairR}
 use Rattle.saftvrqmie_searches.specs.Diameter.{diameter}
@@ -27,7 +27,7 @@ use Rattle.saftvrqmie.specs.Pairs.{diameter_run, diameter_ij_by}
 use Rattle.saftvrqmie_diameter_ends.specs.Operations.{diameter_ends}
 
 -- a pair read by two runs
-points_rel : (A B : Arith) (K : Rel A B) (p : Pair) → PairR K.R (points_of A p) (points_of B p)
+points_rel : (A B : Arith) (K : Rel A B) (p : FloatPair) → PairR K.R (points_of A p) (points_of B p)
 points_rel A B K p =
     record {
       sigma = K.r_lit p.sigma;
@@ -59,11 +59,11 @@ module _ (E : Answers) (s : SaftVRQMiePars) (i j : ℕ) (t sigma_eff r0 : Float)
     ends_2 = operation_2 run_values _ _ p
 
     -- from what the code works
-    pub ends_on : temperature_within t ≡ true → (x : PairIn Enclosure) (y z : Enclosure) (a : Ans Enclosure) (b : Ans Ends)
-        → x ≡ points_of enclosures (pair_at_entry s.sheets s.orders t (cell i j)) → y ≡ point sigma_eff → z ≡ point r0 → a ≡ diameter enclosures (calls enclosures E) x y z → b ≡ ends_alone a → b ≡ diameter_ends E s i j t sigma_eff r0
+    pub ends_on : temperature_within t ≡ true → (w : Pair Enclosure Float) (x : PairIn Enclosure) (u y z : Enclosure) (a : Ans Enclosure) (b : Ans Ends)
+        → u ≡ point t → w ≡ pair_at_entry s.sheets s.orders u (cell i j) → x ≡ pair_by point (λ v. v) w → y ≡ point sigma_eff → z ≡ point r0 → a ≡ diameter enclosures (calls enclosures E) x y z → b ≡ ends_alone a → b ≡ diameter_ends E s i j t sigma_eff r0
     unfolding diameter_ends diameter_ij_by
-    ends_on q x y z a b f g h k l =
-        let m : a ≡ diameter_run enclosures (calls enclosures E) s i j t sigma_eff r0 = k ∙ rw (f, g, h) in
+    ends_on q w x u y z a b d e f g h k l =
+        let m : a ≡ diameter_run enclosures (calls enclosures E) s i j t sigma_eff r0 = k ∙ rw (f, e, d, g, h) in
         l ∙ (ap ends_alone m ∙ operation_alone run_values _ _ p q)
 
   -- for any elementary answers and any fair choice of the constants: the float operation's result and the exact run's

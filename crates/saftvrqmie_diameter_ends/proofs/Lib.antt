@@ -1,2 +1,3 @@
 pub mod Encloses
 pub mod Nodes
+pub mod Same

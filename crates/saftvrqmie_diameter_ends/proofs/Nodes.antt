@@ -1,7 +1,7 @@
 -- A pair with a potential at no radius has no diameter; and a node from u after both derivatives is a node after both. Assumes nothing.
 use native.Mathlib.Omega.{arith}
 use Prim.Native.Nat.{ℕ}
-use mathlib.Core.Path.{◌≡◌, refl, ap, ◌∙◌, fun_ext}
+use mathlib.Core.Path.{◌≡◌, refl, sym, ap, ◌∙◌, fun_ext}
 use mathlib.Core.Bool.{Bool, true, false, ◌&&◌}
 use lib.Dec.{T}
 use lib.Ieee.{Float}
@@ -18,7 +18,7 @@ use Rattle.enclosure.specs.Enclosure.{enclosures, point, add_e, sub_e, mul_e, di
 use Rattle.saftvrqmie_potential.specs.Potential.{PairIn, PotentialIn, potential}
 use Rattle.saftvrqmie_searches.specs.Diameter.{abscissas, weights, node_turn, diameter_by, diameter}
 use Rattle.saftvrqmie_alone_ends.specs.Alone.{u_after}
-use Rattle.saftvrqmie_alone_ends.proofs.Same.{Same, same, add_same, mul_same, neg_same, one_flag, flags}
+use Rattle.saftvrqmie_diameter_ends.proofs.Same.{Same, same, add_same, mul_same, neg_same, one_flag, flags}
 use Rattle.saftvrqmie_diameter_ends.specs.Operations.{width_of}
 
 pub diameter_none : (p : PairIn Enclosure) (sigma_eff r0 : Enclosure) (n : ℕ) → ((r : Enclosure) → potential enclosures (calls enclosures port) p r ≡ refused n) → refused n ≡ diameter enclosures (calls enclosures port) p sigma_eff r0
@@ -87,9 +87,9 @@ module _ (U : Enclosure → Ans (PotentialIn Enclosure)) (temperature r0 width :
       (calls enclosures port).exp (div_e (neg_e u) temperature) >>= λ e.
       held (add_e d-hs (mul_e (mul_e width (add_e (neg_e e) (point (decimal false 1 0)))) (entry (calls enclosures port) weights k)))
 
-  pub turn_is : (a : Ans Enclosure) (sigma_eff : Enclosure) → width ≡ width_of sigma_eff r0 → a ≡ turn → a ≡ node_turn enclosures (calls enclosures port) U temperature sigma_eff r0 k d-hs
+  pub turn_is : (sigma_eff : Enclosure) → width ≡ width_of sigma_eff r0 → {a : Ans Enclosure} → turn ≡ a → node_turn enclosures (calls enclosures port) U temperature sigma_eff r0 k d-hs ≡ a
   unfolding node_turn
-  turn_is a sigma_eff h l = l ∙ (part_after temperature width (entry (calls enclosures port) weights k) d-hs _ ∙ rw h)
+  turn_is sigma_eff h l = sym (part_after temperature width (entry (calls enclosures port) weights k) d-hs _ ∙ rw h) ∙ l
 
 pub width_worked : (sigma_eff r0 h d m : Enclosure) → h ≡ point (decimal false 5 1) → d ≡ sub_e sigma_eff r0 → m ≡ mul_e d h → m ≡ width_of sigma_eff r0
 width_worked sigma_eff r0 h d m i j k = rw (k, j, i)

@@ -5,7 +5,7 @@ use Rattle.number.specs.declared.refusal.Refusal.{Refusal}
 use native.Mathlib.Nat.{mul-le-mul}
 use native.Mathlib.Omega.{arith}
 use mathlib.Core.Path.{◌≡◌}
-use mathlib.Core.Bool.{Bool, true, false, ◌&&◌}
+use mathlib.Core.Bool.{true, false, ◌&&◌}
 use lib.Dec.{eqb}
 use lib.ListN.{length}
 use lib.Ieee.{Float}
@@ -23,7 +23,7 @@ use Rattle.saftvrqmie_parameters.specs.declared.OrderRecord.{OrderRecord}
 use Rattle.saftvrqmie_parameters.specs.declared.PairParameters.{PairParameters}
 use Rattle.mie_parameters.specs.Places.{in_places}
 use Rattle.mie_parameters.proofs.Laws.{and_left, and_right, count_low, count_high}
-use Rattle.saftvrqmie_parameters.specs.Parameters.{Lists, pair_orders, pair_parameters, store_pair, sheets_turn, sheets_of, right_lengths, within_limits, component_of, order_walk, orders_of, saft_vrq_mie_pars}
+use Rattle.saftvrqmie_parameters.specs.Parameters.{Lists, Fitting, pair_orders, pair_parameters, store_pair, sheets_turn, sheets_of, right_lengths, within_in, component_of, order_walk, orders_of, saft_vrq_mie_pars}
 
 module _ (a b : ℕ) where
   pub above : 2 < max a b → refused 4 ≡ pair_orders a b
@@ -111,10 +111,10 @@ lengths l p9 =
       l_ij = eqb-true (length l.l_ij) (n * n) (and_right c8 e9 p9);
     }
 
--- the operation, test by test
-abbrev pub Within : Lists → Bool
-Within l = within_limits l.count (component_of l) (at l.mass) (square l.count l.k_ij) (square l.count l.l_ij)
+pub fitting : (l : Lists) → right_lengths l ≡ true → Fitting l
+fitting l p = let h = lengths l p in (h.high, h.sigma, h.epsilon_k, h.lr, h.la, h.mass, h.k_ij, h.l_ij)
 
+-- the operation, test by test
 abbrev pub sheets_in : Lists → Ans (List Float)
 sheets_in l = sheets_of l.count (component_of l) (at l.mass) (square l.count l.k_ij) (square l.count l.l_ij)
 
@@ -123,25 +123,25 @@ module _ (l : Lists) where
   unfolding saft_vrq_mie_pars demand ◌>>=◌
   refuses_1 p = rw p
 
-  pub refuses_2 : right_lengths l ≡ true → Within l ≡ false → saft_vrq_mie_pars l ≡ refused 2
+  pub refuses_2 : right_lengths l ≡ true → within_in l ≡ false → saft_vrq_mie_pars l ≡ refused 2
   unfolding saft_vrq_mie_pars demand ◌>>=◌
   refuses_2 p q = rw (p, q)
 
-  pub refuses_3 : right_lengths l ≡ true → Within l ≡ true → all_one l.count (at l.m) ≡ false → saft_vrq_mie_pars l ≡ refused 3
+  pub refuses_3 : right_lengths l ≡ true → within_in l ≡ true → all_one l.count (at l.m) ≡ false → saft_vrq_mie_pars l ≡ refused 3
   unfolding saft_vrq_mie_pars demand ◌>>=◌
   refuses_3 p q r = rw (p, q, r)
 
-  pub refuses_4_5 : (k : ℕ) → right_lengths l ≡ true → Within l ≡ true → all_one l.count (at l.m) ≡ true
+  pub refuses_4_5 : (k : ℕ) → right_lengths l ≡ true → within_in l ≡ true → all_one l.count (at l.m) ≡ true
       → order_walk l.count l.fh ≡ refused k → saft_vrq_mie_pars l ≡ refused k
   unfolding saft_vrq_mie_pars demand ◌>>=◌
   refuses_4_5 k p q r s = rw (p, q, r, s)
 
-  pub refuses_6 : (k : ℕ) → right_lengths l ≡ true → Within l ≡ true → all_one l.count (at l.m) ≡ true
+  pub refuses_6 : (k : ℕ) → right_lengths l ≡ true → within_in l ≡ true → all_one l.count (at l.m) ≡ true
       → order_walk l.count l.fh ≡ held true → sheets_in l ≡ refused k → saft_vrq_mie_pars l ≡ refused k
   unfolding saft_vrq_mie_pars demand ◌>>=◌
   refuses_6 k p q r s t = rw (p, q, r, s, t)
 
-  pub holds : (x y : List Float) (o : List OrderRecord) → right_lengths l ≡ true → Within l ≡ true → all_one l.count (at l.m) ≡ true
+  pub holds : (x y : List Float) (o : List OrderRecord) → right_lengths l ≡ true → within_in l ≡ true → all_one l.count (at l.m) ≡ true
       → order_walk l.count l.fh ≡ held true → sheets_in l ≡ held x
       → y ≡ in_places floats l.count (at l.m) → o ≡ orders_of l.count l.fh
       → held (record { count = l.count; m = y; sheets = x; orders = o }) ≡ saft_vrq_mie_pars l

@@ -1,5 +1,5 @@
 -- The quantum parameters: their tests in document 01's order, and the set.
-use Rattle.std.specs.Prelude.{ℕ, ◌+◌, ◌*◌, max, eqb, leb, Float, get_or, length, set, replicate, List, Bool, true, not, ◌&&◌, cond}
+use Rattle.std.specs.Prelude.{◌≡◌, ◌≤◌, ℕ, ◌+◌, ◌*◌, max, eqb, leb, Float, get_or, length, set, replicate, List, Bool, true, not, ◌&&◌, cond}
 use Rattle.number.specs.Arith.{floats, zero64}
 use Rattle.number.specs.Ans.{Ans, held, refused, ◌>>=◌, demand}
 use Rattle.number.specs.Functions.{calls}
@@ -11,6 +11,7 @@ use Rattle.mie_parameters.specs.Combine.{epsilon_k_ij, lambda_ij, c_ij}
 use Rattle.limits.specs.declared.Component.{Component}
 use Rattle.limits.specs.Limits.{square, components, count_within, components_within, masses_within, pairs_within, is_one, all_one}
 use Rattle.saftvrqmie_parameters.specs.Combine.{sigma_ij, mass_ij}
+use Rattle.saftvrqmie_parameters.specs.declared.ComponentLists.{ComponentLists}
 use Rattle.saftvrqmie_parameters.specs.declared.FeynmanHibbsOrder.{FeynmanHibbsOrder}
 use Rattle.saftvrqmie_parameters.specs.declared.FeynmanHibbsOrder.TheVariants.{FH0, FH1, FH2}
 use Rattle.saftvrqmie_parameters.specs.declared.OrderRecord.{OrderRecord}
@@ -31,6 +32,21 @@ pub record Lists : Type 0 where
   pub k_ij : List Float
   pub l_ij : List Float
 
+abbrev pub lists_of : ComponentLists → Lists
+lists_of l =
+    record {
+      count = l.count;
+      m = l.m.now;
+      sigma = l.sigma.now;
+      epsilon_k = l.epsilon_k.now;
+      lr = l.lr.now;
+      la = l.la.now;
+      mass = l.mass.now;
+      fh = l.fh.now;
+      k_ij = l.k_ij.now;
+      l_ij = l.l_ij.now;
+    }
+
 -- ---- 1 to 5
 
 -- 1: the count is outside, or a list has another length than the count (pairs: its square)
@@ -47,12 +63,22 @@ right_lengths l =
     && eqb (length l.k_ij) (l.count * l.count)
     && eqb (length l.l_ij) (l.count * l.count)
 
+-- what right lengths say of the lists that the sheets are worked from
+abbrev pub Fitting : Lists → Type 0
+Fitting l =
+    (l.count ≤ side)
+    × (length l.sigma ≡ l.count) × (length l.epsilon_k ≡ l.count) × (length l.lr ≡ l.count) × (length l.la ≡ l.count)
+    × (length l.mass ≡ l.count) × (length l.k_ij ≡ l.count * l.count) × (length l.l_ij ≡ l.count * l.count)
+
 abbrev pub component_of : Lists → ℕ → Component
 component_of l = components l.sigma l.epsilon_k l.lr l.la
 
 -- 2: a number is outside its limit, m excepted
 unfoldable pub within_limits : ℕ → (ℕ → Component) → (ℕ → Float) → (ℕ → ℕ → Float) → (ℕ → ℕ → Float) → Bool
 within_limits n c mass k l = components_within n c && masses_within n mass && pairs_within n k && pairs_within n l
+
+abbrev pub within_in : Lists → Bool
+within_in l = within_limits l.count (component_of l) (at l.mass) (square l.count l.k_ij) (square l.count l.l_ij)
 
 -- `SaftVRQMieRecord::new`: 3 if m is not equal to 1.0, NaN included
 unfoldable pub record_m : Float → Ans Bool
@@ -97,6 +123,9 @@ module _ (n : ℕ) (c : ℕ → Component) (mass : ℕ → Float) (k l : ℕ →
   -- +0 where unused
   unfoldable pub sheets_of : Ans (List Float)
   sheets_of = walk n sheets_row (replicate (6 * sheet) zero64)
+
+abbrev pub sheets_row_in : Lists → ℕ → List Float → Ans (List Float)
+sheets_row_in l = sheets_row l.count (component_of l) (at l.mass) (square l.count l.k_ij) (square l.count l.l_ij)
 
 -- `FeynmanHibbsOrder::try_from`; where it is used the number is at most 2
 abbrev pub order_of : ℕ → FeynmanHibbsOrder

@@ -9,7 +9,7 @@ ghost use Rattle.sizes.specs.Sizes.{side, sheet};
 ghost use Rattle.number.specs.Walk.{walk};
 ghost use Rattle.limits.specs.Limits.{square, components};
 ghost use Rattle.saftvrqmie_parameters.specs.Combine.{sigma_ij, mass_ij};
-ghost use Rattle.saftvrqmie_parameters.specs.Parameters.{empty_set, set_of, Lists, right_lengths, within_limits, record_m, pair_orders, order_row, order_walk, pair_parameters, store_pair, sheets_row, order_of, orders_row, orders_of, saft_vrq_mie_pars};
+ghost use Rattle.saftvrqmie_parameters.specs.Parameters.{empty_set, set_of, lists_of, Fitting, right_lengths, within_in, sheets_row_in, record_m, pair_orders, order_row, order_walk, pair_parameters, store_pair, order_of, orders_row, orders_of, saft_vrq_mie_pars};
 ghost use Rattle.mie_parameters.specs.Answer.{outcome};
 
 use limits::Component;
@@ -29,6 +29,7 @@ pub struct OrderRecord {
     pub order: FeynmanHibbsOrder,
 }
 
+// Document 01's Forms ask for a struct by value with the count and the flat array: no list of its own length.
 #[derive(Clone, Copy)]
 pub struct SaftVRQMiePars {
     pub count: usize,
@@ -42,6 +43,21 @@ pub struct SaftVRQMiePars {
 pub struct ParameterSet {
     pub answer: Result<(), Refusal>,
     pub set: SaftVRQMiePars,
+}
+
+// The lists that a caller hands; fh are the orders' bytes.
+#[derive(Clone, Copy)]
+pub struct ComponentLists<'a> {
+    pub count: usize,
+    pub m: &'a [f64],
+    pub sigma: &'a [f64],
+    pub epsilon_k: &'a [f64],
+    pub lr: &'a [f64],
+    pub la: &'a [f64],
+    pub mass: &'a [f64],
+    pub fh: &'a [u8],
+    pub k_ij: &'a [f64],
+    pub l_ij: &'a [f64],
 }
 
 #[derive(Clone, Copy)]
@@ -170,79 +186,42 @@ fn store_pair(s: &mut [f64; SHEETS], e: usize, p: PairParameters)
 }
 
 // Row i of the six sheets.
-fn sheets_row(
-    n: usize,
-    sigma: &[f64],
-    epsilon_k: &[f64],
-    lr: &[f64],
-    la: &[f64],
-    mass: &[f64],
-    k_ij: &[f64],
-    l_ij: &[f64],
-    i: usize,
-    s: &mut [f64; SHEETS],
-) -> Result<(), Refusal>
-    requires { (n ≤ side) × (i < n)
-        × (length sigma.now ≡ n) × (length epsilon_k.now ≡ n) × (length lr.now ≡ n) × (length la.now ≡ n)
-        × (length mass.now ≡ n) × (length k_ij.now ≡ n * n) × (length l_ij.now ≡ n * n) }
-    ensures { let c = components sigma.now epsilon_k.now lr.now la.now in
-        let mass = at mass.entry.now in
-        let k = square n k_ij.now in
-        let l = square n l_ij.now in
-        outcome result s.new ≡ sheets_row n c mass k l i s.old }
+fn sheets_row(l: &ComponentLists, i: usize, s: &mut [f64; SHEETS]) -> Result<(), Refusal>
+    requires { (i < l.now.count) × Fitting (lists_of l.now) }
+    ensures { outcome result s.new ≡ sheets_row_in (lists_of l.now) i s.old }
 {
-    let a = limits::component_at(sigma, epsilon_k, lr, la, i);
+    let n = l.count;
+    let a = limits::component_at(l.sigma, l.epsilon_k, l.lr, l.la, i);
     for j in 0usize..n {
-        let b = limits::component_at(sigma, epsilon_k, lr, la, j);
-        let p = pair_parameters(a, b, mass[i], mass[j], k_ij[n * i + j], l_ij[n * i + j])?;
+        let b = limits::component_at(l.sigma, l.epsilon_k, l.lr, l.la, j);
+        let k = l.k_ij[n * i + j];
+        let p = pair_parameters(a, b, l.mass[i], l.mass[j], k, l.l_ij[n * i + j])?;
         store_pair(s, SIDE * i + j, p);
     }
     Ok(())
 }
 
-fn fill_sheets(
-    n: usize,
-    sigma: &[f64],
-    epsilon_k: &[f64],
-    lr: &[f64],
-    la: &[f64],
-    mass: &[f64],
-    k_ij: &[f64],
-    l_ij: &[f64],
-    s: &mut [f64; SHEETS],
-) -> Result<(), Refusal>
-    requires { (n ≤ side)
-        × (length sigma.now ≡ n) × (length epsilon_k.now ≡ n) × (length lr.now ≡ n) × (length la.now ≡ n)
-        × (length mass.now ≡ n) × (length k_ij.now ≡ n * n) × (length l_ij.now ≡ n * n) }
-    ensures { let c = components sigma.now epsilon_k.now lr.now la.now in
-        let mass = at mass.entry.now in
-        let k = square n k_ij.now in
-        let l = square n l_ij.now in
-        outcome result s.new ≡ walk n (sheets_row n c mass k l) s.old }
+fn fill_sheets(l: &ComponentLists, s: &mut [f64; SHEETS]) -> Result<(), Refusal>
+    requires { Fitting (lists_of l.now) }
+    ensures { outcome result s.new ≡ walk l.now.count (sheets_row_in (lists_of l.now)) s.old }
 {
-    for i in 0usize..n {
-        sheets_row(n, sigma, epsilon_k, lr, la, mass, k_ij, l_ij, i, s)?;
+    for i in 0usize..l.count {
+        sheets_row(l, i, s)?;
     }
     Ok(())
 }
 
-fn larger(a: u8, b: u8) -> u8
-    ensures { result ≡ max a b }
-{
-    if a < b { b } else { a }
-}
-
 // The order of a byte that is at most 2.
-pub fn order_of(n: u8) -> FeynmanHibbsOrder
-    ensures { result ≡ order_of n }
-{
-    if n == 0 {
-        return FeynmanHibbsOrder::FH0;
+impl From<u8> for FeynmanHibbsOrder {
+    ghost from_gives = { λ n r. r ≡ order_of n };
+
+    fn from(n: u8) -> FeynmanHibbsOrder {
+        match n {
+            0 => FeynmanHibbsOrder::FH0,
+            1 => FeynmanHibbsOrder::FH1,
+            _ => FeynmanHibbsOrder::FH2,
+        }
     }
-    if n == 1 {
-        return FeynmanHibbsOrder::FH1;
-    }
-    FeynmanHibbsOrder::FH2
 }
 
 fn orders_row(s: [OrderRecord; SHEET], n: usize, fh: &[u8], i: usize) -> [OrderRecord; SHEET]
@@ -251,7 +230,7 @@ fn orders_row(s: [OrderRecord; SHEET], n: usize, fh: &[u8], i: usize) -> [OrderR
 {
     let mut orders = s;
     for j in 0usize..n {
-        let order = order_of(larger(fh[i], fh[j]));
+        let order = FeynmanHibbsOrder::from(fh[i].max(fh[j]));
         orders[SIDE * i + j] = OrderRecord { order };
     }
     orders
@@ -271,71 +250,33 @@ fn orders_of(n: usize, fh: &[u8]) -> [OrderRecord; SHEET]
     orders
 }
 
-fn right_lengths(
-    count: usize,
-    m: &[f64],
-    sigma: &[f64],
-    epsilon_k: &[f64],
-    lr: &[f64],
-    la: &[f64],
-    mass: &[f64],
-    fh: &[u8],
-    k_ij: &[f64],
-    l_ij: &[f64],
-) -> bool
-    ensures { let l : Lists = record {
-      count = count;
-      m = m.now;
-      sigma = sigma.now;
-      epsilon_k = epsilon_k.now;
-      lr = lr.now;
-      la = la.now;
-      mass = mass.now;
-      fh = fh.now;
-      k_ij = k_ij.now;
-      l_ij = l_ij.now;
-    } in
-        result ≡ right_lengths l }
+fn right_lengths(l: &ComponentLists) -> bool
+    ensures { result ≡ right_lengths (lists_of l.now) }
 {
-    if !limits::count_within(count) {
+    if !limits::count_within(l.count) {
         return false;
     }
-    let square = count * count;
-    (m.len() == count)
-        & (sigma.len() == count)
-        & (epsilon_k.len() == count)
-        & (lr.len() == count)
-        & (la.len() == count)
-        & (mass.len() == count)
-        & (fh.len() == count)
-        & (k_ij.len() == square)
-        & (l_ij.len() == square)
+    let square = l.count * l.count;
+    (l.m.len() == l.count)
+        & (l.sigma.len() == l.count)
+        & (l.epsilon_k.len() == l.count)
+        & (l.lr.len() == l.count)
+        & (l.la.len() == l.count)
+        & (l.mass.len() == l.count)
+        & (l.fh.len() == l.count)
+        & (l.k_ij.len() == square)
+        & (l.l_ij.len() == square)
 }
 
-// The numbers' limits; the lists are as long as the count.
-fn within_limits(
-    n: usize,
-    sigma: &[f64],
-    epsilon_k: &[f64],
-    lr: &[f64],
-    la: &[f64],
-    mass: &[f64],
-    k_ij: &[f64],
-    l_ij: &[f64],
-) -> bool
-    requires { (n ≤ side)
-        × (length sigma.now ≡ n) × (length epsilon_k.now ≡ n) × (length lr.now ≡ n) × (length la.now ≡ n)
-        × (length mass.now ≡ n) × (length k_ij.now ≡ n * n) × (length l_ij.now ≡ n * n) }
-    ensures { let c = components sigma.now epsilon_k.now lr.now la.now in
-        let mass = at mass.entry.now in
-        let k = square n k_ij.now in
-        let l = square n l_ij.now in
-        result ≡ within_limits n c mass k l }
+// The numbers' limits.
+fn within_limits(l: &ComponentLists) -> bool
+    requires { Fitting (lists_of l.now) }
+    ensures { result ≡ within_in (lists_of l.now) }
 {
-    limits::components_within(n, sigma, epsilon_k, lr, la)
-        & limits::masses_within(n, mass)
-        & limits::pairs_within(n, k_ij)
-        & limits::pairs_within(n, l_ij)
+    limits::components_within(l.count, l.sigma, l.epsilon_k, l.lr, l.la)
+        & limits::masses_within(l.count, l.mass)
+        & limits::pairs_within(l.count, l.k_ij)
+        & limits::pairs_within(l.count, l.l_ij)
 }
 
 // `SaftVRQMieRecord::new`'s test of m.
@@ -350,105 +291,37 @@ pub fn record_m(m: f64) -> Result<(), Refusal>
 }
 
 // `SaftVRQMiePars::new`: the set, or the first refusal that applies.
-pub fn saft_vrq_mie_pars(
-    count: usize,
-    m: &[f64],
-    sigma: &[f64],
-    epsilon_k: &[f64],
-    lr: &[f64],
-    la: &[f64],
-    mass: &[f64],
-    fh: &[u8],
-    k_ij: &[f64],
-    l_ij: &[f64],
-) -> Result<SaftVRQMiePars, Refusal>
-    ensures { let l : Lists = record {
-      count = count;
-      m = m.now;
-      sigma = sigma.now;
-      epsilon_k = epsilon_k.now;
-      lr = lr.now;
-      la = la.now;
-      mass = mass.now;
-      fh = fh.now;
-      k_ij = k_ij.now;
-      l_ij = l_ij.now;
-    } in
-        answer result ≡ saft_vrq_mie_pars l }
+pub fn saft_vrq_mie_pars(l: &ComponentLists) -> Result<SaftVRQMiePars, Refusal>
+    ensures { answer result ≡ saft_vrq_mie_pars (lists_of l.now) }
 {
-    if !right_lengths(count, m, sigma, epsilon_k, lr, la, mass, fh, k_ij, l_ij) {
+    if !right_lengths(l) {
         return Err(Refusal::Length);
     }
-    if !within_limits(count, sigma, epsilon_k, lr, la, mass, k_ij, l_ij) {
+    if !within_limits(l) {
         return Err(Refusal::Limit);
     }
-    if !limits::all_one(count, m) {
+    if !limits::all_one(l.count, l.m) {
         return Err(Refusal::Segments);
     }
-    order_walk(count, fh)?;
+    order_walk(l.count, l.fh)?;
     let mut sheets = [0.0; SHEETS];
-    fill_sheets(
-        count,
-        sigma,
-        epsilon_k,
-        lr,
-        la,
-        mass,
-        k_ij,
-        l_ij,
-        &mut sheets,
-    )?;
-    let places = mie_parameters::in_places(count, m);
-    let orders = orders_of(count, fh);
+    fill_sheets(l, &mut sheets)?;
+    let m = mie_parameters::in_places(l.count, l.m);
+    let orders = orders_of(l.count, l.fh);
     Ok(SaftVRQMiePars {
-        count,
-        m: places,
+        count: l.count,
+        m,
         sheets,
         orders,
     })
 }
 
 // The same with the set beside the answer, as document 01 has it: of a refused call the empty set.
-pub fn parameters(
-    count: usize,
-    m: &[f64],
-    sigma: &[f64],
-    epsilon_k: &[f64],
-    lr: &[f64],
-    la: &[f64],
-    mass: &[f64],
-    fh: &[u8],
-    k_ij: &[f64],
-    l_ij: &[f64],
-) -> ParameterSet
-    ensures answer { let l : Lists = record {
-      count = count;
-      m = m.now;
-      sigma = sigma.now;
-      epsilon_k = epsilon_k.now;
-      lr = lr.now;
-      la = la.now;
-      mass = mass.now;
-      fh = fh.now;
-      k_ij = k_ij.now;
-      l_ij = l_ij.now;
-    } in
-        outcome result.answer result.set ≡ saft_vrq_mie_pars l }
-    ensures set { let l : Lists = record {
-      count = count;
-      m = m.now;
-      sigma = sigma.now;
-      epsilon_k = epsilon_k.now;
-      lr = lr.now;
-      la = la.now;
-      mass = mass.now;
-      fh = fh.now;
-      k_ij = k_ij.now;
-      l_ij = l_ij.now;
-    } in
-        result.set ≡ set_of (saft_vrq_mie_pars l) }
+pub fn parameters(l: &ComponentLists) -> ParameterSet
+    ensures answer { outcome result.answer result.set ≡ saft_vrq_mie_pars (lists_of l.now) }
+    ensures set { result.set ≡ set_of (saft_vrq_mie_pars (lists_of l.now)) }
 {
-    match saft_vrq_mie_pars(count, m, sigma, epsilon_k, lr, la, mass, fh, k_ij, l_ij) {
+    match saft_vrq_mie_pars(l) {
         Ok(set) => ParameterSet {
             answer: Ok(()),
             set,

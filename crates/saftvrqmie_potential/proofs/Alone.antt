@@ -73,7 +73,7 @@ module _ {A : Arith} {F : Functions A.Num} {D P B E : Type 0} {plain : P → A.N
   as_raised {n = n} {m = m} q = held_tests (raised b n) (raised b m) (base_in b) (both_inside exponent_in n m) (sym (both_is n m) ∙ q)
 
   module _ (in-b : base_in b ≡ true) where
-    abbrev value : E → E → (A.Num → A.Num → A.Num → A.Num → A.Num) → A.Num
+    abbrev pub value : E → E → (A.Num → A.Num → A.Num → A.Num → A.Num) → A.Num
     value n m f = f (raised b n) sr (raised b m) sa
 
     made : (t : Bool) (a : A.Num × A.Num) (f : A.Num → A.Num → A.Num → A.Num → A.Num) → (cond t (held a) (refused 6) >>= λ x. held (f x.0 sr x.1 sa)) ≡ cond t (held (f a.0 sr a.1 sa)) (refused 6)
@@ -89,19 +89,19 @@ module _ {A : Arith} {F : Functions A.Num} {D P B E : Type 0} {plain : P → A.N
         → Tested (t && (t' && t'')) (g x y z) (a >>= λ u. a' >>= λ v. a'' >>= λ w. held (g u v w))
     lines_tested g p q r = then_tested _ _ _ _ _ _ p (then_tested _ _ _ _ _ _ q (then_value _ _ _ _ _ r refl))
 
-    abbrev v₀ : PotentialIn A.Num
+    abbrev pub v₀ : PotentialIn A.Num
     v₀ = record { u = value s.r.e0 s.a.e0 (u_mie A); u_r = value s.r.e1 s.a.e1 (ur_mie A p.lr p.la); u_rr = value s.r.e2 s.a.e2 (urr_mie A p.lr p.la) }
 
-    abbrev first_at : PotentialIn A.Num → PotentialIn A.Num
+    abbrev pub first_at : PotentialIn A.Num → PotentialIn A.Num
     first_at v = corrected A (quantum_d A F p.mass p.temperature) v (value s.r.e2 s.a.e2 (u_quantum A (q1 A p.lr) (q1 A p.la))) (value s.r.e3 s.a.e3 (ur_first A p.lr p.la (q1 A p.lr) (q1 A p.la))) (value s.r.e4 s.a.e4 (urr_first A p.lr p.la (q1 A p.lr) (q1 A p.la)))
 
-    abbrev second_at : PotentialIn A.Num → PotentialIn A.Num
+    abbrev pub second_at : PotentialIn A.Num → PotentialIn A.Num
     second_at v = corrected A (A.pow (quantum_d A F p.mass p.temperature) 2) v (value s.r.e4 s.a.e4 (u_quantum A (q2 A p.lr) (q2 A p.la))) (value s.r.e5 s.a.e5 (ur_second A p.lr p.la (q2 A p.lr) (q2 A p.la))) (value s.r.e6 s.a.e6 (urr_second A p.lr p.la (q2 A p.lr) (q2 A p.la)))
 
-    abbrev v₁ : PotentialIn A.Num
+    abbrev pub v₁ : PotentialIn A.Num
     v₁ = cond (first_order p.order) (first_at v₀) v₀
 
-    abbrev v₂ : PotentialIn A.Num
+    abbrev pub v₂ : PotentialIn A.Num
     v₂ = cond (second_order p.order) (second_at v₁) v₁
 
     mie_tested : Tested (both_inside exponent_in s.r.e0 s.a.e0 && (both_inside exponent_in s.r.e1 s.a.e1 && both_inside exponent_in s.r.e2 s.a.e2)) v₀ (mie A F p r)
@@ -123,17 +123,20 @@ module _ {A : Arith} {F : Functions A.Num} {D P B E : Type 0} {plain : P → A.N
         (then_tested _ _ _ _ _ _ (choice_tested (first_order p.order) _ _ _ _ (first_tested v₀))
         (then_value _ _ _ _ _ (choice_tested (second_order p.order) _ _ _ _ (second_tested v₁)) refl))
 
-    potential_tested : (t : Bool) → s.inside ≡ t → potential A F p r ≡ cond t (held (after_shared A F p (scaled A (A.mul p.c p.epsilon_k) v₂))) (refused 6)
+    pub potential_tested : (t : Bool) → s.inside ≡ t → potential A F p r ≡ cond t (held (after_shared A F p (scaled A (A.mul p.c p.epsilon_k) v₂))) (refused 6)
     potential_tested t k = rw (← k, h.inside, h.first, h.second) whole_tested.is
 
-  -- ---- an exponent outside
-  pub outside : s.inside ≡ false → potential A F p r ≡ refused 6
+  -- ---- the base or an exponent outside
+  pub base_outside : base_in b ≡ false → potential A F p r ≡ refused 6
   unfolding potential mie ◌>>=◌
+  base_outside e = rw (line_refused h is-b h.r.e0 h.a.e0 (rw e at (both_is s.r.e0 s.a.e0)))
+
+  pub outside : s.inside ≡ false → potential A F p r ≡ refused 6
   outside k = by (base_in b) refl
     where
       by : (t : Bool) → base_in b ≡ t → potential A F p r ≡ refused 6
       by true e = potential_tested e false k
-      by false e = rw (line_refused h is-b h.r.e0 h.a.e0 (rw e at (both_is s.r.e0 s.a.e0)))
+      by false e = base_outside e
 
   -- ---- the exponents inside, and the first line held
   abbrev Powers : E → E → LinePowers D → Type 0

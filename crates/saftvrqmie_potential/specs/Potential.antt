@@ -60,6 +60,10 @@ pair_by plain of p =
       temperature = of p.temperature;
     }
 
+-- a pair of a run whose numbers are the formulas' own
+abbrev pub pair_of : {N : Type 0} → Pair N N → PairIn N
+pair_of = pair_by (λ x. x) (λ x. x)
+
 -- what a set holds at entry e of its sheets, and the temperature, which may carry a slope
 abbrev pub pair_at_entry : {D : Type 0} → List Float → List OrderRecord → D → ℕ → Pair D Float
 pair_at_entry s orders t e =

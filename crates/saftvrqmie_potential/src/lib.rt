@@ -97,6 +97,23 @@ pub fn pair_at<D: Copy>(
     }
 }
 
+// A set's pair in any run: each number as it is, beside the run's temperature.
+pub fn points<D: DualNum>(p: Pair<D, f64>) -> Pair<D, D::Plain>
+    ensures { (w : Bool) → pair_by (D.plain w) (D.of w) result ≡ pair_by (D.beside w).lit (D.of w) p }
+{
+    let order = p.order;
+    Pair {
+        sigma: D::Plain::lit(p.sigma),
+        epsilon_k: D::Plain::lit(p.epsilon_k),
+        c: D::Plain::lit(p.c),
+        lr: D::Plain::lit(p.lr),
+        la: D::Plain::lit(p.la),
+        mass: D::Plain::lit(p.mass),
+        order,
+        temperature: p.temperature,
+    }
+}
+
 // Whether the potential has a first-order correction.
 pub fn first_order(order: FeynmanHibbsOrder) -> bool
     ensures { result ≡ first_order order }

@@ -1,2 +1,3 @@
 pub mod Searches
 pub mod Diameter
+pub mod Steps

@@ -1,5 +1,5 @@
 -- The three radius searches of saftvrqmie/eos/hard_sphere.rs, over any arithmetic. Branches are those of the float run.
-use Rattle.std.specs.Prelude.{ℕ, zero, suc, ◌-◌, ◌≡◌, Float, Bool, false, cond, Result}
+use Rattle.std.specs.Prelude.{ℕ, zero, suc, ◌-◌, Float, Bool, false, cond, Result}
 use Rattle.number.specs.declared.refusal.Refusal.{Refusal}
 use Rattle.number.specs.Answer.{answer_by}
 use Rattle.std.specs.Float.Ieee as Ieee
@@ -9,8 +9,7 @@ use Rattle.number.specs.Ans.{Ans, held, ◌>>=◌}
 use Rattle.number.specs.Arith.{Arith, decimal, zero64, epsilon64, whole}
 use Rattle.number.specs.Functions.{Functions}
 use Rattle.number.specs.Neighbour.{absolute}
-use Rattle.saftvrqmie_potential.specs.declared.QMiePotential.{QMiePotential}
-use Rattle.saftvrqmie_potential.specs.Potential.{PairIn, PotentialIn, potential_by, potential}
+use Rattle.saftvrqmie_potential.specs.Potential.{PairIn, PotentialIn, potential}
 use Rattle.saftvrqmie_searches.specs.declared.Search.{Search}
 use Rattle.saftvrqmie_searches.specs.declared.Search.TheVariants.{Found, Spent}
 
@@ -37,13 +36,6 @@ search_in = search_by (λ x. x)
 
 abbrev pub search_answer : Result (Search Float × ℕ) Refusal → Ans (Counted Float)
 search_answer = answer_by (counted_by (λ x. x))
-
--- what the closures of a search work, for the contracts of helpers alone: the tested value, and the next radius
-abbrev pub Tests : {D N : Type 0} → (D → N) → (QMiePotential D → D → Type 0) → (PotentialIn N → N) → Type 0
-Tests {D = D} of post t = (v : QMiePotential D) (f : D) → post v f → of f ≡ t (potential_by of v)
-
-abbrev pub Moves : {D N : Type 0} → (D → N) → (D → QMiePotential D → D → D → Type 0) → (N → PotentialIn N → N → N) → Type 0
-Moves {D = D} of post m = (r : D) (v : QMiePotential D) (f s : D) → post r v f s → of s ≡ m (of r) (potential_by of v) (of f)
 
 module _ (A : Arith) where
   open A use {Num, add as ◌⊕◌, mul as ◌⊗◌, div as ◌⊘◌, neg as ⊖◌, lit, val, after}

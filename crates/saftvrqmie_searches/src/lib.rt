@@ -10,7 +10,8 @@ ghost use Rattle.number.specs.Functions.{calls, entry};
 ghost use Rattle.elementary.specs.Port.{port};
 ghost use Rattle.saftvrqmie_potential.specs.Potential.{PairIn, PotentialIn, pair_in, potential_by, potential};
 ghost use Rattle.saftvrqmie_potential.specs.Shared.{Sharing};
-ghost use Rattle.saftvrqmie_searches.specs.Searches.{search_answer, counted_by, Tests, Moves, small, clamped, sigma_step, depth_step, zero_step, zero_value, searched, sigma_search, zero_search, depth_search, sigma_eff, zero_integrand, epsilon_k_eff};
+ghost use Rattle.saftvrqmie_searches.specs.Searches.{search_answer, counted_by, small, clamped, sigma_step, depth_step, zero_step, zero_value, searched, sigma_search, zero_search, depth_search, sigma_eff, zero_integrand, epsilon_k_eff};
+ghost use Rattle.saftvrqmie_searches.specs.Steps.{Tests, Moves};
 ghost use Rattle.saftvrqmie_searches.specs.Diameter.{abscissas, weights, node_turn, diameter_by, diameter};
 
 use dual::Dual;

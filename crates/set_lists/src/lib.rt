@@ -76,7 +76,7 @@ pub fn order_records(l: &[u8]) -> [OrderRecord; SHEET]
     };
     let mut read = [unused; SHEET];
     for e in 0usize..SHEET {
-        let order = saftvrqmie_parameters::order_of(l[e]);
+        let order = FeynmanHibbsOrder::from(l[e]);
         read[e] = OrderRecord { order };
     }
     read

@@ -15,38 +15,17 @@ use sizes::{COUNTS, SIDE, TABLE};
 
 // Quantum: parameters (1 to 6), a table of its own (2, 6, 7), energies (1, 2, 6, 7); the first refusal on the way.
 pub fn quantum_stage(
-    count: usize,
-    m: &[f64],
-    sigma: &[f64],
-    epsilon_k: &[f64],
-    lr: &[f64],
-    la: &[f64],
-    mass: &[f64],
-    order: &[u8],
-    k_ij: &[f64],
-    l_ij: &[f64],
+    lists: &saftvrqmie_parameters::ComponentLists,
     temperature: f64,
     fractions: &[f64],
     densities: &[f64],
     non_additive: bool,
 ) -> Result<QuantumEnergies, Refusal>
-    ensures { let l : Quantum.Lists = record {
-      count = count;
-      m = m.now;
-      sigma = sigma.now;
-      epsilon_k = epsilon_k.now;
-      lr = lr.now;
-      la = la.now;
-      mass = mass.now;
-      fh = order.now;
-      k_ij = k_ij.now;
-      l_ij = l_ij.now;
-    } in
+    ensures { let l = Quantum.lists_of lists.now in
         energies_answer result ≡ quantum_stage l temperature fractions.now densities.now non_additive }
 {
-    let given = saftvrqmie_parameters::parameters(
-        count, m, sigma, epsilon_k, lr, la, mass, order, k_ij, l_ij,
-    );
+    // Taken apart by let .. else, as document 01's Forms ask.
+    let given = saftvrqmie_parameters::parameters(lists);
     let Ok(()) = given.answer else {
         return Err(given.answer.unwrap_err());
     };
@@ -81,34 +60,17 @@ fn mie_energy(
 
 // SAFT-VR Mie: parameters (1, 2, 6), diameters of its own (2, 6, 7), dispersion with or without chain (1, 2, 6, 7); the first refusal on the way.
 pub fn mie_stage(
-    count: usize,
-    m: &[f64],
-    sigma: &[f64],
-    epsilon_k: &[f64],
-    lr: &[f64],
-    la: &[f64],
-    k_ij: &[f64],
-    gamma_ij: &[f64],
+    lists: &saftvrmie_parameters::ComponentLists,
     temperature: f64,
     fractions: &[f64],
     densities: &[f64],
     chain: bool,
 ) -> Result<f64, Refusal>
-    ensures { let l : Mie.Lists = record {
-      count = count;
-      m = m.now;
-      sigma = sigma.now;
-      epsilon_k = epsilon_k.now;
-      lr = lr.now;
-      la = la.now;
-      k_ij = k_ij.now;
-      gamma_ij = gamma_ij.now;
-    } in
+    ensures { let l = Mie.lists_of lists.now in
         answer result ≡ mie_stage l temperature fractions.now densities.now chain }
 {
-    let given = saftvrmie_parameters::parameters(
-        count, m, sigma, epsilon_k, lr, la, k_ij, gamma_ij,
-    );
+    // Taken apart by let .. else, as document 01's Forms ask.
+    let given = saftvrmie_parameters::parameters(lists);
     let Ok(()) = given.answer else {
         return Err(given.answer.unwrap_err());
     };

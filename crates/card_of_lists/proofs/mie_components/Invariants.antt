@@ -7,7 +7,7 @@ use Rattle.card_of_lists.specs.Cards.{mie_component}
 use Rattle.card_of_lists.proofs.mie_components.Given as goal
 
 abbrev pub invariant-loop-i : goal.invariant-loop-i
-invariant-loop-i l = (l.i ≤ l.n) × (length l.values ≡ 204) × (take (l.i * 5) l.values ≡ joined l.i (mie_component l.m l.sigma l.epsilon_k l.lr l.la))
+invariant-loop-i l = (l.i ≤ l.l.count) × (length l.values ≡ 204) × (take (l.i * 5) l.values ≡ joined l.i (mie_component l.l.m.now l.l.sigma.now l.l.epsilon_k.now l.l.lr.now l.l.la.now))
 
 abbrev pub decreases-loop-i : goal.decreases-loop-i
-decreases-loop-i l = l.n - l.i
+decreases-loop-i l = l.l.count - l.i

@@ -4,7 +4,6 @@ use native.Mathlib.Omega.{arith}
 use mathlib.Core.List.{[], ◌∷◌}
 use lib.ListN.{length-set}
 use Rattle.limits.specs.Limits.{square}
-use Rattle.number.specs.Lists.{at}
 use Rattle.card_of_lists.specs.Cards.{pattern, pair_row}
 use Rattle.card_of_lists.proofs.Values.{pair_part, row_none, row_next, row_end, cell_below, square_small}
 use borrow.Author.Rules.{rules}

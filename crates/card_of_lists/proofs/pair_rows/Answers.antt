@@ -2,7 +2,6 @@
 use Prim.Native.Nat.{◌+◌, ◌*◌, ◌-◌}
 use native.Mathlib.Omega.{arith}
 use mathlib.Core.Path.{◌≡◌}
-use Rattle.number.specs.Lists.{at}
 use Rattle.card_of_lists.specs.Cards.{pair_row, pair_rows}
 use Rattle.card_of_lists.proofs.Values.{rows_none, rows_next, left_less, left_all, left_none, pairs_small}
 use borrow.Author.Rules.{rules}

@@ -7,7 +7,7 @@ use Rattle.card_of_lists.specs.Cards.{quantum_component}
 use Rattle.card_of_lists.proofs.quantum_components.Given as goal
 
 abbrev pub invariant-loop-i : goal.invariant-loop-i
-invariant-loop-i l = (l.i ≤ l.n) × (length l.values ≡ 204) × (take (l.i * 6) l.values ≡ joined l.i (quantum_component l.sigma l.epsilon_k l.lr l.la l.mass l.fh))
+invariant-loop-i l = (l.i ≤ l.l.count) × (length l.values ≡ 204) × (take (l.i * 6) l.values ≡ joined l.i (quantum_component l.l.sigma.now l.l.epsilon_k.now l.l.lr.now l.l.la.now l.l.mass.now l.l.fh.now))
 
 abbrev pub decreases-loop-i : goal.decreases-loop-i
-decreases-loop-i l = l.n - l.i
+decreases-loop-i l = l.l.count - l.i

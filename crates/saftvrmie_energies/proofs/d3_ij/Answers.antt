@@ -4,7 +4,4 @@ use Rattle.saftvrmie_energies.proofs.d3_ij.Goals as goal
 
 pub returns : goal.returns
 unfolding d3_ij
-returns c = rw (
-  c.pow_up.ensures,
-  c.d_ij.ensures,
-)
+returns g c w = rw (c.cube.ensures w, c.d_ij.ensures w)

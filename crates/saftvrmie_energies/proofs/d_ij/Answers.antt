@@ -1,5 +1,4 @@
 -- `saftvrmie_energies::d_ij` meets its contract. Assumes nothing.
-use mathlib.Core.Path.{refl}
 use lib.Ieee.{of_bits}
 use Rattle.number.specs.Arith.{decimal}
 use Rattle.saftvrmie_energies.specs.Properties.{d_ij}
@@ -7,4 +6,12 @@ use Rattle.saftvrmie_energies.proofs.d_ij.Goals as goal
 
 pub returns : goal.returns
 unfolding d_ij decimal of_bits
-returns c = refl
+returns g c w =
+    let m = g.met.D.DualNum in
+    rw (
+      m.mul_plain_law w _ _ _ c.mul.ensures,
+      m.plain_lit_law w _ _ c.lit.ensures,
+      m.add_law w _ _ _ c.add.ensures,
+      c.entered-2.ensures w,
+      c.entered.ensures w,
+    )

@@ -1,19 +1,15 @@
 -- `saftvrmie_energies::disp_row` meets its contract. Assumes nothing.
-use Rattle.std.proofs.Common.{rules}
-use Rattle.number.proofs.Walk.{via}
-use Rattle.saftvrmie_dispersion.specs.Answer.{terms_answer}
-use Rattle.saftvrmie_energies.specs.Dispersion.{disp_row}
 use Rattle.number.specs.Ans.{◌>>=◌}
+use Rattle.number.specs.Answer.{answer_by}
+use Rattle.number.proofs.Walk.{via, handed_on}
+use Rattle.saftvrmie_dispersion.specs.Answer.{terms_by}
+use Rattle.saftvrmie_energies.specs.Dispersion.{disp_row}
 use Rattle.saftvrmie_energies.proofs.disp_row.Goals as goal
 
 pub returns-in_err-t : goal.returns-in_err-t
 unfolding disp_row ◌>>=◌
-returns-in_err-t c = search rules
+returns-in_err-t g c w = rw (handed_on _ c.from_residual.ensures, via (answer_by (terms_by (g.D.DualNum.of w))) (rw (c.entered.ensures w) at (c.pair_terms.ensures w)) c.in_err-t.was)
 
 pub returns : goal.returns
 unfolding disp_row ◌>>=◌
-returns c = rw (
-  c.pair_row.ensures,
-  c.add_pure-next.ensures,
-  via terms_answer c.pair_terms.ensures c.in_ok-t.was,
-)
+returns g c w = rw (via (answer_by (terms_by (g.D.DualNum.of w))) (rw (c.entered.ensures w) at (c.pair_terms.ensures w)) c.in_ok-t.was, c.pair_row.ensures w, c.add_pure-next.ensures w, c.component.ensures w)

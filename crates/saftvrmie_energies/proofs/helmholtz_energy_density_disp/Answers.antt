@@ -1,27 +1,23 @@
 -- `saftvrmie_energies::helmholtz_energy_density_disp` meets its contract. Assumes nothing.
+use mathlib.Core.Bool.{true}
 use lib.Ieee.{of_bits}
 use Rattle.number.specs.Arith.{decimal}
-use Rattle.number.proofs.Walk.{via, handed_on}
-use Rattle.saftvrmie_dispersion.specs.Answer.{sums_answer}
-use Rattle.saftvrmie_energies.proofs.Laws.{properties_held, properties_refused, k_some, k_none}
-use Rattle.saftvrmie_energies.specs.Dispersion.{dispersion}
 use Rattle.number.specs.Ans.{◌>>=◌}
+use Rattle.number.specs.Answer.{answer_by}
+use Rattle.number.proofs.Walk.{via, handed_on}
+use Rattle.saftvrmie_dispersion.specs.Answer.{sums_by}
+use Rattle.saftvrmie_energies.specs.Reads.{properties_by}
+use Rattle.saftvrmie_energies.specs.Dispersion.{dispersion}
 use Rattle.saftvrmie_energies.proofs.helmholtz_energy_density_disp.Goals as goal
 
-pub returns-in_err-k_inside : goal.returns-in_err-k_inside
+pub returns-in_err-q : goal.returns-in_err-q
 unfolding dispersion ◌>>=◌ decimal of_bits
-returns-in_err-k_inside c = rw (handed_on _ c.from_residual.ensures, ← c.weighted-mean.ensures, ← c.xs_of-xs.ensures, properties_refused _ _ _ _ _ _ _ c.properties_of-q.ensures _ (k_none _ _ c.k_inside.ensures _ c.in_err-k_inside.was))
-
-pub disp_rows-requires : goal.disp_rows-requires
-disp_rows-requires c = (c.requires.0, c.requires.3)
+returns-in_err-q c = rw (handed_on _ c.from_residual.ensures, ← c.weighted-mean.ensures true, ← c.xs_of-xs.ensures true, via (answer_by (properties_by (λ x. x))) (c.properties_of.ensures true) c.in_err-q.was)
 
 pub returns-in_err-a : goal.returns-in_err-a
 unfolding dispersion ◌>>=◌ decimal of_bits
-returns-in_err-a c = let k = k_some _ _ c.k_inside.ensures c.in_ok-k_inside.was in rw (handed_on _ c.from_residual-in_err-a.ensures, ← c.weighted-mean.ensures, ← c.xs_of-xs.ensures, properties_held _ _ _ _ _ _ _ c.properties_of-q.ensures k.0 k.1, ← c.k_hs-k_hs.ensures, ← c.fluid_of-w.ensures, ← c.bar_of-bar.ensures, via sums_answer c.disp_rows.ensures c.in_err-a.was)
-
-pub total-requires : goal.total-requires
-total-requires c = c.requires.2
+returns-in_err-a c = rw (handed_on _ c.from_residual-in_err-a.ensures, ← c.weighted-mean.ensures true, ← c.xs_of-xs.ensures true, via (answer_by (properties_by (λ x. x))) (c.properties_of.ensures true) c.in_ok-q.was, ← c.k_hs-k_hs.ensures true, ← c.fluid_of-fluid.ensures true, ← c.bar_of-bar.ensures true, via (answer_by (sums_by (λ x. x))) (c.disp_rows.ensures true) c.in_err-a.was)
 
 pub returns : goal.returns
 unfolding dispersion ◌>>=◌ decimal of_bits
-returns c = let k = k_some _ _ c.k_inside.ensures c.in_ok-k_inside.was in rw (← c.weighted-mean.ensures, ← c.xs_of-xs.ensures, properties_held _ _ _ _ _ _ _ c.properties_of-q.ensures k.0 k.1, ← c.k_hs-k_hs.ensures, ← c.fluid_of-w.ensures, ← c.bar_of-bar.ensures, via sums_answer c.disp_rows.ensures c.in_ok-a.was, c.total.ensures, c.orders_sum-orders.ensures)
+returns c = rw (← c.weighted-mean.ensures true, ← c.xs_of-xs.ensures true, via (answer_by (properties_by (λ x. x))) (c.properties_of.ensures true) c.in_ok-q.was, ← c.k_hs-k_hs.ensures true, ← c.fluid_of-fluid.ensures true, ← c.bar_of-bar.ensures true, via (answer_by (sums_by (λ x. x))) (c.disp_rows.ensures true) c.in_ok-a.was, c.after_ks.ensures true, c.total.ensures true, c.orders_sum-orders.ensures true)

@@ -4,5 +4,6 @@ use Rattle.saftvrmie_energies.proofs.s3_ij.Goals as goal
 
 pub returns : goal.returns
 unfolding s3_ij
-returns c = rw
-    c.pow_up.ensures
+returns g c w =
+    let m = g.met.D.DualNum in
+    rw (m.plain_pow_law w _ _ 3 c.cube.ensures, m.plain_lit_law w _ _ c.lit.ensures)

@@ -1,17 +1,20 @@
 -- `saftvrmie_energies::xs_of` meets its contract. Assumes nothing.
+use mathlib.Core.Path.{◌∙◌}
 use borrow.Author.Rules.{rules}
-use mathlib.Core.Path.{refl}
 use Rattle.number.proofs.Walk.{turns_none, turns_next, turns_end}
 use Rattle.mie_parameters.specs.Places.{in_places}
 use Rattle.saftvrmie_energies.specs.Properties.{xs_of}
+use Rattle.saftvrmie_energies.proofs.Lists.{map_set, map_replicate}
 use Rattle.saftvrmie_energies.proofs.xs_of.Goals as goal
 
 pub loop-i-init : goal.loop-i-init
-loop-i-init c = (search rules, turns_none _ _)
+loop-i-init g c = (search rules, λ w. rw (map_replicate, c.entered-zero.ensures w) (turns_none _ _))
 
 pub loop-i-preserved : goal.loop-i-preserved
-loop-i-preserved c = (search rules, turns_next _ _ _ _ _ c.loop-i.invariant.1 (refl))
+loop-i-preserved g c =
+    let m = g.met.D.DualNum in
+    (search rules, λ w. turns_next _ _ _ _ _ (c.loop-i.invariant.1 w) (rw (map_set, m.div_law w _ _ _ c.div-p.ensures, m.mul_plain_law w _ _ _ c.mul.ensures, m.plain_lit_law w _ _ c.lit.ensures, c.entered.ensures w)))
 
 pub returns : goal.returns
 unfolding xs_of in_places
-returns c = turns_end _ _ _ _ _ c.loop-i.invariant.0 c.loop-i-test.false c.loop-i.invariant.1
+returns g c w = turns_end _ _ _ _ _ c.loop-i.invariant.0 c.loop-i-test.false (c.loop-i.invariant.1 w)

@@ -1,7 +1,7 @@
 -- `saftvrmie_energies_ends::chain_rows` meets its contract. Assumes nothing.
 use native.Mathlib.Omega.{arith}
 use Rattle.number.proofs.Walk.{via, walk_none, walk_next, walk_stop, walk_end, handed_on}
-use Rattle.saftvrmie_dispersion_ends.specs.Answer.{sums_answer}
+use Rattle.saftvrmie_dispersion.specs.Answer.{sums_answer}
 use Rattle.saftvrmie_energies.specs.Dispersion.{chain_rows}
 use borrow.Author.Rules.{rules}
 use Rattle.saftvrmie_energies_ends.proofs.chain_rows.Goals as goal

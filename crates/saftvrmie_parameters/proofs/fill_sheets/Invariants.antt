@@ -1,14 +1,13 @@
 -- `saftvrmie_parameters::fill_sheets` meets its contract. Assumes nothing.
-use Rattle.saftvrmie_parameters.specs.Parameters.{sheets_row}
+use Rattle.saftvrmie_parameters.specs.Parameters.{lists_of, sheets_row_in}
 use Prim.Native.Nat.{◌≤◌, ◌-◌}
 use mathlib.Core.Path.{◌≡◌}
 use Rattle.number.specs.Ans.{held}
 use Rattle.number.specs.Walk.{walk}
-use Rattle.limits.specs.Limits.{square, components}
 use Rattle.saftvrmie_parameters.proofs.fill_sheets.Given as goal
 
 abbrev pub invariant-loop-i : goal.invariant-loop-i
-invariant-loop-i l = (l.i ≤ l.n) × (held l.s ≡ walk l.i (sheets_row l.n (components l.sigma l.epsilon_k l.lr l.la) (square l.n l.k_ij) (square l.n l.gamma_ij)) l.initial.s)
+invariant-loop-i l = (l.i ≤ l.l.count) × (held l.s ≡ walk l.i (sheets_row_in (lists_of l.l)) l.initial.s)
 
 abbrev pub decreases-loop-i : goal.decreases-loop-i
-decreases-loop-i l = l.n - l.i
+decreases-loop-i l = l.l.count - l.i

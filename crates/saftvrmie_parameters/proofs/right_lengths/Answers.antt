@@ -10,7 +10,7 @@ unfolding right_lengths
 returns-then-not-count_within c = rw (told c.count_within.ensures c.if-not-count_within.true)
 
 pub overflow_mul-square : goal.overflow_mul-square
-overflow_mul-square c = omega (arith, count_square c.args.count (told c.count_within.ensures c.if-not-count_within.false))
+overflow_mul-square c = omega (arith, count_square c.args.l.now.count (told c.count_within.ensures c.if-not-count_within.false))
 
 pub returns : goal.returns
 unfolding right_lengths

@@ -1,12 +1,25 @@
 -- `saftvrqmie_alone_ends::u_after` meets its contract. Assumes nothing.
-use Rattle.saftvrqmie_alone_ends.proofs.Ways.{worked_alone}
+use mathlib.Core.Bool.{true}
+use Rattle.number.specs.Ans.{◌>>=◌}
+use Rattle.number.specs.Answer.{answer_by}
+use Rattle.number.proofs.Walk.{via, handed_on}
+use Rattle.saftvrqmie_potential.specs.Potential.{potential_by}
+use Rattle.saftvrqmie_alone_ends.specs.Alone.{u_after}
+use Rattle.saftvrqmie_alone_ends.proofs.Derivatives.{alone_is}
 use Rattle.saftvrqmie_alone_ends.proofs.u_after.Goals as goal
 
-pub returns-then-not-x-base_inside : goal.returns-then-not-x-base_inside
-returns-then-not-x-base_inside c = λ s e. c.u_whole.ensures s
+pub returns-then-tame-above_one : goal.returns-then-tame-above_one
+returns-then-tame-above_one c = λ p h e. alone_is h c.args.r e c.above_one.ensures c.if-tame-above_one.true (c.u_at.ensures true p h)
 
-pub returns-then-l : goal.returns-then-l
-returns-then-l c = λ s e. c.u_whole-then-l.ensures s
+pub returns-in_err-v : goal.returns-in_err-v
+unfolding u_after ◌>>=◌
+returns-in_err-v c = λ p h e. rw (handed_on _ c.from_residual.ensures, via (answer_by (potential_by (λ x. x))) (c.potential_at.ensures p h) c.in_err-v.was)
 
 pub returns : goal.returns
-returns c = λ s e. worked_alone _ _ _ _ _ s e c.base_inside.ensures c.if-not-x-base_inside.false c.log_base-l.ensures c.if-l.false _ _ _ c.u_alone.ensures c.sound.ensures c.after.ensures
+unfolding u_after ◌>>=◌
+returns c =
+    λ p h e. rw (
+      c.after-2.ensures,
+      c.after.ensures,
+      via (answer_by (potential_by (λ x. x))) (c.potential_at.ensures p h) c.in_ok-v.was,
+    )

@@ -1,20 +1,47 @@
 -- `saftvrqmie_diameter_ends::hs_diameter` meets its contract. Assumes nothing.
-use Rattle.number.proofs.Walk.{handed_on}
-use mathlib.Core.Path.{ap, ◌∙◌, subst}
-use Rattle.enclosure.specs.Enclosure.{enclosures}
-use Rattle.number.specs.Functions.{calls}
-use Rattle.elementary.specs.Port.{port}
-use Rattle.saftvrqmie_searches.specs.Diameter.{diameter_by, diameter}
-use Rattle.saftvrqmie_potential_ends.specs.Shared.{Shares}
-use Rattle.saftvrqmie_potential.specs.Potential.{potential}
-use Rattle.saftvrqmie_potential_ends.specs.Pair.{pair_in}
-use Rattle.saftvrqmie_diameter_ends.proofs.Nodes.{diameter_none}
-use Rattle.saftvrqmie_potential_ends.specs.declared.PairEnclosures.{PairEnclosures}
+use lib.Ieee.{of_bits}
+use mathlib.Core.Bool.{true}
+use mathlib.Core.Path.{subst}
+use Rattle.number.specs.Ans.{◌>>=◌}
+use Rattle.number.specs.Arith.{decimal}
+use Rattle.number.specs.Answer.{answer}
+use Rattle.number.proofs.Walk.{via, walk_none, walk_next, walk_stop, walk_end, handed_on}
+use Rattle.saftvrqmie_potential.specs.Potential.{pair_of}
+use Rattle.saftvrqmie_searches.specs.Diameter.{diameter, diameter_by}
+use Rattle.saftvrqmie_alone_ends.specs.Alone.{EnclosureShares}
+use Rattle.saftvrqmie_diameter_ends.proofs.Nodes.{diameter_none, turn_is, width_worked}
+use borrow.Author.Rules.{rules}
 use Rattle.saftvrqmie_diameter_ends.proofs.hs_diameter.Goals as goal
 
-pub returns-in_err-w : goal.returns-in_err-w
-returns-in_err-w c = rw (handed_on _ c.from_residual.ensures) (diameter_none _ _ _ _ (subst (Shares c.args.p) c.in_err-w.was c.share.ensures))
+pub returns-in_err-s : goal.returns-in_err-s
+returns-in_err-s c = rw (handed_on _ c.from_residual.ensures) (diameter_none _ _ _ _ (subst (EnclosureShares (pair_of c.args.p)) c.in_err-s.was (c.share.ensures true)))
+
+pub loop-k-init : goal.loop-k-init
+loop-k-init c = (search rules, walk_none _ _)
+
+pub returns-in_err-u : goal.returns-in_err-u
+unfolding diameter diameter_by decimal of_bits ◌>>=◌
+returns-in_err-u c =
+    let u = c.u_after.ensures _ (subst (EnclosureShares (pair_of c.args.p)) c.in_ok-s.was (c.share.ensures true)) c.is_tame-tame.ensures in
+    rw (handed_on _ c.from_residual-in_err-u.ensures) (walk_stop _ _ _ _ _ _ c.loop-k-test.true c.loop-k.invariant.1 (turn_is _ _ _ _ _ _ _ (width_worked _ _ _ _ _ c.point-half.ensures c.sub.ensures c.mul-width.ensures)
+    (rw (← c.abscissa.ensures, ← c.mul.ensures, ← c.add.ensures, ← c.add-r.ensures, via answer u c.in_err-u.was))))
+
+pub returns-in_err-e : goal.returns-in_err-e
+unfolding diameter diameter_by decimal of_bits ◌>>=◌
+returns-in_err-e c =
+    let u = c.u_after.ensures _ (subst (EnclosureShares (pair_of c.args.p)) c.in_ok-s.was (c.share.ensures true)) c.is_tame-tame.ensures in
+    rw (handed_on _ c.from_residual-in_err-e.ensures) (walk_stop _ _ _ _ _ _ c.loop-k-test.true c.loop-k.invariant.1 (turn_is _ _ _ _ _ _ _ (width_worked _ _ _ _ _ c.point-half.ensures c.sub.ensures c.mul-width.ensures)
+    (rw (← c.abscissa.ensures, ← c.mul.ensures, ← c.add.ensures, ← c.add-r.ensures, via answer u c.in_ok-u.was, ← c.neg.ensures, ← c.div.ensures, via answer c.exp.ensures c.in_err-e.was))))
+
+pub loop-k-preserved : goal.loop-k-preserved
+unfolding decimal of_bits ◌>>=◌
+loop-k-preserved c =
+    let u = c.u_after.ensures _ (subst (EnclosureShares (pair_of c.args.p)) c.in_ok-s.was (c.share.ensures true)) c.is_tame-tame.ensures in (
+      search rules,
+      walk_next _ _ _ _ _ c.loop-k.invariant.1 (turn_is _ _ _ _ _ _ _ (width_worked _ _ _ _ _ c.point-half.ensures c.sub.ensures c.mul-width.ensures)
+          (rw (← c.abscissa.ensures, ← c.mul.ensures, ← c.add.ensures, ← c.add-r.ensures, via answer u c.in_ok-u.was, ← c.neg.ensures, ← c.div.ensures, via answer c.exp.ensures c.in_ok-e.was, ← c.point-one.ensures, ← c.neg-in-loop-k.ensures, ← c.add-f_u.ensures, ← c.mul-in-loop-k.ensures, ← c.weight.ensures, ← c.mul-part.ensures, ← c.add-d_hs.ensures))),
+    )
 
 pub returns : goal.returns
-unfolding diameter
-returns c = let h = subst (Shares c.args.p) c.in_ok-w.was c.share.ensures in c.diameter_by.ensures h.1 ∙ ap (λ (q : PairEnclosures). diameter_by enclosures (calls enclosures port) (potential enclosures (calls enclosures port) (pair_in q)) c.args.p.temperature c.args.sigma_eff c.args.r0) h.0
+unfolding diameter diameter_by
+returns c = walk_end _ _ _ _ _ c.loop-k.invariant.0 c.loop-k-test.false c.loop-k.invariant.1

@@ -1,4 +1,5 @@
 -- `saftvrqmie_diameter_ends::hs_diameter_ij_ends` meets its contract. Assumes nothing.
+use mathlib.Core.Bool.{true}
 use Rattle.elementary.specs.Port.{port}
 use Rattle.number.proofs.Walk.{told}
 use Rattle.saftvrqmie_diameter_ends.proofs.Encloses.{ends_1, ends_2, ends_on}
@@ -22,4 +23,4 @@ pub pair_at-pair-requires : goal.pair_at-pair-requires
 pair_at-pair-requires c = let h = inside _ _ _ (told c.index_within.ensures c.if-not-index_within.false) in omega (arith, h.high, h.row, h.column)
 
 pub returns : goal.returns
-returns c = ends_on port _ _ _ _ _ _ (told c.index_within.ensures c.if-not-index_within.false) (told c.temperature_within.ensures c.if-not-temperature_within.false) _ _ _ _ _ c.pair_at-pair.ensures c.point-s.ensures c.point-r.ensures c.hs_diameter.ensures c.ends_of.ensures
+returns c = ends_on port _ _ _ _ _ _ (told c.index_within.ensures c.if-not-index_within.false) (told c.temperature_within.ensures c.if-not-temperature_within.false) _ _ _ _ _ _ _ c.point-t.ensures c.pair_at-pair.ensures (c.points.ensures true) c.point-s.ensures c.point-r.ensures c.hs_diameter.ensures c.ends_of.ensures

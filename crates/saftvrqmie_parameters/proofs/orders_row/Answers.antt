@@ -9,7 +9,7 @@ loop-j-init c = (search rules, turns_none _ _)
 
 pub loop-j-preserved : goal.loop-j-preserved
 unfolding orders_turn
-loop-j-preserved c = (search rules, turns_next _ _ _ _ _ c.loop-j.invariant.1 (rw (c.order_of-order.ensures, c.larger.ensures)))
+loop-j-preserved c = (search rules, turns_next _ _ _ _ _ c.loop-j.invariant.1 (rw (c.from-order.ensures, c.max.ensures)))
 
 pub returns : goal.returns
 unfolding orders_row

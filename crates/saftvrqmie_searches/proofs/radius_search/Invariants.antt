@@ -4,7 +4,8 @@ use mathlib.Core.Bool.{false}
 use Rattle.number.specs.Ans.{held}
 use Rattle.saftvrqmie_potential.specs.Potential.{PairIn, PotentialIn, potential}
 use Rattle.saftvrqmie_potential.specs.Shared.{Sharing}
-use Rattle.saftvrqmie_searches.specs.Searches.{Tests, Moves, searched}
+use Rattle.saftvrqmie_searches.specs.Searches.{searched}
+use Rattle.saftvrqmie_searches.specs.Steps.{Tests, Moves}
 use Rattle.saftvrqmie_searches.proofs.Loops.{On}
 use Rattle.saftvrqmie_searches.proofs.radius_search.Given as goal
 

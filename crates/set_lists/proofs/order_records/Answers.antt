@@ -8,7 +8,7 @@ pub loop-e-init : goal.loop-e-init
 loop-e-init c = (search rules, turns_none _ _)
 
 pub loop-e-preserved : goal.loop-e-preserved
-loop-e-preserved c = (search rules, turns_next _ _ _ _ _ c.loop-e.invariant.1 (rw c.order_of-order.ensures))
+loop-e-preserved c = (search rules, turns_next _ _ _ _ _ c.loop-e.invariant.1 (rw c.from-order.ensures))
 
 pub returns : goal.returns
 unfolding orders_read

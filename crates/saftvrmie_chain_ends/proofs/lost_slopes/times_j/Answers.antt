@@ -7,7 +7,7 @@ use Rattle.saftvrmie_chain_ends.proofs.Lost.{lost_eps}
 use mathlib.Core.Path.{ap, ◌∙◌}
 use Rattle.enclosure.specs.Enclosure.{neg_e}
 use Rattle.saftvrmie_chain_ends.specs.Slope.{j_slope, quotient_slope}
-use Rattle.saftvrmie_dispersion_ends.specs.Shared.{j_by}
+use Rattle.saftvrmie_dispersion.specs.Shared.{j_by}
 use Rattle.saftvrmie_chain_ends.proofs.lost_slopes.times_j.Goals as goal
 
 pub returns-then-is_lost-is_tiny : goal.returns-then-is_lost-is_tiny

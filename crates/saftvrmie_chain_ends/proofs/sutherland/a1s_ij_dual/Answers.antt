@@ -1,7 +1,7 @@
 -- `saftvrmie_chain_ends::sutherland::a1s_ij_dual` meets its contract. Assumes nothing.
 use Rattle.number.specs.Arith.{decimal}
 use lib.Ieee.{of_bits}
-use Rattle.saftvrmie_dispersion_ends.specs.Shared.{a1s_by}
+use Rattle.saftvrmie_dispersion.specs.Shared.{a1s_by}
 use Rattle.saftvrmie_chain_ends.proofs.Sums.{quotient_of}
 use Rattle.saftvrmie_chain_ends.proofs.sutherland.a1s_ij_dual.Goals as goal
 

@@ -1,7 +1,7 @@
 -- `saftvrmie_chain_ends::sutherland::a1s_under` meets its contract. Assumes nothing.
 use lib.Ieee.{of_bits, of_int}
 use Rattle.number.specs.Arith.{decimal}
-use Rattle.saftvrmie_dispersion_ends.proofs.Shared.{square_is, cube_is}
+use Rattle.saftvrmie_chain_ends.proofs.Powers.{square_is, cube_is}
 use Rattle.dual.specs.Dual.{mul_d, pow_d, plain_d}
 use Rattle.enclosure_dual.specs.Value.{dual_of}
 use Rattle.saftvrmie_chain_ends.proofs.sutherland.a1s_under.Goals as goal

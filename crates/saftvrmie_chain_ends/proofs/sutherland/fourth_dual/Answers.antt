@@ -3,8 +3,7 @@ use Rattle.number.specs.Arith.{decimal}
 use lib.Ieee.{of_bits, of_int}
 use Rattle.dual.specs.Dual.{pow_d}
 use Rattle.enclosure_dual.specs.Value.{dual_of}
-use Rattle.saftvrmie_dispersion_ends.proofs.Shared.{cube_is}
-use Rattle.saftvrmie_chain_ends.proofs.Powers.{fourth_is}
+use Rattle.saftvrmie_chain_ends.proofs.Powers.{cube_is, fourth_is}
 use Rattle.saftvrmie_chain_ends.proofs.sutherland.fourth_dual.Goals as goal
 
 pub returns : goal.returns

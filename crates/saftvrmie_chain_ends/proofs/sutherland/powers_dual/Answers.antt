@@ -3,8 +3,7 @@ use Rattle.number.specs.Arith.{decimal}
 use lib.Ieee.{of_bits, of_int}
 use Rattle.dual.specs.Dual.{pow_d}
 use Rattle.enclosure_dual.specs.Value.{dual_of}
-use Rattle.saftvrmie_dispersion_ends.proofs.Shared.{square_is, cube_is}
-use Rattle.saftvrmie_chain_ends.proofs.Powers.{itself_is, fourth_is}
+use Rattle.saftvrmie_chain_ends.proofs.Powers.{square_is, cube_is, itself_is, fourth_is}
 use Rattle.saftvrmie_chain_ends.proofs.sutherland.powers_dual.Goals as goal
 
 pub returns : goal.returns

@@ -1,6 +1,6 @@
 -- `saftvrmie_chain_ends::sutherland::zeta_eff_dual` meets its contract. Assumes nothing.
 use Rattle.dual.specs.Dual.{mul_d, add_d, plain_d}
-use Rattle.saftvrmie_dispersion_ends.specs.Shared.{zeta_eff_by}
+use Rattle.saftvrmie_dispersion.specs.Shared.{zeta_eff_by}
 use Rattle.enclosure_dual.specs.Value.{dual_of}
 use Rattle.saftvrmie_chain_ends.proofs.sutherland.zeta_eff_dual.Goals as goal
 

@@ -1,6 +1,6 @@
 -- `saftvrmie_dispersion::chain::link_term` meets its contract. Assumes nothing.
-use Rattle.std.proofs.Common.{rules}
-use Rattle.number.proofs.Walk.{via}
+use mathlib.Core.Bool.{true}
+use Rattle.number.proofs.Walk.{via, handed_on}
 use lib.Ieee.{of_bits}
 use Rattle.number.specs.Arith.{decimal}
 use Rattle.number.specs.Answer.{answer}
@@ -9,23 +9,38 @@ use Rattle.number.specs.Ans.{◌>>=◌}
 use Rattle.saftvrmie_dispersion.proofs.chain.link_term.Goals as goal
 
 pub returns-in_err-g : goal.returns-in_err-g
-unfolding link_of ◌>>=◌ decimal of_bits
-returns-in_err-g c = search rules
+unfolding link_of ◌>>=◌
+returns-in_err-g c = rw (handed_on _ c.from_residual.ensures, ← c.x0_of.ensures true, via answer c.g_hs.ensures c.in_err-g.was)
 
 pub returns-in_err-gamma : goal.returns-in_err-gamma
-unfolding link_of ◌>>=◌ decimal of_bits
-returns-in_err-gamma c = search rules
+unfolding link_of ◌>>=◌
+returns-in_err-gamma c = rw (
+  handed_on _ c.from_residual-in_err-gamma.ensures,
+  ← c.x0_of.ensures true,
+  via answer c.g_hs.ensures c.in_ok-g.was,
+  via answer c.gamma.ensures c.in_err-gamma.was,
+)
 
 pub returns-in_err-ln_g : goal.returns-in_err-ln_g
 unfolding link_of ◌>>=◌ decimal of_bits
-returns-in_err-ln_g c = search rules
+returns-in_err-ln_g c = rw (
+  handed_on _ c.from_residual-in_err-ln_g.ensures,
+  ← c.pow_up.ensures,
+  ← c.link_pref-pref.ensures,
+  ← c.x0_of.ensures true,
+  via answer c.g_hs.ensures c.in_ok-g.was,
+  via answer c.gamma.ensures c.in_ok-gamma.was,
+  ← c.g2_mca.ensures,
+  ← c.g1.ensures,
+  via answer c.ln_g_mie.ensures c.in_err-ln_g.was,
+)
 
 pub returns : goal.returns
 unfolding link_of ◌>>=◌ decimal of_bits
 returns c = rw (
   ← c.pow_up.ensures,
   ← c.link_pref-pref.ensures,
-  ← c.x0_of.ensures,
+  ← c.x0_of.ensures true,
   via answer c.g_hs.ensures c.in_ok-g.was,
   via answer c.gamma.ensures c.in_ok-gamma.was,
   ← c.g2_mca.ensures,

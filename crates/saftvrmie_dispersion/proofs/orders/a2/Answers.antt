@@ -1,10 +1,22 @@
 -- `saftvrmie_dispersion::orders::a2` meets its contract. Assumes nothing.
-use mathlib.Core.Path.{refl}
-use lib.Ieee.{of_bits}
+use lib.Ieee.{of_bits, neg}
 use Rattle.number.specs.Arith.{decimal}
 use Rattle.saftvrmie_dispersion.specs.Terms.{a2_of}
 use Rattle.saftvrmie_dispersion.proofs.orders.a2.Goals as goal
 
 pub returns : goal.returns
-unfolding a2_of decimal of_bits
-returns c = refl
+unfolding a2_of decimal of_bits neg
+returns g c w =
+    let m = g.met.D.DualNum in
+    rw (
+      m.mul_law w _ _ _ c.mul-6.ensures,
+      m.add_law w _ _ _ c.add.ensures,
+      m.sub_law w _ _ _ c.sub.ensures,
+      m.mul_plain_law w _ _ _ c.mul-5.ensures,
+      m.mul_plain_law w _ _ _ c.mul-4.ensures,
+      m.mul_law w _ _ _ c.mul-3.ensures,
+      m.mul_plain_law w _ _ _ c.mul-2.ensures,
+      m.mul_plain_law w _ _ _ c.mul.ensures,
+      m.plain_lit_law w _ _ c.lit-two.ensures,
+      m.plain_lit_law w _ _ c.lit-half.ensures,
+    )

@@ -1,17 +1,70 @@
 -- `saftvrmie_dispersion::sutherland::five_sums` meets its contract. Assumes nothing.
-use Rattle.saftvrmie_dispersion.proofs.Staged.{turn_refused, turn_held, all_summed, sum_refused}
-use Rattle.number.proofs.Walk.{walk_none, walk_next, walk_stop, walk_end}
-use borrow.Author.Rules.{rules}
+use lib.Ieee.{of_bits}
+use Rattle.number.specs.Ans.{◌>>=◌}
+use Rattle.number.specs.Answer.{answer_by}
+use Rattle.number.specs.Arith.{decimal}
+use Rattle.number.proofs.Walk.{via, handed_on}
+use Rattle.saftvrmie_dispersion.specs.Terms.{five}
 use Rattle.saftvrmie_dispersion.proofs.sutherland.five_sums.Goals as goal
 
-pub loop-k-init : goal.loop-k-init
-loop-k-init c = (search rules, search rules, walk_none _ _)
+pub returns-in_err-at_la : goal.returns-in_err-at_la
+unfolding five ◌>>=◌ decimal of_bits
+returns-in_err-at_la g c w =
+    let m = g.met.D.DualNum in
+    let of = answer_by (g.D.DualNum.of w) in
+    let q1 = via of (c.a1s_b_ij.ensures w) c.in_err-at_la.was in
+    rw (handed_on _ c.from_residual.ensures, ← c.base-base.ensures w, q1)
 
-pub returns-then-not-lambda_inside : goal.returns-then-not-lambda_inside
-returns-then-not-lambda_inside c = sum_refused _ _ _ _ (walk_stop _ _ 5 _ _ _ c.loop-k-test.true c.loop-k.invariant.2 (turn_refused _ _ _ _ c.loop-k.k c.loop-k.s _ _ (c.lambdas-y.ensures) c.lambda_inside.ensures c.if-not-lambda_inside.true))
+pub returns-in_err-at_lr : goal.returns-in_err-at_lr
+unfolding five ◌>>=◌ decimal of_bits
+returns-in_err-at_lr g c w =
+    let m = g.met.D.DualNum in
+    let of = answer_by (g.D.DualNum.of w) in
+    let q1 = via of (c.a1s_b_ij.ensures w) c.in_ok-at_la.was in
+    let q2 = via of (c.a1s_b_ij-2.ensures w) c.in_err-at_lr.was in
+    rw (handed_on _ c.from_residual-in_err-at_lr.ensures, ← c.base-base.ensures w, q1, q2)
 
-pub loop-k-preserved : goal.loop-k-preserved
-loop-k-preserved c = (search rules, search rules, walk_next _ _ _ _ _ c.loop-k.invariant.2 (turn_held _ _ _ _ c.loop-k.k c.loop-k.s _ _ (c.lambdas-y.ensures) c.lambda_inside.ensures _ c.if-not-lambda_inside.false c.a1s_b_ij.ensures))
+pub returns-in_err-at_2la : goal.returns-in_err-at_2la
+unfolding five ◌>>=◌ decimal of_bits
+returns-in_err-at_2la g c w =
+    let m = g.met.D.DualNum in
+    let of = answer_by (g.D.DualNum.of w) in
+    let q1 = via of (c.a1s_b_ij.ensures w) c.in_ok-at_la.was in
+    let q2 = via of (c.a1s_b_ij-2.ensures w) c.in_ok-at_lr.was in
+    let q3 = rw (m.plain_mul_law w _ _ _ c.mul.ensures, m.plain_lit_law w _ _ c.lit-two.ensures) at (via of (c.a1s_b_ij-3.ensures w) c.in_err-at_2la.was) in
+    rw (handed_on _ c.from_residual-in_err-at_2la.ensures, ← c.base-base.ensures w, q1, q2, q3)
+
+pub returns-in_err-at_lalr : goal.returns-in_err-at_lalr
+unfolding five ◌>>=◌ decimal of_bits
+returns-in_err-at_lalr g c w =
+    let m = g.met.D.DualNum in
+    let of = answer_by (g.D.DualNum.of w) in
+    let q1 = via of (c.a1s_b_ij.ensures w) c.in_ok-at_la.was in
+    let q2 = via of (c.a1s_b_ij-2.ensures w) c.in_ok-at_lr.was in
+    let q3 = rw (m.plain_mul_law w _ _ _ c.mul.ensures, m.plain_lit_law w _ _ c.lit-two.ensures) at (via of (c.a1s_b_ij-3.ensures w) c.in_ok-at_2la.was) in
+    let q4 = rw (m.plain_add_law w _ _ _ c.add.ensures) at (via of (c.a1s_b_ij-4.ensures w) c.in_err-at_lalr.was) in
+    rw (handed_on _ c.from_residual-in_err-at_lalr.ensures, ← c.base-base.ensures w, q1, q2, q3, q4)
+
+pub returns-in_err-at_2lr : goal.returns-in_err-at_2lr
+unfolding five ◌>>=◌ decimal of_bits
+returns-in_err-at_2lr g c w =
+    let m = g.met.D.DualNum in
+    let of = answer_by (g.D.DualNum.of w) in
+    let q1 = via of (c.a1s_b_ij.ensures w) c.in_ok-at_la.was in
+    let q2 = via of (c.a1s_b_ij-2.ensures w) c.in_ok-at_lr.was in
+    let q3 = rw (m.plain_mul_law w _ _ _ c.mul.ensures, m.plain_lit_law w _ _ c.lit-two.ensures) at (via of (c.a1s_b_ij-3.ensures w) c.in_ok-at_2la.was) in
+    let q4 = rw (m.plain_add_law w _ _ _ c.add.ensures) at (via of (c.a1s_b_ij-4.ensures w) c.in_ok-at_lalr.was) in
+    let q5 = rw (m.plain_mul_law w _ _ _ c.mul-2.ensures, m.plain_lit_law w _ _ c.lit-two.ensures) at (via of (c.a1s_b_ij-5.ensures w) c.in_err-at_2lr.was) in
+    rw (handed_on _ c.from_residual-in_err-at_2lr.ensures, ← c.base-base.ensures w, q1, q2, q3, q4, q5)
 
 pub returns : goal.returns
-returns c = all_summed _ _ _ _ _ (walk_end _ _ 5 _ _ c.loop-k.invariant.0 c.loop-k-test.false c.loop-k.invariant.2)
+unfolding five ◌>>=◌ decimal of_bits
+returns g c w =
+    let m = g.met.D.DualNum in
+    let of = answer_by (g.D.DualNum.of w) in
+    let q1 = via of (c.a1s_b_ij.ensures w) c.in_ok-at_la.was in
+    let q2 = via of (c.a1s_b_ij-2.ensures w) c.in_ok-at_lr.was in
+    let q3 = rw (m.plain_mul_law w _ _ _ c.mul.ensures, m.plain_lit_law w _ _ c.lit-two.ensures) at (via of (c.a1s_b_ij-3.ensures w) c.in_ok-at_2la.was) in
+    let q4 = rw (m.plain_add_law w _ _ _ c.add.ensures) at (via of (c.a1s_b_ij-4.ensures w) c.in_ok-at_lalr.was) in
+    let q5 = rw (m.plain_mul_law w _ _ _ c.mul-2.ensures, m.plain_lit_law w _ _ c.lit-two.ensures) at (via of (c.a1s_b_ij-5.ensures w) c.in_ok-at_2lr.was) in
+    rw (← c.base-base.ensures w, q1, q2, q3, q4, q5)

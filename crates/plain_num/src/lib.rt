@@ -1,0 +1,72 @@
+// The numbers of a run without slopes: floats, enclosures. What the Rust has as D and what it has as f64 are the same there.
+#![tactic(auto)]
+
+ghost use Rattle.std.specs.Prelude.{◌≡◌, Bool};
+ghost use Rattle.number.specs.Answer.{answer_by};
+
+use dual_num::DualNum;
+use enclosure::Enclosure;
+use number::Refusal;
+
+pub trait PlainNum: DualNum {
+    // An input.
+    fn entered(x: f64) -> Self
+        ensures { (w : Bool) → Self.of w result ≡ (Self.beside w).lit x };
+
+    // The float run's value: what branches look at.
+    fn value(self) -> f64
+        ensures { (w : Bool) → result ≡ (Self.beside w).val (Self.of w self) };
+
+    fn ln(self) -> Result<Self, Refusal>
+        ensures { (w : Bool) → answer_by (Self.of w) result ≡ (Self.functions w).ln (Self.of w self) };
+
+    fn exp_m1(self) -> Result<Self, Refusal>
+        ensures { (w : Bool) → answer_by (Self.of w) result ≡ (Self.functions w).expm1 (Self.of w self) };
+
+    fn tanh(self) -> Result<Self, Refusal>
+        ensures { (w : Bool) → answer_by (Self.of w) result ≡ (Self.functions w).tanh (Self.of w self) };
+}
+
+impl PlainNum for f64 {
+    fn entered(x: f64) -> f64 {
+        x
+    }
+
+    fn value(self) -> f64 {
+        self
+    }
+
+    fn ln(self) -> Result<f64, Refusal> {
+        elementary::ln(self)
+    }
+
+    fn exp_m1(self) -> Result<f64, Refusal> {
+        elementary::exp_m1(self)
+    }
+
+    fn tanh(self) -> Result<f64, Refusal> {
+        elementary::tanh(self)
+    }
+}
+
+impl PlainNum for Enclosure {
+    fn entered(x: f64) -> Enclosure {
+        Enclosure::point(x)
+    }
+
+    fn value(self) -> f64 {
+        self.value
+    }
+
+    fn ln(self) -> Result<Enclosure, Refusal> {
+        elementary_ends::ln(self)
+    }
+
+    fn exp_m1(self) -> Result<Enclosure, Refusal> {
+        elementary_ends::exp_m1(self)
+    }
+
+    fn tanh(self) -> Result<Enclosure, Refusal> {
+        elementary_ends::tanh(self)
+    }
+}

@@ -1,0 +1,2 @@
+mod Chunks
+mod Built

@@ -1,0 +1,22 @@
+-- `saftvrmie_dispersion::chain::k0_sum` meets its contract. Assumes nothing.
+use lib.Ieee.{of_bits}
+use Rattle.number.specs.Arith.{decimal}
+use Rattle.saftvrmie_dispersion.proofs.chain.k0_sum.Goals as goal
+
+pub returns : goal.returns
+unfolding decimal of_bits
+returns g c w =
+    let m = g.met.D.DualNum in
+    rw (
+      m.add_plain_law w _ _ _ c.add-2.ensures,
+      m.plain_lit_law w _ _ c.lit-4.ensures,
+      m.sub_law w _ _ _ c.sub.ensures,
+      m.mul_plain_law w _ _ _ c.mul-3.ensures,
+      m.plain_lit_law w _ _ c.lit-3.ensures,
+      m.add_law w _ _ _ c.add.ensures,
+      m.mul_plain_law w _ _ _ c.mul-2.ensures,
+      m.plain_lit_law w _ _ c.lit-2.ensures,
+      m.mul_plain_law w _ _ _ c.mul.ensures,
+      m.plain_lit_law w _ _ c.lit.ensures,
+      m.neg_law w _ _ c.neg.ensures,
+    )

@@ -1,0 +1,157 @@
+// The calls of SAFT-VR Mie.
+ghost use Rattle.std.specs.Prelude.{◌≤◌};
+
+use crate::chains::Chains;
+use crate::hash::Hash;
+use crate::place::{Of, Place, put};
+use crate::record::{Record, WORDS};
+use crate::tally::Operation;
+use number::{Refusal, bits_of};
+use records::{floats, part, word};
+use saftvrmie_parameters::SaftVRMiePars;
+use sizes::{SHEET, SHEETS, SIDE};
+
+#[derive(Drop)]
+pub struct Mie {
+    set: SaftVRMiePars,
+    diameters: [f64; SIDE],
+}
+
+// The set beside a refusal: count 0, all +0.
+fn no_set() -> SaftVRMiePars {
+    SaftVRMiePars {
+        count: 0,
+        m: [0.0; SIDE],
+        sigma: [0.0; SIDE],
+        epsilon_k: [0.0; SIDE],
+        lr: [0.0; SIDE],
+        la: [0.0; SIDE],
+        sheets: [0.0; SHEETS],
+    }
+}
+
+// Each component list has the places of a sheet.
+fn hash_of(set: SaftVRMiePars) -> u64 {
+    Hash::new()
+        .floats(Of::Lists, 0, &set.m)
+        .floats(Of::Lists, SHEET, &set.sigma)
+        .floats(Of::Lists, 2 * SHEET, &set.epsilon_k)
+        .floats(Of::Lists, 3 * SHEET, &set.lr)
+        .floats(Of::Lists, 4 * SHEET, &set.la)
+        .floats(Of::Sheets, 0, &set.sheets)
+        .value()
+}
+
+fn parameters(record: &Record) -> Result<SaftVRMiePars, Refusal> {
+    let l: [f64; WORDS] = floats(&record.list);
+    let b = record.length(6);
+    let c = b + record.length(7);
+    let d = c + record.length(8);
+    let e = d + record.length(9);
+    let f = e + record.length(10);
+    let g = f + record.length(11);
+    saftvrmie_parameters::saft_vr_mie_pars(
+        record.word(2) as usize,
+        part(&l, 0, b),
+        part(&l, b, record.length(7)),
+        part(&l, c, record.length(8)),
+        part(&l, d, record.length(9)),
+        part(&l, e, record.length(10)),
+        part(&l, f, record.length(11)),
+        part(&l, g, record.length(12)),
+    )
+}
+
+impl Mie {
+    pub fn new() -> Mie {
+        Mie {
+            set: no_set(),
+            diameters: [0.0; SIDE],
+        }
+    }
+
+    fn parameters(&mut self, record: &Record) -> bool {
+        let answer = parameters(record);
+        self.set = answer.unwrap_or(no_set());
+        record.tells(answer.err()) & (record.word(15) == hash_of(self.set))
+    }
+
+    // False where the record lends more than there is.
+    fn diameters(&mut self, record: &Record) -> bool {
+        let Some(lent) = self.diameters.get_mut(..record.length(6)) else {
+            return false;
+        };
+        let answer = saftvrmie::hs_diameter(self.set, record.temperature(), lent);
+        let diameters = Hash::new().floats(Of::Worked, 0, &self.diameters);
+        record.tells(answer.err()) & (record.word(15) == diameters.value())
+    }
+
+    fn dispersion(&self, record: &Record) -> bool {
+        let l: [f64; WORDS] = floats(&record.list);
+        let n = record.length(6);
+        let answer = saftvrmie_energies::dispersion(
+            self.set,
+            record.temperature(),
+            part(&l, 0, n),
+            part(&l, n, record.length(7)),
+            part(&self.diameters, 0, record.length(8)),
+            record.is_wanted(),
+        );
+        match answer {
+            Err(r) => record.tells(Some(r)),
+            Ok(x) => record.tells(None) & (record.word(15) == bits_of(x)),
+        }
+    }
+
+    // A place of the set or of the diameters changed by hand.
+    fn change(&mut self, place: Place, bits: u64) {
+        match place.of {
+            Of::Count => {
+                self.set.count = bits as usize;
+            }
+            Of::Lists => self.change_list(place.index / SHEET, place.index % SHEET, bits),
+            Of::Sheets => put(&mut self.set.sheets, place.index, bits),
+            Of::Worked => put(&mut self.diameters, place.index, bits),
+            Of::Orders | Of::Spent => {}
+        }
+    }
+
+    fn change_list(&mut self, list: usize, i: usize, bits: u64) {
+        match list {
+            0 => put(&mut self.set.m, i, bits),
+            1 => put(&mut self.set.sigma, i, bits),
+            2 => put(&mut self.set.epsilon_k, i, bits),
+            3 => put(&mut self.set.lr, i, bits),
+            4 => put(&mut self.set.la, i, bits),
+            _ => {}
+        }
+    }
+}
+
+impl Chains for Mie {
+    // The numbers of the calls are matched in this place only, so an enum would say them a second time.
+    fn call(&mut self, record: &Record) -> Option<(Operation, bool)> {
+        match record.word(0) {
+            4 => Some((Operation::MieParameters, self.parameters(record))),
+            5 => Some((Operation::MieDiameters, self.diameters(record))),
+            6 => {
+                let operation = if record.is_wanted() {
+                    Operation::MieAndChain
+                } else {
+                    Operation::MieDispersion
+                };
+                Some((operation, self.dispersion(record)))
+            }
+            10 => {
+                self.diameters = [0.0; SIDE];
+                None
+            }
+            _ => {
+                for pair in record.changes() {
+                    self.change(Place::from(word(pair, 0)), word(pair, 1));
+                }
+                None
+            }
+        }
+    }
+}
