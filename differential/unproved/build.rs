@@ -20,7 +20,7 @@ fn without_contracts(text: &str) -> String {
         } else if word.starts_with("#[") || word.starts_with("#![") {
             rest = after_brackets(rest, '[', ']');
         } else {
-            out.push_str(line);
+            out.push_str(&line.replace(" + Drop", ""));
             rest = &rest[line.len()..];
         }
     }
