@@ -69,7 +69,7 @@ pub mie_count : (l : Mie.Lists) (s : SaftVRMiePars) → Mie.saft_vr_mie_pars l �
 unfolding Mie.saft_vr_mie_pars
 mie_count l s p =
     let a = then_held (demand 1 (Mie.right_lengths l)) _ s p in
-    let b = then_held (demand 2 (MieLaws.Within l)) _ s a.2 in
+    let b = then_held (demand 2 (Mie.within_in l)) _ s a.2 in
     let d = then_held (MieLaws.sheets_in l) _ s b.2 in
     let high = (MieLaws.lengths l (demand_true 1 (Mie.right_lengths l) a.0 a.1)).high in
     subst (λ (n : ℕ). n ≤ side) (ap (λ (v : SaftVRMiePars). v.count) (held_inj _ s d.2)) high
