@@ -139,6 +139,13 @@ pub trait DualNum: Copy
     fn raise(base: Self::Base, n: Self::Exponent) -> Result<Self, Refusal>
         ensures { (w : Bool) → answer_by (of w) result ≡ power_by w base n };
 
+    fn base_inside(b: Self::Base) -> bool
+        ensures { result ≡ base_in b };
+
+    // The power where base and exponent were tested: they are not tested again.
+    fn raise_inside(base: Self::Base, n: Self::Exponent) -> Self
+        ensures { (w : Bool) → of w result ≡ raised w base n };
+
     // A power of plain numbers, which stays plain.
     fn plain_powf(a: Self::Plain, e: Self::Plain) -> Result<Self::Plain, Refusal>
         ensures { (w : Bool) → answer_by (plain w) result ≡ (functions w).powf (plain w a) (plain w e) };
@@ -358,6 +365,14 @@ impl DualNum for f64 {
         float_raise(base, n)
     }
 
+    fn base_inside(b: FloatBase) -> bool {
+        b.inside
+    }
+
+    fn raise_inside(base: FloatBase, n: FloatExponent) -> f64 {
+        power::raise(base.log, n.fixed)
+    }
+
     fn plain_powf(a: f64, e: f64) -> Result<f64, Refusal> {
         float_powf_at(float_base(a), e)
     }
@@ -573,6 +588,15 @@ impl DualNum for Enclosure {
 
     fn raise(base: EnclosureBase, n: EnclosureExponent) -> Result<Enclosure, Refusal> {
         enclosure_raise(base, n)
+    }
+
+    fn base_inside(b: EnclosureBase) -> bool {
+        b.base.inside
+    }
+
+    fn raise_inside(base: EnclosureBase, n: EnclosureExponent) -> Enclosure {
+        let v = power::raise(base.base.log, n.at.fixed);
+        Enclosure::point(v).after(n.x).after(base.x)
     }
 
     fn plain_powf(a: Enclosure, e: Enclosure) -> Result<Enclosure, Refusal> {
@@ -792,6 +816,14 @@ impl DualNum for Dual {
 
     fn raise(base: DualBase, n: DualExponent) -> Result<Dual, Refusal> {
         dual_raise(base, n)
+    }
+
+    fn base_inside(b: DualBase) -> bool {
+        b.base.inside
+    }
+
+    fn raise_inside(base: DualBase, n: DualExponent) -> Dual {
+        slopes::raise(base.base.log, base.slope, n.fixed)
     }
 
     fn plain_powf(a: f64, e: f64) -> Result<f64, Refusal> {

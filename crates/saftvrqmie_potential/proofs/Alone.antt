@@ -1,17 +1,15 @@
--- The potential alone: where the exponents of its order are inside, the first line's powers say whether it is refused. Assumes nothing.
-use Prim.Native.Nat.{ℕ}
-use native.Mathlib.Omega.{arith}
+-- The potential, and u alone: refused where the base or an exponent of its order is outside, else worked from powers that are not tested. Assumes nothing.
 use mathlib.Core.Path.{◌≡◌, refl, sym, ap, ◌∙◌}
 use mathlib.Core.Bool.{Bool, true, false, ◌&&◌, cond}
 use Rattle.number.specs.Ans.{Ans, held, refused, ◌>>=◌}
 use Rattle.number.specs.Arith.{Arith}
 use Rattle.number.specs.Functions.{Functions}
-use Rattle.number.proofs.Walk.{told, held_inj}
+use Rattle.number.proofs.Walk.{told}
 use Rattle.saftvrqmie_potential.specs.Potential.{PairIn, PotentialIn, first_order, second_order, quantum_d, q1, q2, u_mie, ur_mie, urr_mie, u_quantum, ur_first, urr_first, ur_second, urr_second, corrected, scaled, line, mie, add_first, add_second, after_shared, potential}
-use Rattle.saftvrqmie_potential.specs.Shared.{Stands, Sharing, both, both_inside, exponents_inside, powers_by, alone, after_factors}
+use Rattle.saftvrqmie_potential.specs.Shared.{Stands, Sharing, both_inside, exponents_inside, powers_by, alone, mie_from, first_from, second_from, after_factors, finished_from}
 use Rattle.saftvrqmie_potential.specs.declared.LinePowers.{LinePowers}
 use Rattle.saftvrqmie_potential.specs.declared.Shared.{Shared}
-use Rattle.saftvrqmie_potential.proofs.Lines.{line_by, line_refused}
+use Rattle.saftvrqmie_potential.proofs.Lines.{both, line_by, line_refused}
 use Rattle.saftvrqmie_potential.proofs.Orders.{not_first}
 
 -- ---- an answer that holds x if t, and is refused with 6 otherwise
@@ -52,11 +50,6 @@ module _ {N : Type 0} (v w : N) where
   of_tests true false u = refl
   of_tests false t u = refl
 
-  held_tests : {x y : N} (s t : Bool) → cond {A = Ans (N × N)} s (cond t (held (v, w)) (refused 6)) (refused 6) ≡ held (x, y) → (s ≡ true) × (x ≡ v) × (y ≡ w)
-  held_tests true true q = (refl, sym (ap (λ (z : N × N). z.0) (held_inj _ _ q)), sym (ap (λ (z : N × N). z.1) (held_inj _ _ q)))
-  held_tests true false q = (cc, cc, cc)
-  held_tests false t q = (cc, cc, cc)
-
 module _ {A : Arith} {F : Functions A.Num} {D P B E : Type 0} {plain : P → A.Num} {power_at : B → A.Num → Ans A.Num} {power_by : B → E → Ans A.Num} {of : D → A.Num} {exponent_in : E → Bool}
     (base_in : B → Bool) (raised : B → E → A.Num) (law : (b : B) (n : E) → power_by b n ≡ cond (base_in b && exponent_in n) (held (raised b n)) (refused 6))
     {p : PairIn A.Num} {s : Shared D P B E} (h : Sharing A F plain power_at power_by of exponent_in p s) {r : A.Num} {b : B} (is-b : power_at b ≡ F.powf r) where
@@ -68,9 +61,6 @@ module _ {A : Arith} {F : Functions A.Num} {D P B E : Type 0} {plain : P → A.N
 
   both_is : (n m : E) → both (power_by b n) (power_by b m) ≡ cond (base_in b) (cond (both_inside exponent_in n m) (held (raised b n, raised b m)) (refused 6)) (refused 6)
   both_is n m = rw (law b n, law b m) (of_tests (raised b n) (raised b m) (base_in b) (exponent_in n) (exponent_in m))
-
-  as_raised : {n m : E} {x y : A.Num} → both (power_by b n) (power_by b m) ≡ held (x, y) → (base_in b ≡ true) × (x ≡ raised b n) × (y ≡ raised b m)
-  as_raised {n = n} {m = m} q = held_tests (raised b n) (raised b m) (base_in b) (both_inside exponent_in n m) (sym (both_is n m) ∙ q)
 
   module _ (in-b : base_in b ≡ true) where
     abbrev pub value : E → E → (A.Num → A.Num → A.Num → A.Num → A.Num) → A.Num
@@ -131,56 +121,68 @@ module _ {A : Arith} {F : Functions A.Num} {D P B E : Type 0} {plain : P → A.N
   unfolding potential mie ◌>>=◌
   base_outside e = rw (line_refused h is-b h.r.e0 h.a.e0 (rw e at (both_is s.r.e0 s.a.e0)))
 
-  pub outside : s.inside ≡ false → potential A F p r ≡ refused 6
+  pub outside : (base_in b && s.inside) ≡ false → potential A F p r ≡ refused 6
   outside k = by (base_in b) refl
     where
       by : (t : Bool) → base_in b ≡ t → potential A F p r ≡ refused 6
-      by true e = potential_tested e false k
+      by true e = potential_tested e false (rw e at k)
       by false e = base_outside e
 
-  -- ---- the exponents inside, and the first line held
-  abbrev Powers : E → E → LinePowers D → Type 0
-  Powers n m l = both (power_by b n) (power_by b m) ≡ held (powers_by of l)
+  -- ---- both inside: the potential from the powers of its lines, by orders
+  module _ (in-all : (base_in b && s.inside) ≡ true) where
+    in-b : base_in b ≡ true
+    in-b = and_left _ _ in-all
 
-  module _ (in-s : s.inside ≡ true) {l0 : LinePowers D} (q0 : Powers s.r.e0 s.a.e0 l0) where
-    inside : exponents_inside exponent_in s.first s.second s.r s.a ≡ true
-    inside = sym h.inside ∙ in-s
+    abbrev Powers : E → E → LinePowers D → Type 0
+    Powers n m l = powers_by of l ≡ (raised b n, raised b m)
 
-    in-2 : both_inside exponent_in s.r.e2 s.a.e2 ≡ true
-    unfolding exponents_inside
-    in-2 = and_right (both_inside exponent_in s.r.e1 s.a.e1) _ (and_right (both_inside exponent_in s.r.e0 s.a.e0) _ (and_left (both_inside exponent_in s.r.e0 s.a.e0 && (both_inside exponent_in s.r.e1 s.a.e1 && both_inside exponent_in s.r.e2 s.a.e2)) _ inside))
+    rr : {n m : E} {l : LinePowers D} → Powers n m l → of l.rr ≡ raised b n
+    rr q = ap (λ (z : A.Num × A.Num). z.0) q
 
-    in-4 : s.first ≡ true → both_inside exponent_in s.r.e4 s.a.e4 ≡ true
-    unfolding exponents_inside
-    in-4 k = and_right (both_inside exponent_in s.r.e3 s.a.e3) _ (and_right (both_inside exponent_in s.r.e2 s.a.e2) _ (and_left (both_inside exponent_in s.r.e2 s.a.e2 && (both_inside exponent_in s.r.e3 s.a.e3 && both_inside exponent_in s.r.e4 s.a.e4)) _ (and_right (both_inside exponent_in s.r.e0 s.a.e0 && (both_inside exponent_in s.r.e1 s.a.e1 && both_inside exponent_in s.r.e2 s.a.e2)) _ (rw k at inside))))
+    ra : {n m : E} {l : LinePowers D} → Powers n m l → of l.ra ≡ raised b m
+    ra q = ap (λ (z : A.Num × A.Num). z.1) q
 
-    never : (n m : E) (j : ℕ) → both_inside exponent_in n m ≡ true → both (power_by b n) (power_by b m) ≡ refused j → ⊥
-    never n m j k q = let e = sym (rw ((as_raised q0).0, k) at (both_is n m)) ∙ q in let z : ◌≡◌ {A = ℕ} 0 1 = cc in omega arith
+    potential_held : potential A F p r ≡ held (after_shared A F p (scaled A (A.mul p.c p.epsilon_k) (v₂ in-b)))
+    potential_held = potential_tested in-b true (and_right _ _ in-all)
 
-    pub never_2 : {j : ℕ} → both (power_by b s.r.e2) (power_by b s.a.e2) ≡ refused j → ⊥
-    never_2 q = never _ _ _ in-2 q
-
-    pub never_4 : {j : ℕ} → s.first ≡ true → both (power_by b s.r.e4) (power_by b s.a.e4) ≡ refused j → ⊥
-    never_4 k q = never _ _ _ (in-4 k) q
-
-    alone_is : held (after_shared A F p (scaled A (A.mul p.c p.epsilon_k) (v₂ (as_raised q0).0))).u ≡ alone (potential A F p r)
+    alone_is : held (after_shared A F p (scaled A (A.mul p.c p.epsilon_k) (v₂ in-b))).u ≡ alone (potential A F p r)
     unfolding ◌>>=◌
-    alone_is = rw (potential_tested (as_raised q0).0 true in-s)
+    alone_is = rw potential_held
 
-    module _ {u res : A.Num} (is-u : u ≡ u_mie A (of l0.rr) sr (of l0.ra) sa) where
+    module _ {l0 l1 l2 : LinePowers D} (q0 : Powers s.r.e0 s.a.e0 l0) (q1 : Powers s.r.e1 s.a.e1 l1) (q2 : Powers s.r.e2 s.a.e2 l2)
+        {v res : PotentialIn A.Num} (is-v : v ≡ mie_from A plain of s l0 l1 l2) where
+      pub order_0 : s.first ≡ false → res ≡ finished_from A plain of s v → held res ≡ potential A F p r
+      unfolding scaled after_shared mie_from after_factors finished_from
+      order_0 k is-res =
+          let t = told h.first k in
+          rw (is-res, is-v, rr q0, ra q0, rr q1, ra q1, rr q2, ra q2, after_factors, h.r.lambda, h.a.lambda, h.r.q1, h.a.q1, h.r.q2, h.a.q2, h.d, h.ce) (sym (rw (t, not_first _ t) at potential_held))
+
+      module _ (k : s.first ≡ true) {l3 l4 : LinePowers D} (q3 : Powers s.r.e3 s.a.e3 l3) (q4 : Powers s.r.e4 s.a.e4 l4) {v1 : PotentialIn A.Num} (is-v1 : v1 ≡ first_from A plain of s l2 l3 l4 v) where
+        pub order_1 : s.second ≡ false → res ≡ finished_from A plain of s v1 → held res ≡ potential A F p r
+        unfolding scaled after_shared mie_from first_from after_factors finished_from
+        order_1 k' is-res =
+            rw (is-res, is-v1, is-v, rr q0, ra q0, rr q1, ra q1, rr q2, ra q2, rr q3, ra q3, rr q4, ra q4, after_factors, h.r.lambda, h.a.lambda, h.r.q1, h.a.q1, h.r.q2, h.a.q2, h.d, h.ce) (sym (rw (told h.first k, told h.second k') at potential_held))
+
+        pub order_2 : s.second ≡ true → {l5 l6 : LinePowers D} → Powers s.r.e5 s.a.e5 l5 → Powers s.r.e6 s.a.e6 l6 → {v2 : PotentialIn A.Num} → v2 ≡ second_from A plain of s l4 l5 l6 v1 → res ≡ finished_from A plain of s v2 → held res ≡ potential A F p r
+        unfolding scaled after_shared mie_from first_from second_from after_factors finished_from
+        order_2 k' q5 q6 is-v2 is-res =
+            rw (is-res, is-v2, is-v1, is-v, rr q0, ra q0, rr q1, ra q1, rr q2, ra q2, rr q3, ra q3, rr q4, ra q4, rr q5, ra q5, rr q6, ra q6, after_factors, h.r.lambda, h.a.lambda, h.r.q1, h.a.q1, h.r.q2, h.a.q2, h.d, h.d2, h.ce) (sym (rw (told h.first k, told h.second k') at potential_held))
+
+    -- u alone, where nothing reads its derivatives
+    module _ {l0 : LinePowers D} (q0 : Powers s.r.e0 s.a.e0 l0) {u res : A.Num} (is-u : u ≡ u_mie A (of l0.rr) sr (of l0.ra) sa) where
       pub alone_0 : s.first ≡ false → res ≡ after_factors A plain of s (A.mul u (plain s.ce)) → held res ≡ alone (potential A F p r)
       unfolding after_shared scaled after_factors ◌>>=◌
       alone_0 k is-res =
           let t = told h.first k in
-          rw (is-res, is-u, (as_raised q0).1, (as_raised q0).2, after_factors, h.r.q1, h.a.q1, h.r.q2, h.a.q2, h.d, h.ce) (rw (t, not_first _ t) at alone_is)
+          rw (is-res, is-u, rr q0, ra q0, after_factors, h.r.q1, h.a.q1, h.r.q2, h.a.q2, h.d, h.ce) (rw (t, not_first _ t) at alone_is)
 
       module _ (k : s.first ≡ true) {l2 : LinePowers D} (q2 : Powers s.r.e2 s.a.e2 l2) {u₁ : A.Num} (is-u₁ : u₁ ≡ A.add u (A.mul (of s.d) (u_quantum A (plain s.r.q1) (plain s.a.q1) (of l2.rr) sr (of l2.ra) sa))) where
         pub alone_1 : s.second ≡ false → res ≡ after_factors A plain of s (A.mul u₁ (plain s.ce)) → held res ≡ alone (potential A F p r)
         unfolding after_shared scaled after_factors ◌>>=◌
         alone_1 k' is-res =
-            rw (is-res, is-u₁, is-u, (as_raised q0).1, (as_raised q0).2, (as_raised q2).1, (as_raised q2).2, after_factors, h.r.q1, h.a.q1, h.r.q2, h.a.q2, h.d, h.ce) (rw (told h.first k, told h.second k') at alone_is)
+            rw (is-res, is-u₁, is-u, rr q0, ra q0, rr q2, ra q2, after_factors, h.r.q1, h.a.q1, h.r.q2, h.a.q2, h.d, h.ce) (rw (told h.first k, told h.second k') at alone_is)
 
         pub alone_2 : s.second ≡ true → {l4 : LinePowers D} → Powers s.r.e4 s.a.e4 l4 → {u₂ : A.Num} → u₂ ≡ A.add u₁ (A.mul (of s.d2) (u_quantum A (plain s.r.q2) (plain s.a.q2) (of l4.rr) sr (of l4.ra) sa)) → res ≡ after_factors A plain of s (A.mul u₂ (plain s.ce)) → held res ≡ alone (potential A F p r)
         unfolding after_shared scaled after_factors ◌>>=◌
         alone_2 k' q4 is-u₂ is-res =
-            rw (is-res, is-u₂, is-u₁, is-u, (as_raised q0).1, (as_raised q0).2, (as_raised q2).1, (as_raised q2).2, (as_raised q4).1, (as_raised q4).2, after_factors, h.r.q1, h.a.q1, h.r.q2, h.a.q2, h.d, h.d2, h.ce) (rw (told h.first k, told h.second k') at alone_is)
+            rw (is-res, is-u₂, is-u₁, is-u, rr q0, ra q0, rr q2, ra q2, rr q4, ra q4, after_factors, h.r.q1, h.a.q1, h.r.q2, h.a.q2, h.d, h.d2, h.ce) (rw (told h.first k, told h.second k') at alone_is)

@@ -1,18 +1,18 @@
--- The potential by its lines, from what a pair's radii share. Assumes nothing.
+-- A line of the potential by its two powers of the radius, from what a pair's radii share. Assumes nothing.
 use Prim.Native.Nat.{ℕ}
 use mathlib.Core.Path.{◌≡◌, refl, sym, ap, ◌∙◌, fun_ext}
-use mathlib.Core.Bool.{Bool, true, false}
+use mathlib.Core.Bool.{Bool}
 use Rattle.number.specs.Ans.{Ans, held, refused, ◌>>=◌}
 use Rattle.number.specs.Arith.{Arith}
 use Rattle.number.specs.Functions.{Functions}
-use Rattle.number.proofs.Walk.{told}
-use Rattle.saftvrqmie_potential.specs.Potential.{PairIn, PotentialIn, scaled, line, mie, add_first, add_second, after_shared, potential}
-use Rattle.saftvrqmie_potential.specs.Shared.{Stands, Sharing, both, powers_by, mie_from, first_from, second_from, after_factors, finished_from}
-use Rattle.saftvrqmie_potential.specs.declared.LinePowers.{LinePowers}
+use Rattle.saftvrqmie_potential.specs.Potential.{PairIn, line, mie, potential}
+use Rattle.saftvrqmie_potential.specs.Shared.{Stands, Sharing}
 use Rattle.saftvrqmie_potential.specs.declared.Shared.{Shared}
-use Rattle.saftvrqmie_potential.proofs.Orders.{not_first}
 
 -- ---- a line by its two powers of the radius
+abbrev pub both : {N : Type 0} → Ans N → Ans N → Ans (N × N)
+both a b = a >>= λ x. b >>= λ y. held (x, y)
+
 module _ (A : Arith) (F : Functions A.Num) (p : PairIn A.Num) (r sr sa : A.Num) (is-sr : F.powf p.sigma p.lr ≡ held sr) (is-sa : F.powf p.sigma p.la ≡ held sa) where
   abbrev from : Ans (A.Num × A.Num) → (A.Num → A.Num → A.Num → A.Num → A.Num) → Ans A.Num
   from a f = a >>= λ x. held (f x.0 sr x.1 sa)
@@ -41,36 +41,9 @@ module _ {A : Arith} {F : Functions A.Num} {D P B E : Type 0} {plain : P → A.N
         → line A F p r e e' f ≡ from A F p r (plain s.r.power) (plain s.a.power) h.r.power h.a.power a f
     line_by a q f = line_is A F p r _ _ h.r.power h.a.power e e' f ∙ ap (λ (z : Ans (A.Num × A.Num)). z >>= λ x. held (f x.0 (plain s.r.power) x.1 (plain s.a.power))) (both_is ∙ q)
 
-    pub line_held : {x y : A.Num} → both (power_by b n) (power_by b m) ≡ held (x, y) → line A F p r e e' ≡ (λ f. held (f x (plain s.r.power) y (plain s.a.power)))
-    unfolding ◌>>=◌
-    line_held q = fun_ext (λ f. line_by _ q f)
-
     pub line_refused : {j : ℕ} → both (power_by b n) (power_by b m) ≡ refused j → line A F p r e e' ≡ (λ f. refused j)
     unfolding ◌>>=◌
     line_refused q = fun_ext (λ f. line_by _ q f)
-
-  -- ---- the potential from the powers of its lines, by orders
-  abbrev Powers : E → E → LinePowers D → Type 0
-  Powers n m l = both (power_by b n) (power_by b m) ≡ held (powers_by of l)
-
-  module _ {l0 l1 l2 : LinePowers D} (q0 : Powers s.r.e0 s.a.e0 l0) (q1 : Powers s.r.e1 s.a.e1 l1) (q2 : Powers s.r.e2 s.a.e2 l2)
-      {v res : PotentialIn A.Num} (is-v : v ≡ mie_from A plain of s l0 l1 l2) where
-    pub order_0 : s.first ≡ false → res ≡ finished_from A plain of s v → held res ≡ potential A F p r
-    unfolding potential mie scaled after_shared mie_from after_factors finished_from ◌>>=◌
-    order_0 k is-res =
-        let t = told h.first k in
-        rw (is-res, is-v, line_held h.r.e0 h.a.e0 q0, line_held h.r.e1 h.a.e1 q1, line_held h.r.e2 h.a.e2 q2, t, not_first _ t, after_factors, h.r.lambda, h.a.lambda, h.r.q1, h.a.q1, h.r.q2, h.a.q2, h.d, h.ce)
-
-    module _ (k : s.first ≡ true) {l3 l4 : LinePowers D} (q3 : Powers s.r.e3 s.a.e3 l3) (q4 : Powers s.r.e4 s.a.e4 l4) {v1 : PotentialIn A.Num} (is-v1 : v1 ≡ first_from A plain of s l2 l3 l4 v) where
-      pub order_1 : s.second ≡ false → res ≡ finished_from A plain of s v1 → held res ≡ potential A F p r
-      unfolding potential mie add_first scaled after_shared mie_from first_from after_factors finished_from ◌>>=◌
-      order_1 k' is-res =
-          rw (is-res, is-v1, is-v, line_held h.r.e0 h.a.e0 q0, line_held h.r.e1 h.a.e1 q1, line_held h.r.e2 h.a.e2 q2, told h.first k, line_held h.r.e3 h.a.e3 q3, line_held h.r.e4 h.a.e4 q4, told h.second k', after_factors, h.r.lambda, h.a.lambda, h.r.q1, h.a.q1, h.r.q2, h.a.q2, h.d, h.ce)
-
-      pub order_2 : s.second ≡ true → {l5 l6 : LinePowers D} → Powers s.r.e5 s.a.e5 l5 → Powers s.r.e6 s.a.e6 l6 → {v2 : PotentialIn A.Num} → v2 ≡ second_from A plain of s l4 l5 l6 v1 → res ≡ finished_from A plain of s v2 → held res ≡ potential A F p r
-      unfolding potential mie add_first add_second scaled after_shared mie_from first_from second_from after_factors finished_from ◌>>=◌
-      order_2 k' q5 q6 is-v2 is-res =
-          rw (is-res, is-v2, is-v1, is-v, line_held h.r.e0 h.a.e0 q0, line_held h.r.e1 h.a.e1 q1, line_held h.r.e2 h.a.e2 q2, told h.first k, line_held h.r.e3 h.a.e3 q3, line_held h.r.e4 h.a.e4 q4, told h.second k', line_held h.r.e5 h.a.e5 q5, line_held h.r.e6 h.a.e6 q6, after_factors, h.r.lambda, h.a.lambda, h.r.q1, h.a.q1, h.r.q2, h.a.q2, h.d, h.d2, h.ce)
 
 -- ---- a pair whose sigma has no power has a potential at no radius
 module _ (A : Arith) (F : Functions A.Num) (powf_law : (x y : A.Num) (n : ℕ) → F.powf x y ≡ refused n → n ≡ 6) where

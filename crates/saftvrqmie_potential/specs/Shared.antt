@@ -15,9 +15,6 @@ use Rattle.saftvrqmie_potential.specs.declared.Shared.{Shared}
 use Rattle.saftvrqmie_potential.specs.declared.LinePowers.{LinePowers}
 
 -- a line's two powers of the radius
-abbrev pub both : {N : Type 0} → Ans N → Ans N → Ans (N × N)
-both a b = a >>= λ x. b >>= λ y. held (x, y)
-
 abbrev pub powers_by : {D N : Type 0} → (D → N) → LinePowers D → N × N
 powers_by of l = (of l.rr, of l.ra)
 

@@ -6,7 +6,7 @@ ghost use Rattle.std.specs.Prelude.{◌≡◌, ◌<◌, true, false, cond, Bool}
 ghost use Rattle.number.specs.Answer.{answer_by};
 ghost use Rattle.sizes.specs.Sizes.{sheet};
 ghost use Rattle.saftvrqmie_potential.specs.Potential.{PairIn, prefactor, pair_by, pair_at_entry, potential_by, first_order, second_order, quantum_d, q1, q2, u_mie, u_quantum, potential};
-ghost use Rattle.saftvrqmie_potential.specs.Shared.{alone, IsTerm, Sharing, Shares, powers_by, both, both_inside, exponents_inside, mie_from, first_from, second_from, after_factors, finished_from};
+ghost use Rattle.saftvrqmie_potential.specs.Shared.{alone, IsTerm, Sharing, Shares, powers_by, both_inside, exponents_inside, mie_from, first_from, second_from, after_factors, finished_from};
 
 use dual_num::DualNum;
 use number::{Arithmetic, Refusal};
@@ -236,16 +236,14 @@ pub fn share<D: DualNum>(p: &Pair<D, D::Plain>) -> Result<Shared<D>, Refusal>
     })
 }
 
-fn line_at<D: DualNum>(
-    base: D::Base,
-    er: D::Exponent,
-    ea: D::Exponent,
-) -> Result<LinePowers<D>, Refusal>
-    ensures { (w : Bool) → answer_by (powers_by (D.of w)) result ≡ both (D.power_by w base er) (D.power_by w base ea) }
+// The base and the order's exponents were tested for the radius.
+fn line_at<D: DualNum>(base: D::Base, er: D::Exponent, ea: D::Exponent) -> LinePowers<D>
+    ensures { (w : Bool) → powers_by (D.of w) result ≡ (D.raised w base er, D.raised w base ea) }
 {
-    let rr = D::raise(base, er)?;
-    let ra = D::raise(base, ea)?;
-    Ok(LinePowers { rr, ra })
+    LinePowers {
+        rr: D::raise_inside(base, er),
+        ra: D::raise_inside(base, ea),
+    }
 }
 
 // u of order 0, and what each further order adds to it, before d or its square.
@@ -364,27 +362,30 @@ fn finished<D: DualNum>(s: &Shared<D>, v: QMiePotential<D>) -> QMiePotential<D>
     }
 }
 
-// The potential at a radius, from what the pair's radii share. Powers that two orders have are handed on.
+// The potential at a radius, from what the pair's radii share. All that its powers refuse is tested once. Powers that two orders have are handed on.
 pub fn potential_at<D: DualNum>(s: &Shared<D>, r: D) -> Result<QMiePotential<D>, Refusal>
     ensures { (p : PairIn (D.beside false).Num) → Sharing (D.beside false) (D.functions false) (D.plain false) (D.power_at false) (D.power_by false) (D.of false) D.exponent_in p s.now
         → answer_by (potential_by (D.of false)) result ≡ potential (D.beside false) (D.functions false) p (D.of false r) }
 {
     let base = r.base();
-    let l0 = line_at::<D>(base, s.r.e0, s.a.e0)?;
-    let l1 = line_at::<D>(base, s.r.e1, s.a.e1)?;
-    let l2 = line_at::<D>(base, s.r.e2, s.a.e2)?;
+    if !(D::base_inside(base) & s.inside) {
+        return Err(Refusal::Domain);
+    }
+    let l0 = line_at::<D>(base, s.r.e0, s.a.e0);
+    let l1 = line_at::<D>(base, s.r.e1, s.a.e1);
+    let l2 = line_at::<D>(base, s.r.e2, s.a.e2);
     let v = mie(s, l0, l1, l2);
     if !s.first {
         return Ok(finished(s, v));
     }
-    let l3 = line_at::<D>(base, s.r.e3, s.a.e3)?;
-    let l4 = line_at::<D>(base, s.r.e4, s.a.e4)?;
+    let l3 = line_at::<D>(base, s.r.e3, s.a.e3);
+    let l4 = line_at::<D>(base, s.r.e4, s.a.e4);
     let v1 = add_first(s, l2, l3, l4, v);
     if !s.second {
         return Ok(finished(s, v1));
     }
-    let l5 = line_at::<D>(base, s.r.e5, s.a.e5)?;
-    let l6 = line_at::<D>(base, s.r.e6, s.a.e6)?;
+    let l5 = line_at::<D>(base, s.r.e5, s.a.e5);
+    let l6 = line_at::<D>(base, s.r.e6, s.a.e6);
     Ok(finished(s, add_second(s, l4, l5, l6, v1)))
 }
 
@@ -394,20 +395,20 @@ pub fn u_at<D: DualNum>(s: &Shared<D>, r: D) -> Result<D, Refusal>
         → answer_by (D.of w) result ≡ alone (potential (D.beside w) (D.functions w) p (D.of w r)) }
 {
     let base = r.base();
-    if !s.inside {
+    if !(D::base_inside(base) & s.inside) {
         return Err(Refusal::Domain);
     }
-    let l0 = line_at::<D>(base, s.r.e0, s.a.e0)?;
+    let l0 = line_at::<D>(base, s.r.e0, s.a.e0);
     let u = u_mie(s, l0);
     if !s.first {
         return Ok(after_shared(s, u * s.ce));
     }
-    let l2 = line_at::<D>(base, s.r.e2, s.a.e2)?;
+    let l2 = line_at::<D>(base, s.r.e2, s.a.e2);
     let u1 = u + s.d * u_quantum(s, s.r.q1, s.a.q1, l2);
     if !s.second {
         return Ok(after_shared(s, u1 * s.ce));
     }
-    let l4 = line_at::<D>(base, s.r.e4, s.a.e4)?;
+    let l4 = line_at::<D>(base, s.r.e4, s.a.e4);
     let u2 = u1 + s.d2 * u_quantum(s, s.r.q2, s.a.q2, l4);
     Ok(after_shared(s, u2 * s.ce))
 }
