@@ -1,6 +1,6 @@
 -- Laws of the operations, test by test. Assumes nothing.
 use Prim.Native.Nat.{ℕ, ◌+◌, ◌*◌, ◌-◌, ◌≤◌, ◌<◌}
-use Rattle.std.specs.Prelude.{Err, Ok, Result, Option, None, Some}
+use Rattle.std.specs.Prelude.{Err, Ok, Result, Option, Some}
 use Rattle.std.specs.Result.{result_err}
 use Rattle.number.specs.Answer.{code, answer}
 use Rattle.number.specs.declared.refusal.Refusal.{Refusal}
@@ -10,9 +10,9 @@ use lib.Dec.{eqb, leb}
 use lib.ListN.{length, take, drop}
 use lib.Seq.{length-take-le}
 use mathlib.Core.Path.{◌≡◌, refl, ◌∙◌}
-use mathlib.Core.Bool.{Bool, true, false, ◌&&◌, cond}
+use mathlib.Core.Bool.{Bool, true, false, ◌&&◌}
 use mathlib.Core.List.{List, ◌++◌}
-use borrow.Author.Tests.{le-leb, lt-leb, leb-true, eqb-true, ne_eqb}
+use borrow.Author.Tests.{le-leb, lt-leb, leb-true, eqb-true}
 use Rattle.number.specs.Ans.{Ans, held, refused, ◌>>=◌, demand}
 use Rattle.mie_parameters.specs.Answer.{outcome}
 use Rattle.limits.specs.Limits.{count_within}

@@ -4,7 +4,6 @@ use mathlib.Core.Path.{◌≡◌}
 use mathlib.Core.List.{[], ◌∷◌, ◌++◌}
 use lib.ListN.{length, take}
 use Rattle.limits.specs.Limits.{square}
-use Rattle.number.specs.Lists.{at}
 use Rattle.card.specs.Fields.{joined}
 use Rattle.card_of_lists.specs.Cards.{pattern}
 use Rattle.card_of_lists.proofs.pair_row.Given as goal

@@ -3,7 +3,6 @@ use Prim.Native.Nat.{◌+◌, ◌*◌, ◌-◌, ◌≤◌}
 use mathlib.Core.Path.{◌≡◌}
 use mathlib.Core.List.{◌++◌}
 use lib.ListN.{length, take}
-use Rattle.number.specs.Lists.{at}
 use Rattle.card.specs.Fields.{joined}
 use Rattle.card_of_lists.specs.Cards.{pair_row}
 use Rattle.card_of_lists.proofs.pair_rows.Given as goal

@@ -1,6 +1,6 @@
 -- `card_of_lists::vrq_card` meets its contract. Assumes nothing.
 use native.Mathlib.Omega.{arith}
-use mathlib.Core.Path.{ap, ◌∙◌}
+use mathlib.Core.Path.{ap}
 use Rattle.card.proofs.Reading.{total_small}
 use Rattle.card_writer.specs.Writing.{CardRoom}
 use Rattle.card_writer.proofs.Stored.{refused_verdict, refused_stored}
@@ -24,9 +24,6 @@ pair_rows-requires c = ((vrq_lengths (record { count = c.args.count; m = c.args.
 
 pub value_count-total-requires : goal.value_count-total-requires
 value_count-total-requires c = ((vrq_lengths (record { count = c.args.count; m = c.args.m.now; sigma = c.args.sigma.now; epsilon_k = c.args.epsilon_k.now; lr = c.args.lr.now; la = c.args.la.now; mass = c.args.mass.now; fh = c.args.order.now; k_ij = c.args.k_ij.now; l_ij = c.args.l_ij.now }) (record { card = c.args.card.now; length = c.args.told.now }) _ (passed_on _ _ _ _ c.saft_vrq_mie_pars-parameters.ensures c.err.ensures.value c.passed.ensures) c.in_ok-passed.was).some, (vrq_lengths (record { count = c.args.count; m = c.args.m.now; sigma = c.args.sigma.now; epsilon_k = c.args.epsilon_k.now; lr = c.args.lr.now; la = c.args.la.now; mass = c.args.mass.now; fh = c.args.order.now; k_ij = c.args.k_ij.now; l_ij = c.args.l_ij.now }) (record { card = c.args.card.now; length = c.args.told.now }) _ (passed_on _ _ _ _ c.saft_vrq_mie_pars-parameters.ensures c.err.ensures.value c.passed.ensures) c.in_ok-passed.was).most)
-
-pub slice_bounds-store-end : goal.slice_bounds-store-end
-slice_bounds-store-end c = omega (arith, total_small 0 c.args.count _ (vrq_lengths (record { count = c.args.count; m = c.args.m.now; sigma = c.args.sigma.now; epsilon_k = c.args.epsilon_k.now; lr = c.args.lr.now; la = c.args.la.now; mass = c.args.mass.now; fh = c.args.order.now; k_ij = c.args.k_ij.now; l_ij = c.args.l_ij.now }) (record { card = c.args.card.now; length = c.args.told.now }) _ (passed_on _ _ _ _ c.saft_vrq_mie_pars-parameters.ensures c.err.ensures.value c.passed.ensures) c.in_ok-passed.was).most c.value_count-total.ensures)
 
 pub store-requires : goal.store-requires
 store-requires c = (search rules, (vrq_lengths (record { count = c.args.count; m = c.args.m.now; sigma = c.args.sigma.now; epsilon_k = c.args.epsilon_k.now; lr = c.args.lr.now; la = c.args.la.now; mass = c.args.mass.now; fh = c.args.order.now; k_ij = c.args.k_ij.now; l_ij = c.args.l_ij.now }) (record { card = c.args.card.now; length = c.args.told.now }) _ (passed_on _ _ _ _ c.saft_vrq_mie_pars-parameters.ensures c.err.ensures.value c.passed.ensures) c.in_ok-passed.was).some, (vrq_lengths (record { count = c.args.count; m = c.args.m.now; sigma = c.args.sigma.now; epsilon_k = c.args.epsilon_k.now; lr = c.args.lr.now; la = c.args.la.now; mass = c.args.mass.now; fh = c.args.order.now; k_ij = c.args.k_ij.now; l_ij = c.args.l_ij.now }) (record { card = c.args.card.now; length = c.args.told.now }) _ (passed_on _ _ _ _ c.saft_vrq_mie_pars-parameters.ensures c.err.ensures.value c.passed.ensures) c.in_ok-passed.was).most, part_many _ _ _ (search rules) (total_small 0 c.args.count _ (vrq_lengths (record { count = c.args.count; m = c.args.m.now; sigma = c.args.sigma.now; epsilon_k = c.args.epsilon_k.now; lr = c.args.lr.now; la = c.args.la.now; mass = c.args.mass.now; fh = c.args.order.now; k_ij = c.args.k_ij.now; l_ij = c.args.l_ij.now }) (record { card = c.args.card.now; length = c.args.told.now }) _ (passed_on _ _ _ _ c.saft_vrq_mie_pars-parameters.ensures c.err.ensures.value c.passed.ensures) c.in_ok-passed.was).most c.value_count-total.ensures) c.value_count-total.ensures)
