@@ -69,11 +69,6 @@ digits_append (suc a) b v =
     rw (e, digits_append a b v, shr-shr v b a, f)
 
 -- ---- one byte
-pub low_part : (x n : ℕ) → x < 2 ^ 64 → x - (x / 2 ^ n * 2 ^ n) % 2 ^ 64 ≡ x % 2 ^ n
-low_part x n h =
-    let s = split x n in
-    let b : x / 2 ^ n * 2 ^ n < 2 ^ 64 = omega (arith, s) in
-    rw (mod-eq_of_lt b) (omega (arith, s))
 
 module _ (b s n v : ℕ) (small : b < 256) (h : s + n ≤ 8) where
   bits : List Bool
@@ -114,9 +109,6 @@ module _ (b s n v : ℕ) (small : b < 256) (h : s + n ≤ 8) where
     unfolding bits
     placed_digits = rw placed_is (rw bits_8 at (digits_numeral bits))
 
-pub mod_le : (x y n : ℕ) → y ≡ x % 2 ^ n → y ≤ x
-mod_le x y n p = let s = split x n in rw p (omega (arith, s))
-
 pub low_le : (x n : ℕ) → x < 2 ^ 64 → (x / 2 ^ n * 2 ^ n) % 2 ^ 64 ≤ x
 low_le x n h =
     let s = split x n in
@@ -148,10 +140,3 @@ module _ (old now : List ℕ) (at width left value n : ℕ) (inv : bits_of now �
 pub put_start : (l : List ℕ) (at width value : ℕ) → bits_of l ≡ over at (digits (width - width) (value / 2 ^ width)) (bits_of l)
 unfolding digits
 put_start l at width value = let e : width - width ≡ 0 = omega arith in sym (rw e (over_none at (bits_of l)))
-
-pub put_done : (old now : List ℕ) (at width left value : ℕ) → bits_of now ≡ over at (digits (width - left) (value / 2 ^ left)) (bits_of old) → left ≤ 0 → bits_of now ≡ over at (digits width value) (bits_of old)
-put_done old now at width left value inv z =
-    let e : left ≡ 0 = omega arith in
-    let d : width - 0 ≡ width = omega arith in
-    let f : value / 2 ^ 0 ≡ value = omega arith in
-    rw (e, d, f) at inv

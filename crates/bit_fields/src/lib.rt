@@ -19,7 +19,7 @@ fn bit_at(l: &[u8], at: usize) -> u64
     (b >> (7 - at % 8)) % 2
 }
 
-// A narrow field, bit by bit.
+// A narrow field, bit by bit: the loop counts bits, of which there is no list.
 fn narrow(l: &[u8], at: usize, width: usize) -> u64
     requires { (at + width ≤ 8 * length l.now) × (width < 64) × (at < 2 ^ 32) }
     ensures { result ≡ numeral (take width (drop at (bits_of l.now))) }
@@ -95,7 +95,7 @@ fn lesser(a: usize, b: usize) -> usize
     if a < b { a } else { b }
 }
 
-// A field of at most 64 bits, in place of what was there; all else keeps its bits. A card's length is tested before it is written.
+// A field of at most 64 bits, in place of what was there; all else keeps its bits. A card's length is tested before it is written. A turn takes what the byte in hand has room for, so the turns are no range.
 pub fn put(l: &mut [u8], at: usize, width: usize, value: u64)
     requires { (at + width ≤ 8 * length l.old) × (width ≤ 64) × (at < 2 ^ 32) }
     ensures { bits_of l.new ≡ over at (digits width value) (bits_of l.old) }

@@ -118,9 +118,3 @@ module _ (values : List ℕ) (start n e i j low high before : ℕ) (a : low ≡ 
       let f : low < high = omega (arith, a, b, z) in
       let k : high < n = omega (arith, b) in
       rw d (pair_below n low high f k)
-
-pub index_small : (i n size e : ℕ) → n ≤ 12 → size ≤ 6 → i < n → e < size → i * size + e < 72
-index_small i n size e h g p q = let a : n * size ≤ 12 * 6 = mul-le-mul h g in omega (arith, below i n size e p q, a)
-
-pub before_small : (n i : ℕ) → n ≤ 12 → i < n → i * (2 * n - 1 - i) ≤ 12 * 24
-before_small n i h g = let a : i ≤ 12 = omega arith in let b : 2 * n - 1 - i ≤ 24 = omega arith in mul-le-mul a b

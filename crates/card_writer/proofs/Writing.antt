@@ -135,9 +135,3 @@ none_over fs vs at old = sym (over_none at old)
 pub none_length : (fs : List Field) (vs : List ℕ) → length (part fs vs 0) ≡ 0
 unfolding write_fields
 none_length fs vs = refl
-
-pub model_newer : (newer : Bool) (kind : ℕ) → newer ≡ true → 2 + kind ≡ (form_of newer).first + kind
-model_newer newer kind p = rw p
-
-pub model_older : (newer : Bool) (kind : ℕ) → newer ≡ false → kind ≡ (form_of newer).first + kind
-model_older newer kind p = rw p (omega arith)

@@ -347,7 +347,7 @@ fn third(x: Interval) -> Interval
     Interval::point(1.0) * x * (x * x)
 }
 
-// The whole power n, by its binary digits from the lowest.
+// The whole power n, by its binary digits from the lowest: what is left is halved, no index is counted.
 fn any_power(x: Interval, n: u32) -> Interval
     ensures { result ≡ pow_i x n }
 {

@@ -120,7 +120,7 @@ pub fn abs(x: f64) -> f64
     if x == 0.0 { 0.0 } else { x }
 }
 
-// The whole power n, by its binary digits from the lowest.
+// The whole power n, by its binary digits from the lowest: what is left is halved, no index is counted.
 pub fn pow_up(x: f64, n: u32) -> f64
     ensures { result ≡ floats.pow x n }
 {

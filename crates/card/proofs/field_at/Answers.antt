@@ -5,6 +5,7 @@ use borrow.Author.Rules.{rules}
 use Rattle.card.proofs.field_at.Goals as goal
 
 -- src/lib.rt:109:17
+
 pub returns-then-k-eq5 : goal.returns-then-k-eq5
 returns-then-k-eq5 c = (order_field c.args.newer _ _ _ c.if-kind-eq0.true c.if-k-count.true c.if-k-eq5.true, search rules, search rules)
 

@@ -6,6 +6,7 @@ use mathlib.Core.Path.{◌≡◌}
 use Rattle.card.proofs.filling.Goals as goal
 
 -- src/lib.rt:187:9
+
 pub returns-then-bytes-card : goal.returns-then-bytes-card
 returns-then-bytes-card c = filling_over _ _ c.if-bytes-card.true
 

@@ -1,5 +1,5 @@
 use native.Mathlib.Omega.{arith}
-use Rattle.card.proofs.Whole.{knows, twelve, reach, model_short, count_short, not_known, values_refused, left_over, whole}
+use Rattle.card.proofs.Whole.{knows, twelve, model_short, count_short, not_known, values_refused, left_over, whole}
 use Rattle.card.proofs.Reading.{ends}
 use Rattle.number.proofs.Walk.{told, handed_on}
 use Rattle.card.specs.Card.{form_of}
@@ -8,9 +8,6 @@ use Rattle.card.proofs.read.Goals as goal
 
 pub returns-in_err-model : goal.returns-in_err-model
 returns-in_err-model c = rw (handed_on _ c.from_residual.ensures) (model_short (form_of c.args.newer) c.args.card.now _ c.plain.ensures.0 _ c.in_err-model.was, search rules)
-
-pub plain-requires-2 : goal.plain-requires-2
-plain-requires-2 c = (omega (arith, ends _ _ _ c.in_ok-model.was c.plain.ensures.1), search rules, search rules)
 
 pub returns-in_err-count : goal.returns-in_err-count
 returns-in_err-count c = rw (handed_on _ c.from_residual-in_err-count.ensures) (count_short (form_of c.args.newer) c.args.card.now _ c.plain.ensures.0 _ c.in_ok-model.was _ c.plain-2.ensures.0 _ c.in_err-count.was, search rules)
@@ -26,9 +23,6 @@ read_values-requires c = let h = knows (form_of c.args.newer) c.in_ok-model.mode
 
 pub returns-in_err-end : goal.returns-in_err-end
 returns-in_err-end c = rw (handed_on _ c.from_residual-in_err-end.ensures) (values_refused (form_of c.args.newer) c.args.card.now _ c.plain.ensures.0 _ c.in_ok-model.was _ c.plain-2.ensures.0 _ c.in_ok-count.was (told c.known.ensures c.if-not-known.false) _ c.kind_of-kind.ensures _ _ c.read_values.ensures.0 _ c.in_err-end.was, c.read_values.ensures.2)
-
-pub filling-requires : goal.filling-requires
-filling-requires c = reach _ _ _ c.in_ok-end.was c.read_values.ensures.1
 
 pub returns-then-not-filling : goal.returns-then-not-filling
 returns-then-not-filling c = (left_over (form_of c.args.newer) c.args.card.now _ c.plain.ensures.0 _ c.in_ok-model.was _ c.plain-2.ensures.0 _ c.in_ok-count.was (told c.known.ensures c.if-not-known.false) _ c.kind_of-kind.ensures _ _ c.read_values.ensures.0 _ c.in_ok-end.was (told c.filling.ensures c.if-not-filling.true), c.read_values.ensures.2)

@@ -12,20 +12,8 @@ use Rattle.card.proofs.read_values.Goals as goal
 pub loop-k-init : goal.loop-k-init
 loop-k-init c = (search rules, search rules, search rules, on_start (layout (form_of c.args.newer) c.args.kind c.args.count) c.args.card.now c.args.at c.args.values.now)
 
-pub field_at-field-requires : goal.field_at-field-requires
-field_at-field-requires c = (search rules, omega (arith, c.value_count-total.ensures))
-
-pub read_field-requires : goal.read_field-requires
-read_field-requires c = let t = total_small c.args.kind c.args.count _ c.requires.2 c.value_count-total.ensures in (omega (arith, t), c.field_at-field.ensures.1, c.field_at-field.ensures.2)
-
 pub returns-in_err-v : goal.returns-in_err-v
 returns-in_err-v c = rw (handed_on _ c.from_residual.ensures) (on_stop (layout (form_of c.args.newer) c.args.kind c.args.count) c.args.card.now c.args.at c.loop-k.values c.loop-k.end c.loop-k.k _ float c.loop-k.invariant.3 (in_layout (form_of c.args.newer) c.args.kind c.args.count _ _ c.value_count-total.ensures c.loop-k-test.true) c.field_at-field.ensures.0 _ (sym (via (field_answer c.args.card.now) c.read_field.ensures.0 c.in_err-v.was)), search rules, search rules)
-
-pub offset_bounds-values-k : goal.offset_bounds-values-k
-offset_bounds-values-k c = omega (arith, total_small c.args.kind c.args.count _ c.requires.2 c.value_count-total.ensures)
-
-pub bounds-values-k : goal.bounds-values-k
-bounds-values-k c = omega (arith, total_small c.args.kind c.args.count _ c.requires.2 c.value_count-total.ensures)
 
 pub loop-k-preserved : goal.loop-k-preserved
 loop-k-preserved c = let t = total_small c.args.kind c.args.count _ c.requires.2 c.value_count-total.ensures in let g : c.loop-k.k < length c.loop-k.values = omega (arith, t) in (search rules, omega (arith, ends _ _ _ c.in_ok-v.was c.read_field.ensures.1), omega (arith, length-set c.loop-k.values c.loop-k.k c.in_ok-v.v.value), on_next (layout (form_of c.args.newer) c.args.kind c.args.count) c.args.card.now c.args.at c.loop-k.values c.loop-k.end c.loop-k.k _ float c.loop-k.invariant.3 (in_layout (form_of c.args.newer) c.args.kind c.args.count _ _ c.value_count-total.ensures c.loop-k-test.true) c.field_at-field.ensures.0 _ g (value_at _ _ _ _ c.in_ok-v.was c.read_field.ensures.0))

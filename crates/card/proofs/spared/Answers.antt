@@ -5,16 +5,13 @@ use borrow.Author.Rules.{rules}
 use Rattle.card.proofs.spared.Goals as goal
 
 -- src/lib.rt:77:9
+
 pub returns-in_err-flag : goal.returns-in_err-flag
 returns-in_err-flag c = rw (handed_on _ c.from_residual.ensures) (flag_short c.args.card.now c.args.at c.args.width _ c.plain.ensures.0 _ c.in_err-flag.was, search rules)
 
 -- src/lib.rt:80:9
 pub returns-then-flag-eq0 : goal.returns-then-flag-eq0
 returns-then-flag-eq0 c = (flag_zero c.args.card.now c.args.at c.args.width _ c.plain.ensures.0 _ c.in_ok-flag.was c.if-flag-eq0.true, omega (arith, ends _ _ _ c.in_ok-flag.was c.plain.ensures.1))
-
--- src/lib.rt:82:38
-pub plain-requires-2 : goal.plain-requires-2
-plain-requires-2 c = let h = ends _ _ _ c.in_ok-flag.was c.plain.ensures.1 in (omega (arith, h), search rules, search rules)
 
 -- src/lib.rt:83:9
 pub returns-in_err-stored : goal.returns-in_err-stored

@@ -1,7 +1,6 @@
 -- `card_lists::pair_row` meets its contract. Assumes nothing.
 use Prim.Native.Nat.{◌+◌, ◌*◌, ◌<◌}
 use native.Mathlib.Omega.{arith}
-use mathlib.Core.Path.{◌≡◌}
 use lib.ListN.{length, length-set}
 use Rattle.card_lists.specs.Lists.{pair_entry}
 use Rattle.card_lists.proofs.Lists.{row_none, row_next, cell_below, square_small}
@@ -11,20 +10,5 @@ use Rattle.card_lists.proofs.pair_row.Goals as goal
 pub loop-j-init : goal.loop-j-init
 loop-j-init c = (search rules, search rules, row_none (λ j. pair_entry c.args.values.now c.args.start c.args.n c.args.e c.args.i j) c.args.list.now (c.args.n * c.args.i))
 
-pub overflow_mul-list : goal.overflow_mul-list
-overflow_mul-list c = omega (arith, cell_below c.args.n c.args.i c.loop-j.j c.requires.1 c.loop-j-test.true, square_small c.args.n c.requires.0)
-
-pub overflow_add-list : goal.overflow_add-list
-overflow_add-list c = omega (arith, cell_below c.args.n c.args.i c.loop-j.j c.requires.1 c.loop-j-test.true, square_small c.args.n c.requires.0)
-
-pub offset_bounds-list-n : goal.offset_bounds-list-n
-offset_bounds-list-n c = omega (arith, cell_below c.args.n c.args.i c.loop-j.j c.requires.1 c.loop-j-test.true, square_small c.args.n c.requires.0)
-
-pub bounds-list-n : goal.bounds-list-n
-bounds-list-n c = omega (arith, cell_below c.args.n c.args.i c.loop-j.j c.requires.1 c.loop-j-test.true, square_small c.args.n c.requires.0)
-
 pub loop-j-preserved : goal.loop-j-preserved
 loop-j-preserved c = let g : c.args.n * c.args.i + c.loop-j.j < length c.loop-j.list = omega (arith, cell_below c.args.n c.args.i c.loop-j.j c.requires.1 c.loop-j-test.true, square_small c.args.n c.requires.0) in (search rules, simp length-set c.loop-j.invariant.1, row_next (λ j. pair_entry c.args.values.now c.args.start c.args.n c.args.e c.args.i j) c.loop-j.list c.args.list.now (c.args.n * c.args.i) c.loop-j.j _ g c.loop-j.invariant.2 c.pair_entry.ensures)
-
-pub returns : goal.returns
-returns c = let e : ◌≡◌ c.loop-j.j c.args.n = omega arith in (c.loop-j.invariant.1, rw e at c.loop-j.invariant.2)

@@ -1,22 +1,10 @@
 -- `card_parameters::mie_set` meets its contract. Assumes nothing.
-use native.Mathlib.Omega.{arith}
 use Prim.Native.Nat.{◌*◌}
 use Prim.Native.Nat.{◌*◌}
-use native.Mathlib.Omega.{arith}
 use mathlib.Core.Path.{ap, ◌∙◌}
 use Rattle.card_parameters.proofs.Lists.{part, mie_is}
-use Rattle.card_lists.proofs.Lists.{square_small}
 use Rattle.saftvrmie_parameters.specs.Parameters as Mie
 use Rattle.card_parameters.proofs.mie_set.Goals as goal
-
-pub overflow_mul-square : goal.overflow_mul-square
-overflow_mul-square c = omega (arith, square_small c.args.n c.requires.0)
-
-pub slice_bounds-saft_vr_mie_pars-end-6 : goal.slice_bounds-saft_vr_mie_pars-end-6
-slice_bounds-saft_vr_mie_pars-end-6 c = omega (arith, square_small c.args.n c.requires.0)
-
-pub slice_bounds-saft_vr_mie_pars-end-7 : goal.slice_bounds-saft_vr_mie_pars-end-7
-slice_bounds-saft_vr_mie_pars-end-7 c = omega (arith, square_small c.args.n c.requires.0)
 
 pub returns : goal.returns
 returns c = c.saft_vr_mie_pars.ensures ∙ ap (λ (x : Mie.Lists). Mie.saft_vr_mie_pars x) (mie_is c.args.values.now c.args.n c.args.kind _ _ _ _ _ _ _ (part c.args.n c.column-m.result _ c.column-m.ensures) (part c.args.n c.column-sigma.result _ c.column-sigma.ensures) (part c.args.n c.column-epsilon_k.result _ c.column-epsilon_k.ensures) (part c.args.n c.column-lr.result _ c.column-lr.ensures) (part c.args.n c.column-la.result _ c.column-la.ensures) (part (c.args.n * c.args.n) c.pair_list-k_ij.result _ c.pair_list-k_ij.ensures) (part (c.args.n * c.args.n) c.pair_list-gamma_ij.result _ c.pair_list-gamma_ij.ensures))

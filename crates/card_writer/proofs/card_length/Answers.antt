@@ -8,21 +8,6 @@ use Rattle.card_writer.proofs.card_length.Goals as goal
 pub loop-k-init : goal.loop-k-init
 loop-k-init c = (search rules, omega (arith, none_length (layout (form_of c.args.newer) c.args.kind c.args.count) c.args.values.now), search rules)
 
-pub field_at-field-requires : goal.field_at-field-requires
-field_at-field-requires c = (c.requires.1, omega (arith, c.value_count-total.ensures, c.loop-k-test.true))
-
-pub offset_bounds-values-k : goal.offset_bounds-values-k
-offset_bounds-values-k c = omega (arith, total_below c.args.kind c.args.count c.args.newer c.args.values.now _ c.requires.1 c.value_count-total.ensures c.requires.2, c.loop-k-test.true)
-
-pub bounds-values-k : goal.bounds-values-k
-bounds-values-k c = omega (arith, c.value_count-total.ensures, c.requires.2, c.loop-k-test.true)
-
-pub field_length-bits-requires : goal.field_length-bits-requires
-field_length-bits-requires c = c.field_at-field.ensures.2
-
-pub overflow_add-bits : goal.overflow_add-bits
-overflow_add-bits c = omega (arith, total_below c.args.kind c.args.count c.args.newer c.args.values.now _ c.requires.1 c.value_count-total.ensures c.requires.2, c.loop-k-test.true, c.loop-k.invariant.2, c.field_length-bits.ensures.1)
-
 pub loop-k-preserved : goal.loop-k-preserved
 loop-k-preserved c = (omega (arith, c.loop-k-test.true), omega (arith, c.loop-k.invariant.1, c.field_length-bits.ensures.0, next_length c.args.kind c.args.count c.args.newer c.args.values.now _ c.requires.1 c.value_count-total.ensures c.requires.2 c.loop-k.k c.loop-k-test.true _ c.field_at-field.ensures.0), omega (arith, c.loop-k.invariant.2, c.field_length-bits.ensures.1))
 

@@ -12,15 +12,6 @@ use Rattle.card_writer.proofs.write_values.Goals as goal
 pub loop-k-init : goal.loop-k-init
 loop-k-init c = (search rules, search rules, omega (arith, none_length (layout (form_of c.args.newer) c.args.kind c.args.count) c.args.values.now), none_over (layout (form_of c.args.newer) c.args.kind c.args.count) c.args.values.now 6 (bits_of c.args.card.now), search rules)
 
-pub field_at-field-requires : goal.field_at-field-requires
-field_at-field-requires c = (c.requires.1, omega (arith, c.value_count-total.ensures, c.loop-k-test.true))
-
-pub offset_bounds-values-k : goal.offset_bounds-values-k
-offset_bounds-values-k c = omega (arith, total_below c.args.kind c.args.count c.args.newer c.args.values.now _ c.requires.1 c.value_count-total.ensures c.requires.2, c.loop-k-test.true)
-
-pub bounds-values-k : goal.bounds-values-k
-bounds-values-k c = omega (arith, c.value_count-total.ensures, c.requires.2, c.loop-k-test.true)
-
 pub write_field-end-requires : goal.write_field-end-requires
 write_field-end-requires c = (omega (arith, next_fits c.args.kind c.args.count c.args.newer c.args.values.now _ c.requires.1 c.value_count-total.ensures c.requires.2 c.loop-k.k c.loop-k-test.true _ c.field_at-field.ensures.0, c.loop-k.invariant.1, c.loop-k.invariant.2, c.requires.3), c.field_at-field.ensures.2, omega (arith, total_below c.args.kind c.args.count c.args.newer c.args.values.now _ c.requires.1 c.value_count-total.ensures c.requires.2, c.loop-k-test.true, c.loop-k.invariant.4))
 
