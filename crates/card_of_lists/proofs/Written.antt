@@ -25,6 +25,23 @@ use Rattle.card_writer.specs.Writing.{card_bytes, CardRoom, card_stored}
 use Rattle.card_of_lists.specs.Cards.{quantum_component, mie_component, pair_rows, quantum_card, mie_card, passed, passed_by, vrq_card, vr_card}
 
 -- ---- the tests for 1 to 5
+pub passed_other : (r : Refusal) → (r ≡ Domain → ⊥) → refused (code r) ≡ passed_by (Some r)
+passed_other Domain z = absurd (z refl)
+passed_other Length z = refl
+passed_other Limit z = refl
+passed_other Segments z = refl
+passed_other Order z = refl
+passed_other MixedOrders z = refl
+passed_other NotFinite z = refl
+passed_other Unsound z = refl
+passed_other Short z = refl
+passed_other Heading z = refl
+passed_other Filling z = refl
+passed_other Room z = refl
+passed_other Layers z = refl
+passed_other StoredZero z = refl
+passed_other Components z = refl
+passed_other Occupied z = refl
 
 pub passed_on : {S : Type 0} (q : Ans S) (g : Result S Refusal) (o : Option Refusal) (a : Ans Bool) → answer g ≡ q → o ≡ result_err g → a ≡ passed_by o → a ≡ passed q
 unfolding passed

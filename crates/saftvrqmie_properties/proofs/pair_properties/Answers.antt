@@ -80,4 +80,3 @@ returns g c =
     let r0 = radius_by (d.of false) _ _ c.radius.ensures in
     let y = via (answer_by (d.of false)) (c.diameter_by.ensures _ w) c.in_ok-d.was in
     properties_are _ _ _ _ _ _ _ x _ s _ sigma _ z _ r0 _ y (g.met.D.WithoutEnds.after_law false) _ _ _ _ (via of (c.depth_search.ensures _ w) c.in_ok-e.was) (last_by (d.of false) _ _ c.last_potential.ensures) (m.neg_law false _ _ c.neg.ensures) (c.quantum_d.ensures false)
-

