@@ -51,10 +51,11 @@ def types_of(text):
 
 
 def texts_of(folder):
+    """The texts of specs/. Of Laws.antt nothing is read: lemmas that an impl's laws name, which a root imports from specs/ alone; they define nothing."""
     found = {}
     for path in sorted(glob.glob(os.path.join(folder, "crates/*/specs/*.antt"))):
         with open(path) as f:
-            found[os.path.relpath(path, folder)] = f.read()
+            found[os.path.relpath(path, folder)] = "" if os.path.basename(path) == "Laws.antt" else f.read()
     return found
 
 
