@@ -5,5 +5,5 @@ use Rattle.domthelv.proofs.card_writing.domthelv_vr_card.Goals as goal
 
 pub returns : goal.returns
 returns c =
-    let given = c.vr_card-answer.ensures in
+    let given = c.vr_card.ensures in
     (through_status _ _ _ _ refl given.0 c.number.ensures, given.1, given.2)

@@ -12,7 +12,7 @@ returns-then-not-quantum_lengths c = let q = parameters_1 _ _ (told c.quantum_le
 
 -- src/quantum.rt:115:9
 pub returns-in-Err : goal.returns-in-Err
-returns-in-Err c = let q = (parameters_refused _ _ _ (told c.quantum_lengths.ensures c.if-not-quantum_lengths.false) (via answer c.saft_vrq_mie_pars-given.ensures c.in-Err.is)) in (refused_status _ _ _ c.code.ensures q, ap (λ (l : QuantumLent). l.m) (refused_stored _ _ _ q), ap (λ (l : QuantumLent). l.sheets) (refused_stored _ _ _ q), ap (λ (l : QuantumLent). l.orders) (refused_stored _ _ _ q))
+returns-in-Err c = let q = (parameters_refused _ _ _ (told c.quantum_lengths.ensures c.if-not-quantum_lengths.false) (via answer c.saft_vrq_mie_pars.ensures c.in-Err.is)) in (refused_status _ _ _ c.code.ensures q, ap (λ (l : QuantumLent). l.m) (refused_stored _ _ _ q), ap (λ (l : QuantumLent). l.sheets) (refused_stored _ _ _ q), ap (λ (l : QuantumLent). l.orders) (refused_stored _ _ _ q))
 
 -- src/quantum.rt:118:5
 pub write_quantum-requires : goal.write_quantum-requires
@@ -20,4 +20,4 @@ write_quantum-requires c = (told c.quantum_lengths.ensures c.if-not-quantum_leng
 
 -- src/quantum.rt:64:1
 pub returns-in-Ok : goal.returns-in-Ok
-returns-in-Ok c = let q = (parameters_held _ _ _ (told c.quantum_lengths.ensures c.if-not-quantum_lengths.false) (via answer c.saft_vrq_mie_pars-given.ensures c.in-Ok.is)) in (held_status _ _ q, c.write_quantum.ensures.0 ∙ ap (λ (l : QuantumLent). l.m) (held_stored _ _ _ q), c.write_quantum.ensures.1 ∙ ap (λ (l : QuantumLent). l.sheets) (held_stored _ _ _ q), c.write_quantum.ensures.2 ∙ ap (λ (l : QuantumLent). l.orders) (held_stored _ _ _ q))
+returns-in-Ok c = let q = (parameters_held _ _ _ (told c.quantum_lengths.ensures c.if-not-quantum_lengths.false) (via answer c.saft_vrq_mie_pars.ensures c.in-Ok.is)) in (held_status _ _ q, c.write_quantum.ensures.0 ∙ ap (λ (l : QuantumLent). l.m) (held_stored _ _ _ q), c.write_quantum.ensures.1 ∙ ap (λ (l : QuantumLent). l.sheets) (held_stored _ _ _ q), c.write_quantum.ensures.2 ∙ ap (λ (l : QuantumLent). l.orders) (held_stored _ _ _ q))
