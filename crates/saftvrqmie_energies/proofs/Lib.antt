@@ -1,4 +1,4 @@
 pub mod Lists
+pub mod Parts
 pub mod Relation
-pub mod Turns
 pub mod Ways

@@ -16,13 +16,13 @@ use Rattle.saftvrqmie_dispersion.proofs.Relation.{DispersionR, alpha_rel, chi_re
 use Rattle.number.specs.Lists.{nth}
 use Rattle.mie_parameters.specs.Sums.{weighted, orders_sum}
 use Rattle.mie_parameters.specs.Places.{in_places}
-use Rattle.saftvrqmie_energies.specs.State.{SheetsIn, sheets_of_state}
+use Rattle.saftvrqmie_dispersion_sums.specs.State.{SheetsIn, sheets_of_state}
 use Rattle.saftvrqmie_hard_sphere.specs.HardSphere.{ZetaIn, Zeta23In, zeta_added, frac1mz3, zeta23_added, hard_sphere_of}
-use Rattle.saftvrqmie_energies.specs.HardSphere.{zeta, zeta23_sums, zeta23, hard_sphere}
+use Rattle.saftvrqmie_hard_sphere.specs.HardSphere.{zeta, zeta23_sums, zeta23, hard_sphere}
 use Rattle.saftvrqmie_hard_sphere.specs.NonAdditive.{g_hs, non_additive_ij}
-use Rattle.saftvrqmie_energies.specs.NonAdditive.{non_additive_turn, non_additive_column, non_additive_sum, density_shares, non_additive}
+use Rattle.saftvrqmie_hard_sphere.specs.NonAdditive.{non_additive_turn, non_additive_column, non_additive_sum, density_shares, non_additive}
 use Rattle.saftvrqmie_dispersion.specs.Sums.{lead}
-use Rattle.saftvrqmie_energies.specs.Dispersion.{MixtureIn, inv_xs_sum, segment_fractions, packing_turn, packing_row, packing, alpha_turn, alpha_row, alphas, dispersion_pair_at, lead_at, first_turn, first_row, first, second_pair_turn, second_row, second, third_turn, third_row, third, mixture, dispersion}
+use Rattle.saftvrqmie_dispersion_sums.specs.Dispersion.{MixtureIn, inv_xs_sum, segment_fractions, packing_turn, packing_row, packing, alpha_turn, alpha_row, alphas, dispersion_pair_at, lead_at, first_turn, first_row, first, second_pair_turn, second_row, second, third_turn, third_row, third, mixture, dispersion}
 use Rattle.saftvrqmie_energies.specs.Energies.{EnergiesIn, contributions, contributions_of}
 use Rattle.saftvrqmie_energies.proofs.Lists.{All, all_replicate, all_set, all_get}
 

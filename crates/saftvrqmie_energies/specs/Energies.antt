@@ -10,11 +10,13 @@ use Rattle.sizes.specs.Sizes.{sheet}
 use Rattle.elementary.specs.Port.{port}
 use Rattle.limits.specs.Limits.{count_within, state_within}
 use Rattle.saftvrqmie_parameters.specs.declared.SaftVRQMiePars.{SaftVRQMiePars}
-use Rattle.saftvrqmie_energies.specs.State.{SheetsIn, sheets_of_state, points, diagonal}
-use Rattle.saftvrqmie_energies.specs.HardSphere.{hard_sphere}
-use Rattle.saftvrqmie_energies.specs.NonAdditive.{non_additive}
-use Rattle.saftvrqmie_energies.specs.Dispersion.{dispersion}
+use Rattle.saftvrqmie_hard_sphere.specs.State.{points, diagonal}
+use Rattle.saftvrqmie_hard_sphere.specs.HardSphere.{hard_sphere}
+use Rattle.saftvrqmie_hard_sphere.specs.NonAdditive.{non_additive}
+use Rattle.saftvrqmie_dispersion_sums.specs.State.{SheetsIn, sheets_of_state}
+use Rattle.saftvrqmie_dispersion_sums.specs.Dispersion.{dispersion}
 use Rattle.saftvrqmie_energies.specs.declared.QuantumEnergies.{QuantumEnergies}
+use Rattle.saftvrqmie_energies.specs.declared.Energies.{Energies}
 
 -- the three contributions, in the numbers N
 pub record EnergiesIn (N : Type 0) : Type 0 where
@@ -27,6 +29,17 @@ energies_in e = record { hard_sphere = e.hard_sphere; dispersion = e.dispersion;
 
 abbrev pub energies_answer : Result QuantumEnergies Refusal → Ans (EnergiesIn Float)
 energies_answer = answer_by energies_in
+
+-- what a run holds of them
+abbrev pub each_by : {D N : Type 0} → (D → N) → Energies D → EnergiesIn N
+each_by of e = record { hard_sphere = of e.hard_sphere; dispersion = of e.dispersion; non_additive = of e.non_additive }
+
+-- each taken as a number that a run can hold
+abbrev pub each_in : {M N : Type 0} → (M → N) → EnergiesIn M → EnergiesIn N
+each_in f e = record { hard_sphere = f e.hard_sphere; dispersion = f e.dispersion; non_additive = f e.non_additive }
+
+abbrev pub each_taken : {M N : Type 0} → (M → N) → Ans (EnergiesIn M) → Ans (EnergiesIn N)
+each_taken f a = a >>= λ e. held (each_in f e)
 
 -- The contributions, from the sheets, mole fractions, partial densities, m and the temperature. A non-additive part that is not wanted is +0 and nothing of it is worked
 unfoldable pub contributions : (A : Arith) → Functions A.Num → SheetsIn A.Num → (ℕ → A.Num) → (ℕ → A.Num) → (ℕ → A.Num) → A.Num → Bool → Ans (EnergiesIn A.Num)

@@ -1,22 +1,17 @@
 // The Helmholtz energy densities of SAFT-VRQ Mie: hard sphere, dispersion, non-additive (saftvrqmie/eos).
 #![tactic(auto)]
 
-ghost use Rattle.std.specs.Prelude.{◌≡◌, ◌*◌, ◌≤◌, length, cond};
-ghost use Rattle.number.specs.Arith.{floats, zero64};
-ghost use Rattle.number.specs.Functions.{calls};
+ghost use Rattle.std.specs.Prelude.{◌≡◌, ◌*◌, ◌<◌, ◌≤◌, true};
+ghost use Rattle.number.specs.Answer.{answer_by};
 ghost use Rattle.sizes.specs.Sizes.{side, sheet};
-ghost use Rattle.elementary.specs.Port.{port};
-ghost use Rattle.saftvrqmie_energies.specs.State.{points, sheet_of};
-ghost use Rattle.saftvrqmie_energies.specs.NonAdditive.{non_additive};
+ghost use Rattle.saftvrqmie_hard_sphere.specs.State.{points, First};
+ghost use Rattle.saftvrqmie_dispersion_sums.specs.State.{sheets_by};
 ghost use Rattle.saftvrqmie_parameters.specs.declared.SaftVRQMiePars.{SaftVRQMiePars};
-ghost use Rattle.saftvrqmie_energies.specs.Energies.{energies_in, energies_answer, energies_finite, state_lengths, energies};
+ghost use Rattle.saftvrqmie_energies.specs.Energies.{energies_in, energies_answer, each_by, each_taken, contributions, energies_finite, state_lengths, energies};
 
-mod dispersion;
-mod hard_sphere;
-mod non_additive_hs;
-mod state;
-
+use dual_num::{DualNum, NumberList};
 use number::Refusal;
+use saftvrqmie_dispersion_sums::State;
 use saftvrqmie_parameters::{OrderRecord, SaftVRQMiePars};
 use sizes::{SHEET, SHEETS, SIDE, TABLE};
 
@@ -25,6 +20,14 @@ pub struct QuantumEnergies {
     pub hard_sphere: f64,
     pub dispersion: f64,
     pub non_additive: f64,
+}
+
+// The same of any run.
+#[derive(Clone, Copy)]
+pub struct Energies<D> {
+    pub hard_sphere: D,
+    pub dispersion: D,
+    pub non_additive: D,
 }
 
 fn all_finite(e: QuantumEnergies) -> bool
@@ -41,18 +44,37 @@ pub fn right_lengths(n: usize, x: &[f64], rho: &[f64], table: &[f64]) -> bool
     limits::count_within(n) & (x.len() == n) & (rho.len() == n) & (table.len() == TABLE)
 }
 
-// Not wanted: +0, and nothing of it is worked.
-fn wanted_part(n: usize, rho: &[f64], m: &[f64; SIDE], table: &[f64], wanted: bool) -> f64
-    requires { (n ≤ side) × (length table.now ≡ 4 * sheet) × (length rho.now ≡ n) }
-    ensures { let rho = points floats rho.entry.now in
-        let m = points floats m.entry.now in
-        let hs_diameter = sheet_of floats table.now 1 in
-        result ≡ cond wanted (non_additive floats (calls floats port) n rho m hs_diameter) zero64 }
+// The three contributions of a state, in any run; a part that is not wanted is +0, and nothing of it is worked. xs and alphas are room. 6.
+pub fn contributions<D: DualNum>(
+    s: &State<D>,
+    m: &[f64; SIDE],
+    x: &NumberList,
+    rho: &NumberList,
+    wanted: bool,
+    xs: &mut [D; SIDE],
+    alphas: &mut [D; SHEET],
+) -> Result<Energies<D>, Refusal>
+    requires { (0 < s.now.n) × (s.now.n ≤ side)
+        × First (4 * sheet) (D.has s.now.table.values.now s.now.table.slopes.now)
+        × First s.now.n (D.has x.now.values.now x.now.slopes.now)
+        × First s.now.n (D.has rho.now.values.now rho.now.slopes.now) }
+    ensures { let A = D.beside true in
+        let table = D.entry_of true s.now.table.values.now s.now.table.slopes.now in
+        let sheets = sheets_by A s.now.n s.now.sheets.now s.now.orders (D.of true s.now.temperature) table in
+        let x = D.entry_of true x.now.values.now x.now.slopes.now in
+        let rho = D.entry_of true rho.now.values.now rho.now.slopes.now in
+        answer_by (each_by (D.of true)) result ≡ each_taken (D.taken true) (contributions A (D.functions true) sheets x rho (points A m.now) (D.of true s.now.temperature) wanted) }
 {
-    if !wanted {
-        return 0.0;
-    }
-    non_additive_hs::non_additive(n, rho, m, table)
+    let table = s.table;
+    let z = saftvrqmie_hard_sphere::zeta::<D>(s.n, rho, &table, m);
+    let h = saftvrqmie_hard_sphere::helmholtz_energy_density(s.n, x, &table, m, z)?;
+    let d = saftvrqmie_dispersion_sums::helmholtz_energy_density(s, m, x, rho, xs, alphas)?;
+    let a = saftvrqmie_hard_sphere::wanted_part(s.n, rho, &table, m, z, xs, wanted);
+    Ok(Energies {
+        hard_sphere: h,
+        dispersion: d,
+        non_additive: a,
+    })
 }
 
 // Hard sphere, dispersion and, if wanted, non-additive, over a set's parts. 1, 2, 6, 7.
@@ -76,22 +98,31 @@ pub fn energies_of(
     if !limits::state_within(n, temperature, fractions, densities) {
         return Err(Refusal::Limit);
     }
-    let h = hard_sphere::hard_sphere(n, fractions, densities, table, m)?;
-    let d = dispersion::dispersion(
+    let s = State {
         n,
-        m,
         sheets,
         orders,
         temperature,
-        fractions,
-        densities,
-        table,
-    )?;
-    let a = wanted_part(n, densities, m, table, non_additive);
+        table: NumberList {
+            values: table,
+            slopes: &[],
+        },
+    };
+    let x = NumberList {
+        values: fractions,
+        slopes: &[],
+    };
+    let rho = NumberList {
+        values: densities,
+        slopes: &[],
+    };
+    let mut xs = [0.0; SIDE];
+    let mut alphas = [0.0; SHEET];
+    let c = contributions(&s, m, &x, &rho, non_additive, &mut xs, &mut alphas)?;
     let e = QuantumEnergies {
-        hard_sphere: h,
-        dispersion: d,
-        non_additive: a,
+        hard_sphere: c.hard_sphere,
+        dispersion: c.dispersion,
+        non_additive: c.non_additive,
     };
     if !all_finite(e) {
         return Err(Refusal::NotFinite);

@@ -1,4 +1,2 @@
-pub mod Sheet
-pub mod Ways
 pub mod Encloses
-pub mod Zetas
+pub mod Ways

@@ -3,23 +3,19 @@ use Prim.Native.Nat.{ℕ}
 use lib.Ieee.{Float}
 use mathlib.Core.List.{List}
 use mathlib.Core.Path.{◌≡◌, refl, sym}
-use mathlib.Core.Bool.{Bool, true, false, cond}
+use mathlib.Core.Bool.{Bool, true, false}
 use Rattle.number.specs.Ans.{Ans, held, refused, ◌>>=◌, demand}
-use Rattle.number.specs.Arith.{floats, zero64}
+use Rattle.number.specs.Arith.{floats}
 use Rattle.number.specs.Functions.{Answers, calls}
 use Rattle.number.proofs.Rel.{Both, both_held, both_refused, calls_rel}
 use Rattle.enclosure.specs.declared.Enclosure.{Enclosure}
-use Rattle.enclosure.specs.Enclosure.{enclosures, point}
+use Rattle.enclosure.specs.Enclosure.{enclosures}
 use Rattle.enclosure.proofs.Relations.{Value, values}
 use Rattle.saftvrqmie_parameters.specs.declared.SaftVRQMiePars.{SaftVRQMiePars}
-use Rattle.saftvrqmie_energies.specs.State.{sheets_of_state, points, sheet_of, diagonal}
-use Rattle.saftvrqmie_energies.specs.HardSphere.{hard_sphere}
-use Rattle.saftvrqmie_energies.specs.NonAdditive.{non_additive}
-use Rattle.saftvrqmie_energies.specs.Dispersion.{dispersion}
 use Rattle.limits.specs.Limits.{state_within}
-use Rattle.saftvrqmie_energies.specs.Energies.{EnergiesIn, contributions, contributions_of, energies_finite, state_lengths, energies_by}
+use Rattle.saftvrqmie_energies.specs.Energies.{EnergiesIn, contributions_of, energies_finite, state_lengths, energies_by}
 use Rattle.saftvrqmie_energies.proofs.Relation.{EnergiesR, contributions_of_rel}
-use Rattle.saftvrqmie_energies_ends.specs.Operation.{together, values_of, each_ends, all_sound, sound_ends, energies_enclosed, energies_ends}
+use Rattle.saftvrqmie_energies_ends.specs.Operation.{values_of, each_ends, all_sound, sound_ends, energies_enclosed, energies_ends}
 
 parts : (v w : EnergiesIn Float) → v.hard_sphere ≡ w.hard_sphere → v.dispersion ≡ w.dispersion → v.non_additive ≡ w.non_additive → v ≡ w
 parts v w p q r = rw (p, q, r)
@@ -58,35 +54,18 @@ module _ (E : Answers) (s : SaftVRQMiePars) (t : Float) (x rho table : List Floa
     refuses_2 q = rw (p, q)
 
     module _ (q : state_within s.count t x rho ≡ true) where
-      stops : (k : ℕ) → worked ≡ refused k → refused k ≡ outcome
+      pub stops : (k : ℕ) → worked ≡ refused k → refused k ≡ outcome
       unfolding energies_enclosed energies_by demand ◌>>=◌
       stops k h = rw (p, q, float_refused worked_values k h)
 
-      pub no_hard_sphere : (k : ℕ) → hard_sphere enclosures (calls enclosures E) s.count (points enclosures x) (points enclosures rho) (diagonal (sheet_of enclosures table 1)) (points enclosures s.m) ≡ refused k → refused k ≡ outcome
-      unfolding contributions ◌>>=◌
-      no_hard_sphere k h = stops k (rw h)
+      module _ (b : EnergiesIn Enclosure) (works : worked ≡ held b) where
+        pub refuses_7 : energies_finite (values_of b) ≡ false → refused 7 ≡ outcome
+        unfolding energies_enclosed energies_by demand ◌>>=◌
+        refuses_7 g = rw (p, q, float_held worked_values _ works, g)
 
-      module _ (h : Enclosure) (is-h : hard_sphere enclosures (calls enclosures E) s.count (points enclosures x) (points enclosures rho) (diagonal (sheet_of enclosures table 1)) (points enclosures s.m) ≡ held h) where
-        abbrev disp : Ans Enclosure
-        disp = dispersion enclosures (calls enclosures E) (sheets_of_state enclosures s.count s.sheets s.orders t table) (points enclosures x) (points enclosures rho) (points enclosures s.m) (point t)
-
-        pub no_dispersion : (k : ℕ) → disp ≡ refused k → refused k ≡ outcome
-        unfolding contributions ◌>>=◌
-        no_dispersion k g = stops k (rw (is-h, g))
-
-        module _ (d : Enclosure) (is-d : disp ≡ held d)
-            (a : Enclosure) (is-a : a ≡ cond wanted (non_additive enclosures (calls enclosures E) s.count (points enclosures rho) (points enclosures s.m) (sheet_of enclosures table 1)) (point zero64)) where
-          works : worked ≡ held (together h d a)
-          unfolding contributions ◌>>=◌
-          works = rw (is-h, is-d, ← is-a)
-
-          pub refuses_7 : energies_finite (values_of (together h d a)) ≡ false → refused 7 ≡ outcome
-          unfolding energies_enclosed energies_by demand ◌>>=◌
-          refuses_7 g = rw (p, q, float_held worked_values _ works, g)
-
-          pub holds : energies_finite (values_of (together h d a)) ≡ true → held (together h d a) ≡ outcome
-          unfolding energies_enclosed energies_by demand ◌>>=◌
-          holds g = rw (p, q, float_held worked_values _ works, g, works)
+        pub holds : energies_finite (values_of b) ≡ true → held b ≡ outcome
+        unfolding energies_enclosed energies_by demand ◌>>=◌
+        holds g = rw (p, q, float_held worked_values _ works, g, works)
 
 -- ---- then 8
 pub unsound : (b : EnergiesIn Enclosure) → all_sound b ≡ false → refused 8 ≡ sound_ends b

@@ -1,30 +1,17 @@
 // The Helmholtz energy densities of SAFT-VRQ Mie (saftvrqmie/eos) in the two-ended run: hard sphere, dispersion, non-additive.
 #![tactic(auto)]
 
-ghost use Rattle.std.specs.Prelude.{◌≡◌, ◌*◌, ◌≤◌, length, cond};
-ghost use Rattle.number.specs.Arith.{zero64};
-ghost use Rattle.number.specs.Functions.{calls};
-ghost use Rattle.sizes.specs.Sizes.{side, sheet};
+ghost use Rattle.std.specs.Prelude.{◌≡◌};
 ghost use Rattle.elementary.specs.Port.{port};
-ghost use Rattle.enclosure.specs.Enclosure.{enclosures, point};
-ghost use Rattle.saftvrqmie_energies.specs.State.{points, sheet_of};
-ghost use Rattle.saftvrqmie_energies.specs.NonAdditive.{non_additive};
 ghost use Rattle.enclosure.specs.Ends.{ends_in};
 ghost use Rattle.saftvrqmie_parameters.specs.declared.SaftVRQMiePars.{SaftVRQMiePars};
 ghost use Rattle.saftvrqmie_energies.specs.Energies.{energies_finite};
 ghost use Rattle.saftvrqmie_energies_ends.specs.Operation.{together, values_of, all_sound, sound_ends, energies_enclosed, energies_ends, enclosures_each, enclosures_answer, energies_ends_answer};
-ghost use Rattle.saftvrqmie_hard_sphere.specs.HardSphere.{zeta_in};
-ghost use Rattle.saftvrqmie_energies_ends.specs.Parts.{zetas_of};
 
-mod alphas;
-mod dispersion;
-mod hard_sphere;
-mod non_additive_hs;
-mod state;
-
+use dual_num::NumberList;
 use enclosure::{Enclosure, Ends};
 use number::Refusal;
-use saftvrqmie_hard_sphere::Zetas;
+use saftvrqmie_dispersion_sums::State;
 use saftvrqmie_parameters::{OrderRecord, SaftVRQMiePars};
 use sizes::{SHEET, SHEETS, SIDE};
 
@@ -42,27 +29,6 @@ pub struct EnergiesEnclosures {
     pub hard_sphere: Enclosure,
     pub dispersion: Enclosure,
     pub non_additive: Enclosure,
-}
-
-// Not wanted: +0, and nothing of it is worked.
-fn wanted_part(
-    n: usize,
-    rho: &[f64],
-    m: &[f64; SIDE],
-    table: &[f64],
-    z: Zetas<Enclosure>,
-    wanted: bool,
-) -> Enclosure
-    requires { (n ≤ side) × (length table.now ≡ 4 * sheet) × (length rho.now ≡ n) × (zeta_in z ≡ zetas_of n rho.now table.now m.now) }
-    ensures { let rho = points enclosures rho.entry.now in
-        let m = points enclosures m.entry.now in
-        let hs_diameter = sheet_of enclosures table.now 1 in
-        result ≡ cond wanted (non_additive enclosures (calls enclosures port) n rho m hs_diameter) (point zero64) }
-{
-    if !wanted {
-        return Enclosure::point(0.0);
-    }
-    non_additive_hs::non_additive(n, rho, m, table, z)
 }
 
 fn ends_in(b: Enclosure) -> Ends
@@ -111,19 +77,39 @@ pub fn enclosures_of(
     if !limits::state_within(n, temperature, fractions, densities) {
         return Err(Refusal::Limit);
     }
-    let z = hard_sphere::zeta(n, densities, table, m);
-    let h = hard_sphere::hard_sphere(n, fractions, table, m, z)?;
-    let d = dispersion::dispersion(
+    let s = State {
         n,
-        m,
         sheets,
         orders,
-        temperature,
-        fractions,
-        densities,
-        table,
+        temperature: Enclosure::point(temperature),
+        table: NumberList {
+            values: table,
+            slopes: &[],
+        },
+    };
+    let x = NumberList {
+        values: fractions,
+        slopes: &[],
+    };
+    let rho = NumberList {
+        values: densities,
+        slopes: &[],
+    };
+    let zero = Enclosure::point(0.0);
+    let mut xs = [zero; SIDE];
+    let mut alphas = [zero; SHEET];
+    let c = saftvrqmie_energies::contributions(
+        &s,
+        m,
+        &x,
+        &rho,
+        non_additive,
+        &mut xs,
+        &mut alphas,
     )?;
-    let a = wanted_part(n, densities, m, table, z, non_additive);
+    let h = c.hard_sphere;
+    let d = c.dispersion;
+    let a = c.non_additive;
     if !all_finite(h, d, a) {
         return Err(Refusal::NotFinite);
     }

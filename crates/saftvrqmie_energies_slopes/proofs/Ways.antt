@@ -1,60 +1,58 @@
 -- The ways of the energies with slopes, over plain values. Assumes nothing.
 use Prim.Native.Nat.{ℕ}
 use lib.Ieee.{Float}
-use mathlib.Core.Bool.{Bool, true, false, cond}
+use mathlib.Core.Bool.{Bool, true, false}
 use mathlib.Core.List.{List}
-use mathlib.Core.Path.{◌≡◌}
+use mathlib.Core.Path.{◌≡◌, ap}
 use Rattle.number.specs.Ans.{Ans, held, refused, ◌>>=◌, demand}
-use Rattle.number.specs.Arith.{zero64}
-use Rattle.number.specs.Functions.{Functions}
+use Rattle.number.proofs.Walk.{held_inj}
 use Rattle.elementary.specs.Port.{port}
 use Rattle.dual.specs.Dual.{DualOf}
-use Rattle.slopes.specs.Mixed.{Mixed, plain, sloped, as_dual, mixed_one}
-use Rattle.slopes.specs.Rules.{mixed_functions}
+use Rattle.slopes.specs.Mixed.{Mixed, sloped, as_dual}
 use Rattle.saftvrqmie_parameters.specs.declared.SaftVRQMiePars.{SaftVRQMiePars}
-use Rattle.saftvrqmie_energies.specs.State.{SheetsIn, diagonal, points}
-use Rattle.saftvrqmie_energies.specs.HardSphere.{hard_sphere}
-use Rattle.saftvrqmie_energies.specs.NonAdditive.{non_additive}
-use Rattle.saftvrqmie_energies.specs.Dispersion.{dispersion}
-use Rattle.saftvrqmie_energies.specs.Energies.{EnergiesIn, contributions}
-use Rattle.saftvrqmie_hard_sphere_slopes.specs.Parts.{sloped_at, sloped_sheet}
-use Rattle.saftvrqmie_dispersion_sums_slopes.specs.State.{sloped_sheets}
-use Rattle.saftvrqmie_energies_slopes.specs.Energies.{slopes_finite, contributions_slope, energies_slope}
+use Rattle.saftvrqmie_energies.specs.Energies.{EnergiesIn, each_in, each_taken}
+use Rattle.saftvrqmie_energies_slopes.specs.Energies.{as_duals, slopes_finite, contributions_slope, energies_slope}
 
-abbrev F : Functions Mixed
-F = mixed_functions port
+-- a number taken as a D
+abbrev taken : Mixed → Mixed
+taken m = sloped (as_dual m)
+
+-- what the run with slopes gives of the formula's contributions, each taken as a D
+abbrev pub given : Ans (EnergiesIn Mixed) → Ans (EnergiesIn (DualOf Float))
+given a = a >>= λ e. demand 7 (slopes_finite (as_duals e)) >>= λ _. held (as_duals e)
+
+given_refused : (a : Ans (EnergiesIn Mixed)) (k : ℕ) → each_taken taken a ≡ refused k → refused k ≡ given a
+unfolding ◌>>=◌
+given_refused (held e) k h = let z : ◌≡◌ {A = Bool} true false = cc in absurd (mathlib.Core.Bool.true≢false z)
+given_refused (refused n) k h = cc
+
+given_held : (a : Ans (EnergiesIn Mixed)) (found : EnergiesIn (DualOf Float)) → each_taken taken a ≡ held (each_in sloped found) → given a ≡ (demand 7 (slopes_finite found) >>= λ _. held found)
+unfolding ◌>>=◌
+given_held (held e) found h =
+    let is : as_duals e ≡ found = ap (each_in as_dual) (held_inj _ _ h) in
+    rw is
+given_held (refused n) found h = let z : ◌≡◌ {A = Bool} true false = cc in absurd (mathlib.Core.Bool.true≢false z)
 
 module _ (s : SaftVRQMiePars) (t : DualOf Float) (x x' rho rho' table table' : List Float) (wanted : Bool) where
   abbrev outcome : Ans (EnergiesIn (DualOf Float))
   outcome = energies_slope port s t x x' rho rho' table table' wanted
 
-  abbrev sheets : SheetsIn Mixed
-  sheets = sloped_sheets s.count s.sheets s.orders t table table'
+  abbrev worked : Ans (EnergiesIn Mixed)
+  worked = contributions_slope port s t x x' rho rho' table table' wanted
 
-  abbrev hard : Ans Mixed
-  hard = hard_sphere mixed_one F s.count (sloped_at x x') (sloped_at rho rho') (diagonal (sloped_sheet table table' 1)) (points mixed_one s.m)
+  pub stops : (k : ℕ) → each_taken taken worked ≡ refused k → refused k ≡ outcome
+  unfolding energies_slope
+  stops k h = given_refused worked k h
 
-  abbrev dispersed : Ans Mixed
-  dispersed = dispersion mixed_one F sheets (sloped_at x x') (sloped_at rho rho') (points mixed_one s.m) (sloped t)
+  module _ (found : EnergiesIn (DualOf Float)) (is : each_taken taken worked ≡ held (each_in sloped found)) where
+    is_given : outcome ≡ (demand 7 (slopes_finite found) >>= λ _. held found)
+    unfolding energies_slope
+    is_given = given_held worked found is
 
-  pub no_hard_sphere : (k : ℕ) → hard ≡ refused k → refused k ≡ outcome
-  unfolding energies_slope contributions_slope contributions ◌>>=◌
-  no_hard_sphere k h = rw h
+    pub refuses_7 : slopes_finite found ≡ false → refused 7 ≡ outcome
+    unfolding demand ◌>>=◌
+    refuses_7 h = rw (is_given, h)
 
-  module _ (a : DualOf Float) (is-a : hard ≡ held (sloped a)) where
-    pub no_dispersion : (k : ℕ) → dispersed ≡ refused k → refused k ≡ outcome
-    unfolding energies_slope contributions_slope contributions ◌>>=◌
-    no_dispersion k h = rw (is-a, h)
-
-    module _ (b : DualOf Float) (is_b : dispersed ≡ held (sloped b))
-        (c : DualOf Float) (is_c : c ≡ as_dual (cond wanted (non_additive mixed_one F s.count (sloped_at rho rho') (points mixed_one s.m) (sloped_sheet table table' 1)) (plain zero64))) where
-      abbrev found : EnergiesIn (DualOf Float)
-      found = record { hard_sphere = a; dispersion = b; non_additive = c }
-
-      pub refuses_7 : slopes_finite found ≡ false → refused 7 ≡ outcome
-      unfolding energies_slope contributions_slope contributions demand ◌>>=◌
-      refuses_7 h = rw (is-a, is_b, ← is_c, h)
-
-      pub holds : slopes_finite found ≡ true → held found ≡ outcome
-      unfolding energies_slope contributions_slope contributions demand ◌>>=◌
-      holds h = rw (is-a, is_b, ← is_c, h)
+    pub holds : slopes_finite found ≡ true → held found ≡ outcome
+    unfolding demand ◌>>=◌
+    holds h = rw (is_given, h)

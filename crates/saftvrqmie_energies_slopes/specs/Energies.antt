@@ -10,10 +10,9 @@ use Rattle.dual.specs.Value.{dual_of}
 use Rattle.slopes.specs.Mixed.{Mixed, sloped, as_dual, mixed_one}
 use Rattle.slopes.specs.Rules.{mixed_functions}
 use Rattle.saftvrqmie_parameters.specs.declared.SaftVRQMiePars.{SaftVRQMiePars}
-use Rattle.saftvrqmie_energies.specs.State.{points}
+use Rattle.saftvrqmie_hard_sphere.specs.State.{points}
 use Rattle.saftvrqmie_energies.specs.Energies.{EnergiesIn, contributions}
-use Rattle.saftvrqmie_hard_sphere_slopes.specs.Parts.{sloped_at}
-use Rattle.saftvrqmie_dispersion_sums_slopes.specs.State.{sloped_sheets}
+use Rattle.saftvrqmie_energies_slopes.specs.State.{sloped_at, sloped_sheets}
 use Rattle.saftvrqmie_energies_slopes.specs.declared.QuantumEnergiesSlopes.{QuantumEnergiesSlopes}
 
 abbrev pub energies_slopes_in : QuantumEnergiesSlopes → EnergiesIn (DualOf Float)

@@ -9,7 +9,9 @@ ghost use Rattle.saftvrqmie_parameters.specs.declared.SaftVRQMiePars.{SaftVRQMie
 ghost use Rattle.saftvrqmie_energies_slopes.specs.Energies.{energies_slopes_in, energies_slopes_answer, finite_dual, slopes_finite, energies_slope};
 
 use dual::Dual;
+use dual_num::NumberList;
 use number::Refusal;
+use saftvrqmie_dispersion_sums::State;
 use saftvrqmie_parameters::OrderRecord;
 use sizes::{SHEET, SHEETS, SIDE, TABLE};
 
@@ -52,42 +54,40 @@ pub fn energies_of(
         let run = energies_slope port set (dual_of temperature) x.now x_slopes.now rho.now rho_slopes.now in
         energies_slopes_answer result ≡ run table.now table_slopes.now non_additive }
 {
-    let h = saftvrqmie_hard_sphere_slopes::hard_sphere(
+    let s = State {
         n,
-        x,
-        x_slopes,
-        rho,
-        rho_slopes,
-        table,
-        table_slopes,
-        m,
-    )?;
-    let d = saftvrqmie_dispersion_sums_slopes::dispersion(
-        n,
-        m,
         sheets,
         orders,
         temperature,
-        x,
-        x_slopes,
-        rho,
-        rho_slopes,
-        table,
-        table_slopes,
-    )?;
-    let a = saftvrqmie_hard_sphere_slopes::wanted_part(
-        n,
-        rho,
-        rho_slopes,
+        table: NumberList {
+            values: table,
+            slopes: table_slopes,
+        },
+    };
+    let fractions = NumberList {
+        values: x,
+        slopes: x_slopes,
+    };
+    let densities = NumberList {
+        values: rho,
+        slopes: rho_slopes,
+    };
+    let zero = Dual::plain(0.0);
+    let mut xs = [zero; SIDE];
+    let mut alphas = [zero; SHEET];
+    let c = saftvrqmie_energies::contributions(
+        &s,
         m,
-        table,
-        table_slopes,
+        &fractions,
+        &densities,
         non_additive,
-    );
+        &mut xs,
+        &mut alphas,
+    )?;
     let e = QuantumEnergiesSlopes {
-        hard_sphere: h,
-        dispersion: d,
-        non_additive: a,
+        hard_sphere: c.hard_sphere,
+        dispersion: c.dispersion,
+        non_additive: c.non_additive,
     };
     if !all_finite(e) {
         return Err(Refusal::NotFinite);

@@ -1,9 +1,17 @@
-// `zeta` and `zeta_23` of a component, added to what stands, and the energy from both.
-ghost use Rattle.std.specs.Prelude.{◌≡◌, Bool};
-ghost use Rattle.saftvrqmie_hard_sphere.specs.HardSphere.{zeta_by, zeta23_by, zeta_added, frac1mz3, zeta23_added, hard_sphere_of};
+// The hard sphere's contribution (saftvrqmie/eos/hard_sphere.rs): the sums `zeta` and `zeta_23`, and the energy.
+ghost use Rattle.std.specs.Prelude.{◌≡◌, ◌*◌, ◌<◌, ◌≤◌, Bool, map};
+ghost use Rattle.number.specs.Answer.{answer_by};
+ghost use Rattle.number.specs.Arith.{whole};
+ghost use Rattle.number.specs.Lists.{nth};
+ghost use Rattle.sizes.specs.Sizes.{side, sheet};
+ghost use Rattle.mie_parameters.specs.Sums.{weighted};
+ghost use Rattle.saftvrqmie_hard_sphere.specs.State.{diagonal, points, sheet_in, First};
+ghost use Rattle.saftvrqmie_hard_sphere.specs.HardSphere.{ZetaIn, Zeta23In, zeta_by, zeta_each, zeta23_by, zeta23_each, zeta_added, frac1mz3, zeta23_added, hard_sphere_of, zeta, zeta23, hard_sphere_from};
 
-use dual_num::DualNum;
-use number::Arithmetic;
+use dual_num::{DualNum, NumberList};
+use number::{Arithmetic, Refusal};
+use sizes::SIDE;
+use sizes::table::HS_DIAMETER;
 
 #[derive(Clone, Copy)]
 pub struct Zetas<D> {
@@ -15,14 +23,30 @@ pub struct Zetas<D> {
 
 // The two sums of `zeta_23`.
 #[derive(Clone, Copy)]
-pub struct Zeta23<D> {
-    pub y0: D,
-    pub y1: D,
+struct Zeta23<D> {
+    y0: D,
+    y1: D,
+}
+
+// What a sum begins at.
+pub fn zero<D: DualNum>() -> D
+    ensures { (w : Bool) → D.of w result ≡ D.taken w (whole (D.beside w) 0) }
+{
+    D::lift(D::Plain::lit(0.0))
+}
+
+// Entry i of a run's own list.
+pub fn component<D: DualNum>(xs: &[D; SIDE], i: usize) -> D
+    requires { i < side }
+    ensures { (w : Bool) → D.of w result ≡ nth (D.beside w) (map (D.of w) xs.now) i }
+{
+    xs[i]
 }
 
 // PI / 6.0 is an operation of the Rust, not one number.
-pub fn zeta_added<D: DualNum>(rho: D, d: D, m: D::Plain, z: Zetas<D>) -> Zetas<D>
-    ensures { (w : Bool) → zeta_by (D.of w) result ≡ zeta_added (D.beside w) (D.functions w) (D.of w rho) (D.of w d) (D.plain w m) (zeta_by (D.of w) z) }
+fn zeta_added<D: DualNum>(rho: D, d: D, m: D::Plain, z: Zetas<D>) -> Zetas<D>
+    ensures { (w : Bool) (v : ZetaIn (D.beside w).Num) → zeta_each (D.taken w) v ≡ zeta_by (D.of w) z →
+        zeta_by (D.of w) result ≡ zeta_added (D.beside w) (D.functions w) (D.of w rho) (D.of w d) (D.plain w m) v }
 {
     let share = D::pi() / D::Plain::lit(6.0) * m;
     Zetas {
@@ -33,14 +57,43 @@ pub fn zeta_added<D: DualNum>(rho: D, d: D, m: D::Plain, z: Zetas<D>) -> Zetas<D
     }
 }
 
+pub fn zeta<D: DualNum>(
+    n: usize,
+    rho: &NumberList,
+    table: &NumberList,
+    m: &[f64; SIDE],
+) -> Zetas<D>
+    requires { (0 < n) × (n ≤ side)
+        × First n (D.has rho.now.values.now rho.now.slopes.now)
+        × First (4 * sheet) (D.has table.now.values.now table.now.slopes.now) }
+    ensures { (w : Bool) → let rho = D.entry_of w rho.now.values.now rho.now.slopes.now in
+        let d = diagonal (sheet_in (D.entry_of w table.now.values.now table.now.slopes.now) 1) in
+        zeta_by (D.of w) result ≡ zeta (D.beside w) (D.functions w) n rho d (points (D.beside w) m.now) }
+{
+    let none = zero::<D>();
+    let mut z = Zetas {
+        z0: none,
+        z1: none,
+        z2: none,
+        z3: none,
+    };
+    for i in 0usize..n {
+        let a = D::entry(rho, i);
+        let d = D::entry(table, HS_DIAMETER + (SIDE * i + i));
+        z = zeta_added(a, d, D::Plain::lit(m[i]), z);
+    }
+    z
+}
+
 pub fn frac_1mz3<D: DualNum>(z3: D) -> D
     ensures { (w : Bool) → D.of w result ≡ frac1mz3 (D.beside w) (D.of w z3) }
 {
     -(z3 - D::Plain::lit(1.0)).recip()
 }
 
-pub fn zeta_23_added<D: DualNum>(x: D, d: D, m: D::Plain, y: Zeta23<D>) -> Zeta23<D>
-    ensures { (w : Bool) → zeta23_by (D.of w) result ≡ zeta23_added (D.beside w) (D.of w x) (D.of w d) (D.plain w m) (zeta23_by (D.of w) y) }
+fn zeta_23_added<D: DualNum>(x: D, d: D, m: D::Plain, y: Zeta23<D>) -> Zeta23<D>
+    ensures { (w : Bool) (v : Zeta23In (D.beside w).Num) → zeta23_each (D.taken w) v ≡ zeta23_by (D.of w) y →
+        zeta23_by (D.of w) result ≡ zeta23_added (D.beside w) (D.of w x) (D.of w d) (D.plain w m) v }
 {
     Zeta23 {
         y0: y.y0 + x * d.square() * m,
@@ -48,8 +101,26 @@ pub fn zeta_23_added<D: DualNum>(x: D, d: D, m: D::Plain, y: Zeta23<D>) -> Zeta2
     }
 }
 
+fn zeta_23<D: DualNum>(n: usize, x: &NumberList, table: &NumberList, m: &[f64; SIDE]) -> D
+    requires { (0 < n) × (n ≤ side)
+        × First n (D.has x.now.values.now x.now.slopes.now)
+        × First (4 * sheet) (D.has table.now.values.now table.now.slopes.now) }
+    ensures { (w : Bool) → let x = D.entry_of w x.now.values.now x.now.slopes.now in
+        let d = diagonal (sheet_in (D.entry_of w table.now.values.now table.now.slopes.now) 1) in
+        D.of w result ≡ zeta23 (D.beside w) n x d (points (D.beside w) m.now) }
+{
+    let none = zero::<D>();
+    let mut y = Zeta23 { y0: none, y1: none };
+    for i in 0usize..n {
+        let a = D::entry(x, i);
+        let d = D::entry(table, HS_DIAMETER + (SIDE * i + i));
+        y = zeta_23_added(a, d, D::Plain::lit(m[i]), y);
+    }
+    y.y0 / y.y1
+}
+
 // l is the logarithm of 1 - zeta[3].
-pub fn hard_sphere_of<D: DualNum>(z: Zetas<D>, z23: D, l: D) -> D
+fn hard_sphere_of<D: DualNum>(z: Zetas<D>, z23: D, l: D) -> D
     ensures { (w : Bool) → D.of w result ≡ hard_sphere_of (D.beside w) (D.functions w) (zeta_by (D.of w) z) (D.of w z23) (D.of w l) }
 {
     let f = frac_1mz3(z.z3);
@@ -58,4 +129,37 @@ pub fn hard_sphere_of<D: DualNum>(z: Zetas<D>, z23: D, l: D) -> D
         + (z.z2 * z23.square() - z.z0) * l)
         * D::Plain::lit(6.0)
         / D::pi()
+}
+
+// From the zetas, which the non-additive part takes too.
+pub fn helmholtz_energy_density<D: DualNum>(
+    n: usize,
+    x: &NumberList,
+    table: &NumberList,
+    m: &[f64; SIDE],
+    z: Zetas<D>,
+) -> Result<D, Refusal>
+    requires { (0 < n) × (n ≤ side)
+        × First n (D.has x.now.values.now x.now.slopes.now)
+        × First (4 * sheet) (D.has table.now.values.now table.now.slopes.now) }
+    ensures { (w : Bool) → let x = D.entry_of w x.now.values.now x.now.slopes.now in
+        let d = diagonal (sheet_in (D.entry_of w table.now.values.now table.now.slopes.now) 1) in
+        answer_by (D.of w) result ≡ hard_sphere_from (D.beside w) (D.functions w) n x d (points (D.beside w) m.now) (zeta_by (D.of w) z) }
+{
+    let v = z.z3 * D::Plain::lit(-1.0);
+    let l = v.ln_1p()?;
+    let z23 = zeta_23(n, x, table, m);
+    Ok(hard_sphere_of(z, z23, l))
+}
+
+pub fn segment_density<D: DualNum>(n: usize, rho: &NumberList, m: &[f64; SIDE]) -> D
+    requires { (0 < n) × (n ≤ side) × First n (D.has rho.now.values.now rho.now.slopes.now) }
+    ensures { (w : Bool) → let rho = D.entry_of w rho.now.values.now rho.now.slopes.now in
+        D.of w result ≡ weighted (D.beside w) n rho (points (D.beside w) m.now) }
+{
+    let mut r = zero::<D>();
+    for i in 0usize..n {
+        r = r + D::entry(rho, i) * D::Plain::lit(m[i]);
+    }
+    r
 }

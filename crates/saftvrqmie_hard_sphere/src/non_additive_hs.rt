@@ -1,9 +1,25 @@
-// The entry of a pair.
-ghost use Rattle.std.specs.Prelude.{◌≡◌, Bool};
-ghost use Rattle.saftvrqmie_hard_sphere.specs.NonAdditive.{g_hs, non_additive_ij};
+// The non-additive hard sphere's contribution (saftvrqmie/eos/non_additive_hs.rs).
+ghost use Rattle.std.specs.Prelude.{◌≡◌, ◌*◌, ◌<◌, ◌≤◌, ℕ, Bool, cond};
+ghost use Rattle.number.specs.Arith.{whole};
+ghost use Rattle.number.specs.Lists.{nth};
+ghost use Rattle.sizes.specs.Sizes.{side, sheet};
+ghost use Rattle.saftvrqmie_hard_sphere.specs.State.{diagonal, points, sheet_in, First, Reads};
+ghost use Rattle.saftvrqmie_hard_sphere.specs.HardSphere.{zeta_by, zeta};
+ghost use Rattle.saftvrqmie_hard_sphere.specs.NonAdditive.{g_hs, non_additive_ij, non_additive_column, non_additive_sum, density_shares, non_additive};
 
-use dual_num::DualNum;
+use crate::hard_sphere::{Zetas, component, frac_1mz3, segment_density, zero};
+use dual_num::{DualNum, NumberList};
 use number::Arithmetic;
+use sizes::SIDE;
+use sizes::table::HS_DIAMETER;
+
+// What every pair takes: rho_s, zeta[2] and frac_1mz3.
+#[derive(Clone, Copy)]
+struct Shared<D> {
+    rho_s: D,
+    z2: D,
+    f: D,
+}
 
 fn g_hs<D: DualNum>(di: D, dj: D, z2: D, f: D) -> D
     ensures { (w : Bool) → D.of w result ≡ g_hs (D.beside w) (D.of w di) (D.of w dj) (D.of w z2) (D.of w f) }
@@ -13,11 +29,127 @@ fn g_hs<D: DualNum>(di: D, dj: D, z2: D, f: D) -> D
     f + v * f.square() * D::Plain::lit(3.0) + v.square() * f.cube() * D::Plain::lit(2.0)
 }
 
-// From rho_s, the segment fractions and diameters of both, the diameter of the pair, zeta[2] and frac_1mz3.
-pub fn non_additive_ij<D: DualNum>(rho_s: D, xi: D, xj: D, di: D, dj: D, dij: D, z2: D, f: D) -> D
-    ensures { (w : Bool) → D.of w result ≡ non_additive_ij (D.beside w) (D.functions w) (D.of w rho_s) (D.of w xi) (D.of w xj) (D.of w di) (D.of w dj) (D.of w dij) (D.of w z2) (D.of w f) }
+// From the segment fractions and diameters of both, and the diameter of the pair.
+fn non_additive_ij<D: DualNum>(s: Shared<D>, xi: D, xj: D, di: D, dj: D, dij: D) -> D
+    ensures { (w : Bool) → D.of w result ≡ non_additive_ij (D.beside w) (D.functions w) (D.of w s.rho_s) (D.of w xi) (D.of w xj) (D.of w di) (D.of w dj) (D.of w dij) (D.of w s.z2) (D.of w s.f) }
 {
     let a = (di + dj) * D::Plain::lit(0.5);
-    let g = g_hs(di, dj, z2, f);
-    -rho_s * xi * xj * a.square() * g * (a - dij) * D::Plain::lit(2.0) * D::pi()
+    let g = g_hs(di, dj, s.z2, s.f);
+    -s.rho_s * xi * xj * a.square() * g * (a - dij) * D::Plain::lit(2.0) * D::pi()
+}
+
+// x_s of the non-additive part, in the first n places.
+fn density_shares<D: DualNum>(
+    n: usize,
+    rho_s: D,
+    rho: &NumberList,
+    m: &[f64; SIDE],
+    xs: &mut [D; SIDE],
+)
+    requires { (n ≤ side) × First n (D.has rho.now.values.now rho.now.slopes.now) }
+    ensures { (w : Bool) → let A = D.beside w in
+        let rho = D.entry_of w rho.now.values.now rho.now.slopes.now in
+        Reads A (D.of w) n xs.new (nth A (density_shares A (D.functions w) n (D.of w rho_s) rho (points A m.now))) }
+{
+    for i in 0usize..n {
+        let p = D::entry(rho, i) * D::Plain::lit(m[i]) / rho_s;
+        xs[i] = p;
+    }
+}
+
+fn non_additive_column<D: DualNum>(
+    n: usize,
+    xs: &[D; SIDE],
+    table: &NumberList,
+    s: Shared<D>,
+    j: usize,
+    sum: D,
+) -> D
+    requires { (n ≤ side) × (j < n) × First (4 * sheet) (D.has table.now.values.now table.now.slopes.now) }
+    ensures { (w : Bool) (x : ℕ → (D.beside w).Num) (v : (D.beside w).Num) → Reads (D.beside w) (D.of w) n xs.now x → D.taken w v ≡ D.of w sum →
+        let d = sheet_in (D.entry_of w table.now.values.now table.now.slopes.now) 1 in
+        D.of w result ≡ non_additive_column (D.beside w) (D.functions w) n x d (D.of w s.rho_s) (D.of w s.z2) (D.of w s.f) j v }
+{
+    let mut r = sum;
+    for i in 0usize..n {
+        let di = D::entry(table, HS_DIAMETER + (SIDE * i + i));
+        let dj = D::entry(table, HS_DIAMETER + (SIDE * j + j));
+        let dij = D::entry(table, HS_DIAMETER + (SIDE * i + j));
+        let xi = component(xs, i);
+        let xj = component(xs, j);
+        r = r + non_additive_ij(s, xi, xj, di, dj, dij);
+    }
+    r
+}
+
+fn non_additive_sum<D: DualNum>(
+    n: usize,
+    xs: &[D; SIDE],
+    table: &NumberList,
+    s: Shared<D>,
+) -> D
+    requires { (0 < n) × (n ≤ side) × First (4 * sheet) (D.has table.now.values.now table.now.slopes.now) }
+    ensures { (w : Bool) (x : ℕ → (D.beside w).Num) → Reads (D.beside w) (D.of w) n xs.now x →
+        let d = sheet_in (D.entry_of w table.now.values.now table.now.slopes.now) 1 in
+        D.of w result ≡ non_additive_sum (D.beside w) (D.functions w) n x d (D.of w s.rho_s) (D.of w s.z2) (D.of w s.f) }
+{
+    let mut r = zero::<D>();
+    for j in 0usize..n {
+        r = non_additive_column(n, xs, table, s, j, r);
+    }
+    r
+}
+
+fn non_additive<D: DualNum>(
+    n: usize,
+    rho: &NumberList,
+    table: &NumberList,
+    m: &[f64; SIDE],
+    z: Zetas<D>,
+    xs: &mut [D; SIDE],
+) -> D
+    requires { (0 < n) × (n ≤ side)
+        × First n (D.has rho.now.values.now rho.now.slopes.now)
+        × First (4 * sheet) (D.has table.now.values.now table.now.slopes.now) }
+    ensures { (w : Bool) → let A = D.beside w in
+        let rho = D.entry_of w rho.now.values.now rho.now.slopes.now in
+        let d = sheet_in (D.entry_of w table.now.values.now table.now.slopes.now) 1 in
+        zeta_by (D.of w) z ≡ zeta A (D.functions w) n rho (diagonal d) (points A m.now) →
+        D.of w result ≡ non_additive A (D.functions w) n rho (points A m.now) d }
+{
+    let f = frac_1mz3(z.z3);
+    let rho_s = segment_density(n, rho, m);
+    density_shares(n, rho_s, rho, m, xs);
+    let s = Shared {
+        rho_s,
+        z2: z.z2,
+        f,
+    };
+    let sum = non_additive_sum(n, xs, table, s);
+    (rho_s * sum).after(z.z1).after(z.z0)
+}
+
+// Not wanted: +0, and nothing of it is worked. z is the zeta of these densities; xs is room.
+pub fn wanted_part<D: DualNum>(
+    n: usize,
+    rho: &NumberList,
+    table: &NumberList,
+    m: &[f64; SIDE],
+    z: Zetas<D>,
+    xs: &mut [D; SIDE],
+    wanted: bool,
+) -> D
+    requires { (0 < n) × (n ≤ side)
+        × First n (D.has rho.now.values.now rho.now.slopes.now)
+        × First (4 * sheet) (D.has table.now.values.now table.now.slopes.now) }
+    ensures { (w : Bool) → let A = D.beside w in
+        let rho = D.entry_of w rho.now.values.now rho.now.slopes.now in
+        let d = sheet_in (D.entry_of w table.now.values.now table.now.slopes.now) 1 in
+        zeta_by (D.of w) z ≡ zeta A (D.functions w) n rho (diagonal d) (points A m.now) →
+        D.of w result ≡ cond wanted (non_additive A (D.functions w) n rho (points A m.now) d) (D.taken w (whole A 0)) }
+{
+    if !wanted {
+        return zero();
+    }
+    non_additive(n, rho, table, m, z, xs)
 }

@@ -22,11 +22,12 @@ use Rattle.rounded_sum.specs.RoundedSum.{Same, rounded_sum, SumsExactly}
 use Rattle.rounded_sum.proofs.Same.{same_refl, same_sym, same_trans, same_add}
 use Rattle.rounded_sum.proofs.Exact.{sum_exact, zero_is}
 use Rattle.saftvrqmie_parameters.specs.declared.SaftVRQMiePars.{SaftVRQMiePars}
-use Rattle.saftvrqmie_energies.specs.State.{SheetsIn, sheets_of_state, points, diagonal}
+use Rattle.saftvrqmie_hard_sphere.specs.State.{points, diagonal}
+use Rattle.saftvrqmie_dispersion_sums.specs.State.{SheetsIn, sheets_of_state}
 use Rattle.saftvrqmie_hard_sphere.specs.HardSphere.{hard_sphere_of}
-use Rattle.saftvrqmie_energies.specs.HardSphere.{hard_sphere}
-use Rattle.saftvrqmie_energies.specs.NonAdditive.{non_additive}
-use Rattle.saftvrqmie_energies.specs.Dispersion.{dispersion, alphas}
+use Rattle.saftvrqmie_hard_sphere.specs.HardSphere.{hard_sphere}
+use Rattle.saftvrqmie_hard_sphere.specs.NonAdditive.{non_additive}
+use Rattle.saftvrqmie_dispersion_sums.specs.Dispersion.{dispersion, alphas}
 use Rattle.saftvrqmie_energies.specs.Energies.{EnergiesIn, energies, energies_by, contributions, contributions_of}
 use Rattle.saftvrqmie_total.specs.declared.QuantumTotal.{QuantumTotal}
 use Rattle.saftvrqmie_total.specs.Total.{finite_sum, contributions_total, total, TotalsExactly, Totalled}

@@ -14,10 +14,9 @@ use Rattle.limits.specs.Limits.{state_within}
 use Rattle.dual.specs.Dual.{DualOf, plain_d}
 use Rattle.slopes.specs.Mixed.{Mixed, plain, sloped, as_dual, value_of, mixed_one}
 use Rattle.saftvrqmie_parameters.specs.declared.SaftVRQMiePars.{SaftVRQMiePars}
-use Rattle.saftvrqmie_energies.specs.State.{points}
+use Rattle.saftvrqmie_hard_sphere.specs.State.{points}
 use Rattle.saftvrqmie_energies.specs.Energies.{EnergiesIn, contributions_of, energies_finite, state_lengths, energies_by}
-use Rattle.saftvrqmie_hard_sphere_slopes.specs.Parts.{sloped_at}
-use Rattle.saftvrqmie_dispersion_sums_slopes.specs.State.{sloped_sheets}
+use Rattle.saftvrqmie_energies_slopes.specs.State.{sloped_at, sloped_sheets}
 use Rattle.saftvrqmie_energies_slopes.specs.Energies.{as_duals, finite_dual, slopes_finite, contributions_slope, energies_slope}
 use Rattle.slopes_values.specs.Values.{energies_values}
 use Rattle.slopes_values.specs.Energies.{duals_values, EnergiesKept}

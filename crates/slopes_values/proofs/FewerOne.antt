@@ -9,13 +9,13 @@ use Rattle.saftvrqmie_potential.specs.Potential.{PairIn, first_order, second_ord
 use Rattle.saftvrqmie_dispersion_terms.specs.Terms.{sutherland, ilambda, jlambda, b, combine, combine_sutherland_and_b}
 use Rattle.saftvrqmie_dispersion.specs.Alpha.{ratio, dmt_of, alpha, third_order_ij}
 use Rattle.saftvrqmie_dispersion.specs.Perturbation.{DispersionIn, first_mie, first_q1, first_q2, first_order_by, second_turn, second_order_by, combine_of, first_order_ij, second_order_ij}
-use Rattle.saftvrqmie_energies.specs.State.{SheetsIn}
+use Rattle.saftvrqmie_dispersion_sums.specs.State.{SheetsIn}
 use Rattle.saftvrqmie_hard_sphere.specs.HardSphere.{zeta_added, hard_sphere_of}
-use Rattle.saftvrqmie_energies.specs.HardSphere.{zeta, hard_sphere}
+use Rattle.saftvrqmie_hard_sphere.specs.HardSphere.{zeta, hard_sphere}
 use Rattle.saftvrqmie_hard_sphere.specs.NonAdditive.{non_additive_ij}
-use Rattle.saftvrqmie_energies.specs.NonAdditive.{non_additive_turn, non_additive_column, non_additive_sum, density_shares, non_additive}
+use Rattle.saftvrqmie_hard_sphere.specs.NonAdditive.{non_additive_turn, non_additive_column, non_additive_sum, density_shares, non_additive}
 use Rattle.saftvrqmie_dispersion.specs.Sums.{lead}
-use Rattle.saftvrqmie_energies.specs.Dispersion.{MixtureIn, packing_turn, packing_row, packing, alpha_turn, alpha_row, alphas, first_turn, first_row, first, second_pair_turn, second_row, second, third_turn, third_row, third, mixture, dispersion}
+use Rattle.saftvrqmie_dispersion_sums.specs.Dispersion.{MixtureIn, packing_turn, packing_row, packing, alpha_turn, alpha_row, alphas, first_turn, first_row, first, second_pair_turn, second_row, second, third_turn, third_row, third, mixture, dispersion}
 use Rattle.saftvrqmie_energies.specs.Energies.{contributions}
 use Rattle.slopes_values.proofs.OneSided.{Le, le_refl, then_le, cond_le, walk_le}
 use Rattle.slopes_values.proofs.Full.{full, pow_le}

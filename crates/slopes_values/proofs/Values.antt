@@ -16,7 +16,7 @@ use Rattle.saftvrqmie_searches.specs.Searches.{SearchIn, Counted, found, spent, 
 use Rattle.saftvrqmie_searches.proofs.Relation.{SearchR, found_both, spent_both, CountedR}
 use Rattle.saftvrqmie_properties.specs.Properties.{PairPropertiesIn, pair_properties}
 use Rattle.saftvrqmie_properties.specs.Slopes.{dual_pair, properties_slope}
-use Rattle.saftvrqmie_energies.specs.State.{SheetsIn}
+use Rattle.saftvrqmie_dispersion_sums.specs.State.{SheetsIn}
 use Rattle.saftvrqmie_energies.specs.Energies.{EnergiesIn, contributions}
 use Rattle.saftvrqmie_energies.proofs.Relation.{EnergiesR, contributions_rel}
 use Rattle.slopes_values.specs.Energies.{OneKept}

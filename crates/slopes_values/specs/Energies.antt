@@ -8,7 +8,7 @@ use Rattle.dual.specs.Dual.{DualOf}
 use Rattle.slopes.specs.Mixed.{Mixed, value_of, mixed_one}
 use Rattle.slopes.specs.Rules.{mixed_functions}
 use Rattle.saftvrqmie_parameters.specs.declared.SaftVRQMiePars.{SaftVRQMiePars}
-use Rattle.saftvrqmie_energies.specs.State.{SheetsIn}
+use Rattle.saftvrqmie_dispersion_sums.specs.State.{SheetsIn}
 use Rattle.saftvrqmie_energies.specs.Energies.{EnergiesIn, contributions, state_lengths, energies_by}
 use Rattle.saftvrqmie_energies_slopes.specs.Energies.{energies_slope}
 use Rattle.slopes_values.specs.Values.{sheets_values, energies_values}

@@ -11,7 +11,7 @@ use Rattle.saftvrqmie_potential.specs.Slopes.{potential_slope}
 use Rattle.saftvrqmie_searches.specs.Searches.{SearchIn, Counted, found, spent, sigma_search, zero_search, depth_search}
 use Rattle.saftvrqmie_properties.specs.Properties.{PairPropertiesIn, pair_properties}
 use Rattle.saftvrqmie_properties.specs.Slopes.{properties_slope}
-use Rattle.saftvrqmie_energies.specs.State.{SheetsIn}
+use Rattle.saftvrqmie_dispersion_sums.specs.State.{SheetsIn}
 use Rattle.saftvrqmie_energies.specs.Energies.{EnergiesIn, contributions}
 
 -- the values alone

@@ -1,7 +1,11 @@
 -- `saftvrqmie_energies::energies_of` meets its contract. Assumes nothing.
-use Rattle.saftvrqmie_energies.proofs.Ways.{right, refuses_1, refuses_2, no_hard_sphere, no_dispersion, refuses_7, holds}
-use Rattle.number.specs.Answer.{answer}
+use borrow.Author.Rules.{rules}
+use mathlib.Core.Path.{sym, ◌∙◌}
+use Rattle.number.specs.Answer.{answer_by}
 use Rattle.number.proofs.Walk.{told, via, handed_on}
+use Rattle.saftvrqmie_energies.specs.Energies.{each_by}
+use Rattle.saftvrqmie_energies.proofs.Parts.{as_it_is}
+use Rattle.saftvrqmie_energies.proofs.Ways.{right, refuses_1, refuses_2, stops, refuses_7, holds}
 use Rattle.saftvrqmie_energies.proofs.energies_of.Goals as goal
 
 pub returns-then-not-right_lengths : goal.returns-then-not-right_lengths
@@ -13,23 +17,17 @@ state_within-requires c = let h = right _ _ _ _ (told c.right_lengths.ensures c.
 pub returns-then-not-state_within : goal.returns-then-not-state_within
 returns-then-not-state_within c = refuses_2 _ _ _ _ _ _ (told c.right_lengths.ensures c.if-not-right_lengths.false) (told c.state_within.ensures c.if-not-state_within.true)
 
-pub hard_sphere-requires : goal.hard_sphere-requires
-hard_sphere-requires c = let h = right _ _ _ _ (told c.right_lengths.ensures c.if-not-right_lengths.false) in (h.high, h.fractions, h.densities, h.places)
+pub contributions-requires : goal.contributions-requires
+contributions-requires c = let h = right _ _ _ _ (told c.right_lengths.ensures c.if-not-right_lengths.false) in (search rules, (search rules, (h.low, h.high, λ e p. rw h.places p, λ i p. rw h.fractions p, λ i p. rw h.densities p)))
 
-pub returns-in_err-h : goal.returns-in_err-h
-returns-in_err-h c = rw (handed_on _ c.from_residual.ensures) (no_hard_sphere _ _ _ _ _ _ (told c.right_lengths.ensures c.if-not-right_lengths.false) (told c.state_within.ensures c.if-not-state_within.false) _ (via answer c.hard_sphere.ensures c.in_err-h.was))
-
-pub dispersion-requires : goal.dispersion-requires
-dispersion-requires c = let h = right _ _ _ _ (told c.right_lengths.ensures c.if-not-right_lengths.false) in (h.high, h.places, h.fractions, h.densities)
-
-pub returns-in_err-d : goal.returns-in_err-d
-returns-in_err-d c = rw (handed_on _ c.from_residual-in_err-d.ensures) (no_dispersion _ _ _ _ _ _ (told c.right_lengths.ensures c.if-not-right_lengths.false) (told c.state_within.ensures c.if-not-state_within.false) _ (via answer c.hard_sphere.ensures c.in_ok-h.was) _ (via answer c.dispersion.ensures c.in_err-d.was))
-
-pub wanted_part-a-requires : goal.wanted_part-a-requires
-wanted_part-a-requires c = let h = right _ _ _ _ (told c.right_lengths.ensures c.if-not-right_lengths.false) in (h.high, h.places, h.densities)
+pub returns-in_err-c : goal.returns-in_err-c
+returns-in_err-c c =
+    rw (handed_on _ c.from_residual.ensures) (stops _ _ _ _ _ _ (told c.right_lengths.ensures c.if-not-right_lengths.false) (told c.state_within.ensures c.if-not-state_within.false) _ (sym (as_it_is _) ∙ via (answer_by (each_by (λ x. x))) c.contributions.ensures c.in_err-c.was))
 
 pub returns-then-not-all_finite : goal.returns-then-not-all_finite
-returns-then-not-all_finite c = refuses_7 _ _ _ _ _ _ (told c.right_lengths.ensures c.if-not-right_lengths.false) (told c.state_within.ensures c.if-not-state_within.false) _ (via answer c.hard_sphere.ensures c.in_ok-h.was) _ (via answer c.dispersion.ensures c.in_ok-d.was) _ c.wanted_part-a.ensures (told c.all_finite.ensures c.if-not-all_finite.true)
+returns-then-not-all_finite c =
+    refuses_7 _ _ _ _ _ _ (told c.right_lengths.ensures c.if-not-right_lengths.false) (told c.state_within.ensures c.if-not-state_within.false) _ (sym (as_it_is _) ∙ via (answer_by (each_by (λ x. x))) c.contributions.ensures c.in_ok-c.was) (told c.all_finite.ensures c.if-not-all_finite.true)
 
 pub returns : goal.returns
-returns c = holds _ _ _ _ _ _ (told c.right_lengths.ensures c.if-not-right_lengths.false) (told c.state_within.ensures c.if-not-state_within.false) _ (via answer c.hard_sphere.ensures c.in_ok-h.was) _ (via answer c.dispersion.ensures c.in_ok-d.was) _ c.wanted_part-a.ensures (told c.all_finite.ensures c.if-not-all_finite.false)
+returns c =
+    holds _ _ _ _ _ _ (told c.right_lengths.ensures c.if-not-right_lengths.false) (told c.state_within.ensures c.if-not-state_within.false) _ (sym (as_it_is _) ∙ via (answer_by (each_by (λ x. x))) c.contributions.ensures c.in_ok-c.was) (told c.all_finite.ensures c.if-not-all_finite.false)

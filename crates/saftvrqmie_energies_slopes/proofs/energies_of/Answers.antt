@@ -1,18 +1,36 @@
 -- `saftvrqmie_energies_slopes::energies_of` meets its contract. Assumes nothing.
+use Prim.Native.Nat.{◌*◌}
+use borrow.Author.Rules.{rules}
+use lib.ListN.{length}
+use mathlib.Core.Path.{◌≡◌}
+use Rattle.number.specs.Answer.{answer_by}
 use Rattle.number.proofs.Walk.{via, told, handed_on}
+use Rattle.sizes.specs.Sizes.{sheet}
 use Rattle.dual.specs.Value.{dual_of}
-use Rattle.saftvrqmie_hard_sphere_slopes.specs.Parts.{mixed_answer}
-use Rattle.saftvrqmie_energies_slopes.proofs.Ways.{no_hard_sphere, no_dispersion, refuses_7, holds}
+use Rattle.slopes.specs.Mixed.{sloped}
+use Rattle.saftvrqmie_energies.specs.Energies.{each_by}
+use Rattle.saftvrqmie_energies_slopes.specs.State.{sloped_at}
+use Rattle.saftvrqmie_energies_slopes.specs.Energies.{contributions_slope}
+use Rattle.saftvrqmie_energies_slopes.proofs.Ways.{stops, refuses_7, holds}
 use Rattle.saftvrqmie_energies_slopes.proofs.energies_of.Goals as goal
 
-pub returns-in_err-h : goal.returns-in_err-h
-returns-in_err-h c = rw (handed_on _ c.from_residual.ensures) (no_hard_sphere (record { count = c.args.n; m = c.args.m.now; sheets = c.args.sheets.now; orders = c.args.orders }) (dual_of c.args.temperature) c.args.x.now c.args.x_slopes.now c.args.rho.now c.args.rho_slopes.now c.args.table.now c.args.table_slopes.now c.args.non_additive _ (via mixed_answer c.hard_sphere.ensures.at_one c.in_err-h.was))
+pub contributions-requires : goal.contributions-requires
+contributions-requires c =
+    let t : length c.args.table.now ≡ 4 * sheet = search rules in
+    let u : length c.args.table_slopes.now ≡ 4 * sheet = search rules in
+    (search rules, (search rules, (c.requires.0, c.requires.1, λ e p. (rw t p, rw u p), λ i p. (rw c.requires.2 p, rw c.requires.3 p), λ i p. (rw c.requires.4 p, rw c.requires.5 p))))
 
-pub returns-in_err-d : goal.returns-in_err-d
-returns-in_err-d c = rw (handed_on _ c.from_residual-in_err-d.ensures) (no_dispersion (record { count = c.args.n; m = c.args.m.now; sheets = c.args.sheets.now; orders = c.args.orders }) (dual_of c.args.temperature) c.args.x.now c.args.x_slopes.now c.args.rho.now c.args.rho_slopes.now c.args.table.now c.args.table_slopes.now c.args.non_additive _ (via mixed_answer c.hard_sphere.ensures.at_one c.in_ok-h.was) _ (via mixed_answer c.dispersion.ensures c.in_err-d.was))
+pub returns-in_err-c : goal.returns-in_err-c
+unfolding contributions_slope sloped_at
+returns-in_err-c c =
+    rw (handed_on _ c.from_residual.ensures) (stops (record { count = c.args.n; m = c.args.m.now; sheets = c.args.sheets.now; orders = c.args.orders }) (dual_of c.args.temperature) c.args.x.now c.args.x_slopes.now c.args.rho.now c.args.rho_slopes.now c.args.table.now c.args.table_slopes.now c.args.non_additive _ (via (answer_by (each_by (λ x. sloped (dual_of x)))) c.contributions.ensures c.in_err-c.was))
 
 pub returns-then-not-all_finite : goal.returns-then-not-all_finite
-returns-then-not-all_finite c = refuses_7 (record { count = c.args.n; m = c.args.m.now; sheets = c.args.sheets.now; orders = c.args.orders }) (dual_of c.args.temperature) c.args.x.now c.args.x_slopes.now c.args.rho.now c.args.rho_slopes.now c.args.table.now c.args.table_slopes.now c.args.non_additive _ (via mixed_answer c.hard_sphere.ensures.at_one c.in_ok-h.was) _ (via mixed_answer c.dispersion.ensures c.in_ok-d.was) _ c.wanted_part-a.ensures.at_one (told c.all_finite.ensures c.if-not-all_finite.true)
+unfolding contributions_slope sloped_at
+returns-then-not-all_finite c =
+    refuses_7 (record { count = c.args.n; m = c.args.m.now; sheets = c.args.sheets.now; orders = c.args.orders }) (dual_of c.args.temperature) c.args.x.now c.args.x_slopes.now c.args.rho.now c.args.rho_slopes.now c.args.table.now c.args.table_slopes.now c.args.non_additive _ (via (answer_by (each_by (λ x. sloped (dual_of x)))) c.contributions.ensures c.in_ok-c.was) (told c.all_finite.ensures c.if-not-all_finite.true)
 
 pub returns : goal.returns
-returns c = holds (record { count = c.args.n; m = c.args.m.now; sheets = c.args.sheets.now; orders = c.args.orders }) (dual_of c.args.temperature) c.args.x.now c.args.x_slopes.now c.args.rho.now c.args.rho_slopes.now c.args.table.now c.args.table_slopes.now c.args.non_additive _ (via mixed_answer c.hard_sphere.ensures.at_one c.in_ok-h.was) _ (via mixed_answer c.dispersion.ensures c.in_ok-d.was) _ c.wanted_part-a.ensures.at_one (told c.all_finite.ensures c.if-not-all_finite.false)
+unfolding contributions_slope sloped_at
+returns c =
+    holds (record { count = c.args.n; m = c.args.m.now; sheets = c.args.sheets.now; orders = c.args.orders }) (dual_of c.args.temperature) c.args.x.now c.args.x_slopes.now c.args.rho.now c.args.rho_slopes.now c.args.table.now c.args.table_slopes.now c.args.non_additive _ (via (answer_by (each_by (λ x. sloped (dual_of x)))) c.contributions.ensures c.in_ok-c.was) (told c.all_finite.ensures c.if-not-all_finite.false)

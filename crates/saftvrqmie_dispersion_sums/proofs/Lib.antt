@@ -1,0 +1,3 @@
+pub mod Turns
+pub mod Alphas
+pub mod Ways

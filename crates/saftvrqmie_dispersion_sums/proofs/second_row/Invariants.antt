@@ -1,0 +1,20 @@
+-- `saftvrqmie_dispersion_sums::second_row` meets its contract. Assumes nothing.
+use Prim.Native.Nat.{ℕ, ◌≤◌, ◌-◌}
+use mathlib.Core.Bool.{true}
+use mathlib.Core.Path.{◌≡◌}
+use mathlib.Core.List.{map}
+use Rattle.number.specs.Walk.{walk}
+use Rattle.saftvrqmie_hard_sphere.specs.State.{Reads}
+use Rattle.saftvrqmie_hard_sphere.proofs.Sums.{Walked}
+use Rattle.saftvrqmie_dispersion_sums.specs.State.{sheets_by, Pairs}
+use Rattle.saftvrqmie_dispersion_sums.specs.Dispersion.{mixture_by, second_pair_turn}
+use Rattle.saftvrqmie_dispersion_sums.proofs.second_row.Given as goal
+
+abbrev pub invariant-loop-k : goal.invariant-loop-k
+invariant-loop-k g l =
+    let D = g.D.DualNum in
+    let A = D.beside true in
+    (l.k-end ≡ l.s.n - l.i) × (l.k ≤ l.k-end) × ((x a : ℕ → A.Num) (v : A.Num) → Reads A (D.of true) l.s.n l.xs x → Pairs A l.s.n (map (D.of true) l.alphas) a → D.taken true v ≡ D.of true l.initial.a2 → Walked (D.of true) (D.taken true) l.k l.a2 (walk l.k (second_pair_turn A (D.functions true) (sheets_by A l.s.n l.s.sheets.now l.s.orders (D.of true l.s.temperature) (D.entry_of true l.s.table.values.now l.s.table.slopes.now)) x (mixture_by (D.of true) l.w) a l.i) v))
+
+abbrev pub decreases-loop-k : goal.decreases-loop-k
+decreases-loop-k g l = l.k-end - l.k

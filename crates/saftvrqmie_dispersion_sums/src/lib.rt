@@ -1,0 +1,400 @@
+// The dispersion's contribution (saftvrqmie/eos/dispersion.rs), of any run: segment and packing fractions, alphas, the sums of the three orders.
+// In `beside true`, where a negated number is a D.
+#![tactic(auto)]
+
+ghost use Rattle.std.specs.Prelude.{◌≡◌, ◌*◌, ◌<◌, ◌≤◌, ℕ, true, map};
+ghost use Rattle.number.specs.Answer.{answer_by};
+ghost use Rattle.number.specs.Lists.{nth};
+ghost use Rattle.number.specs.Walk.{walk};
+ghost use Rattle.sizes.specs.Sizes.{side, sheet};
+ghost use Rattle.mie_parameters.specs.Answer.{outcome};
+ghost use Rattle.saftvrqmie_hard_sphere.specs.State.{points, sheet_in, First, Reads};
+ghost use Rattle.saftvrqmie_dispersion.specs.Perturbation.{dispersion_by};
+ghost use Rattle.saftvrqmie_dispersion.specs.Alpha.{alpha};
+ghost use Rattle.saftvrqmie_dispersion_sums.specs.State.{sheets_by, Pairs};
+ghost use Rattle.saftvrqmie_dispersion_sums.specs.Dispersion.{mixture_by, inv_xs_sum, segment_fractions, packing_row, packing, alpha_row, first_row, first, second_row, second, third_row, third, mixture, dispersion_pair_at, dispersion};
+
+use dual_num::{DualNum, NumberList};
+use number::{Arithmetic, Refusal};
+use saftvrqmie_dispersion::DispersionPair;
+use saftvrqmie_hard_sphere::{component, segment_density, zero};
+use saftvrqmie_parameters::OrderRecord;
+use sizes::table::{EPSILON_K_EFF, HS_DIAMETER, QUANTUM_D, SIGMA_EFF};
+use sizes::{SHEET, SHEETS, SIDE};
+
+// What every sum over pairs reads: a set's sheets, and a temperature with its table.
+#[derive(Clone, Copy)]
+pub struct State<'a, D> {
+    pub n: usize,
+    pub sheets: &'a [f64; SHEETS],
+    pub orders: [OrderRecord; SHEET],
+    pub temperature: D,
+    pub table: NumberList<'a>,
+}
+
+#[derive(Clone, Copy)]
+pub struct SegmentState<D> {
+    pub rho_s: D,
+    pub zeta: D,
+    pub zeta_bar: D,
+}
+
+// x_s.sum().recip()
+fn inv_x_s_sum<D: DualNum>(n: usize, x: &NumberList, m: &[f64; SIDE]) -> D
+    requires { (0 < n) × (n ≤ side) × First n (D.has x.now.values.now x.now.slopes.now) }
+    ensures { let A = D.beside true in
+        D.of true result ≡ inv_xs_sum A n (D.entry_of true x.now.values.now x.now.slopes.now) (points A m.now) }
+{
+    let sum = segment_density::<D>(n, x, m);
+    sum.recip()
+}
+
+// x_s, in the first n places.
+fn segment_fractions<D: DualNum>(
+    n: usize,
+    x: &NumberList,
+    m: &[f64; SIDE],
+    xs: &mut [D; SIDE],
+)
+    requires { (0 < n) × (n ≤ side) × First n (D.has x.now.values.now x.now.slopes.now) }
+    ensures { let A = D.beside true in
+        let x = D.entry_of true x.now.values.now x.now.slopes.now in
+        Reads A (D.of true) n xs.new (nth A (segment_fractions A n x (points A m.now))) }
+{
+    let inv = inv_x_s_sum::<D>(n, x, m);
+    for i in 0usize..n {
+        let p = D::entry(x, i) * D::Plain::lit(m[i]) * inv;
+        xs[i] = p;
+    }
+}
+
+fn packing_row<D: DualNum>(
+    n: usize,
+    xs: &[D; SIDE],
+    table: &NumberList,
+    k: usize,
+    i: usize,
+    sum: D,
+) -> D
+    requires { (n ≤ side) × (k < 4) × (i < n) × First (4 * sheet) (D.has table.now.values.now table.now.slopes.now) }
+    ensures { let A = D.beside true in
+        (x : ℕ → A.Num) (v : A.Num) → Reads A (D.of true) n xs.now x → D.taken true v ≡ D.of true sum →
+        let d = sheet_in (D.entry_of true table.now.values.now table.now.slopes.now) k in
+        D.of true result ≡ packing_row A (D.functions true) n x d i v }
+{
+    let mut r = sum;
+    for j in 0usize..n {
+        let d = D::entry(table, k * SHEET + (SIDE * i + j));
+        let xi = component(xs, i);
+        let xj = component(xs, j);
+        r = r + xi * xj * d.cube();
+    }
+    r
+}
+
+// `zeta_saft_vrq_mie` of sheet k.
+fn packing<D: DualNum>(
+    n: usize,
+    xs: &[D; SIDE],
+    table: &NumberList,
+    k: usize,
+    rho_s: D,
+) -> D
+    requires { (0 < n) × (n ≤ side) × (k < 4) × First (4 * sheet) (D.has table.now.values.now table.now.slopes.now) }
+    ensures { let A = D.beside true in
+        (x : ℕ → A.Num) → Reads A (D.of true) n xs.now x →
+        let d = sheet_in (D.entry_of true table.now.values.now table.now.slopes.now) k in
+        D.of true result ≡ packing A (D.functions true) n x d (D.of true rho_s) }
+{
+    let mut r = zero::<D>();
+    for i in 0usize..n {
+        r = packing_row(n, xs, table, k, i, r);
+    }
+    r * D::frac_pi_6() * rho_s
+}
+
+fn mixture<D: DualNum>(
+    n: usize,
+    xs: &[D; SIDE],
+    rho: &NumberList,
+    m: &[f64; SIDE],
+    table: &NumberList,
+) -> SegmentState<D>
+    requires { (0 < n) × (n ≤ side)
+        × First n (D.has rho.now.values.now rho.now.slopes.now)
+        × First (4 * sheet) (D.has table.now.values.now table.now.slopes.now) }
+    ensures { let A = D.beside true in
+        (x : ℕ → A.Num) → Reads A (D.of true) n xs.now x →
+        let of = sheet_in (D.entry_of true table.now.values.now table.now.slopes.now) in
+        let rho = D.entry_of true rho.now.values.now rho.now.slopes.now in
+        mixture_by (D.of true) result ≡ mixture A (D.functions true) n (of 0) (of 1) x rho (points A m.now) }
+{
+    let rho_s = segment_density::<D>(n, rho, m);
+    let zeta = packing(n, xs, table, 1, rho_s);
+    let zeta_bar = packing(n, xs, table, 0, rho_s);
+    SegmentState {
+        rho_s,
+        zeta,
+        zeta_bar,
+    }
+}
+
+// The alpha of a pair.
+fn alpha_at<D: DualNum>(s: &State<D>, e: usize) -> Result<D, Refusal>
+    requires { (e < sheet) × First (4 * sheet) (D.has s.now.table.values.now s.now.table.slopes.now) }
+    ensures { let A = D.beside true in
+        let table = D.entry_of true s.now.table.values.now s.now.table.slopes.now in
+        let sheets = sheets_by A s.now.n s.now.sheets.now s.now.orders (D.of true s.now.temperature) table in
+        answer_by (D.of true) result ≡ alpha A (D.functions true) (sheets.pair e) (sheets.sigma_eff e) (sheets.epsilon_k_eff e) }
+{
+    let table = s.table;
+    let p = saftvrqmie_potential::pair_at(s.sheets, s.orders, s.temperature, e);
+    let pair = saftvrqmie_potential::points(p);
+    let sigma = D::entry(&table, SIGMA_EFF + e);
+    let depth = D::entry(&table, EPSILON_K_EFF + e);
+    saftvrqmie_dispersion::alpha_ij(&pair, sigma, depth)
+}
+
+// `Alpha::new` of a row; 6 where a power is outside.
+fn alpha_row<D: DualNum>(
+    s: &State<D>,
+    i: usize,
+    alphas: &mut [D; SHEET],
+) -> Result<(), Refusal>
+    requires { (s.now.n ≤ side) × (i < s.now.n) × First (4 * sheet) (D.has s.now.table.values.now s.now.table.slopes.now) }
+    ensures { let A = D.beside true in
+        let table = D.entry_of true s.now.table.values.now s.now.table.slopes.now in
+        let sheets = sheets_by A s.now.n s.now.sheets.now s.now.orders (D.of true s.now.temperature) table in
+        outcome result (map (D.of true) alphas.new) ≡ alpha_row A (D.functions true) sheets i (map (D.of true) alphas.old) }
+{
+    for k in 0usize..s.n - i {
+        let e = SIDE * i + (i + k);
+        let a = alpha_at(s, e)?;
+        alphas[e] = a;
+        alphas[SIDE * (i + k) + i] = a;
+    }
+    Ok(())
+}
+
+fn alphas_of<D: DualNum>(s: &State<D>, alphas: &mut [D; SHEET]) -> Result<(), Refusal>
+    requires { (s.now.n ≤ side) × First (4 * sheet) (D.has s.now.table.values.now s.now.table.slopes.now) }
+    ensures { let A = D.beside true in
+        let table = D.entry_of true s.now.table.values.now s.now.table.slopes.now in
+        let sheets = sheets_by A s.now.n s.now.sheets.now s.now.orders (D.of true s.now.temperature) table in
+        outcome result (map (D.of true) alphas.new) ≡ walk s.now.n (alpha_row A (D.functions true) sheets) (map (D.of true) alphas.old) }
+{
+    for i in 0usize..s.n {
+        alpha_row(s, i, alphas)?;
+    }
+    Ok(())
+}
+
+// Entry e of the alphas.
+fn pair_entry<D: DualNum>(alphas: &[D; SHEET], e: usize) -> D
+    requires { e < sheet }
+    ensures { D.of true result ≡ nth (D.beside true) (map (D.of true) alphas.now) e }
+{
+    alphas[e]
+}
+
+// What both perturbations of the pair at entry e take.
+fn perturbed_pair<D: DualNum>(
+    s: &State<D>,
+    w: &SegmentState<D>,
+    e: usize,
+) -> DispersionPair<D, D::Plain>
+    requires { (e < sheet) × First (4 * sheet) (D.has s.now.table.values.now s.now.table.slopes.now) }
+    ensures { let A = D.beside true in
+        let table = D.entry_of true s.now.table.values.now s.now.table.slopes.now in
+        let sheets = sheets_by A s.now.n s.now.sheets.now s.now.orders (D.of true s.now.temperature) table in
+        (x : ℕ → A.Num) → dispersion_by (D.plain true) (D.of true) result ≡ dispersion_pair_at A (D.functions true) sheets x (mixture_by (D.of true) w.now) e }
+{
+    let table = s.table;
+    let p = saftvrqmie_potential::pair_at(s.sheets, s.orders, s.temperature, e);
+    let pair = saftvrqmie_potential::points(p);
+    let d = D::entry(&table, HS_DIAMETER + e);
+    let sigma = D::entry(&table, SIGMA_EFF + e);
+    let q = D::entry(&table, QUANTUM_D + e);
+    saftvrqmie_dispersion::dispersion_pair(&pair, d, sigma, q, w.zeta)
+}
+
+fn first_row<D: DualNum>(
+    s: &State<D>,
+    xs: &[D; SIDE],
+    w: &SegmentState<D>,
+    i: usize,
+    sum: D,
+) -> Result<D, Refusal>
+    requires { (s.now.n ≤ side) × (i < s.now.n) × First (4 * sheet) (D.has s.now.table.values.now s.now.table.slopes.now) }
+    ensures { let A = D.beside true in
+        let table = D.entry_of true s.now.table.values.now s.now.table.slopes.now in
+        let sheets = sheets_by A s.now.n s.now.sheets.now s.now.orders (D.of true s.now.temperature) table in
+        (x : ℕ → A.Num) (v : A.Num) → Reads A (D.of true) s.now.n xs.now x → D.taken true v ≡ D.of true sum →
+        answer_by (D.of true) result ≡ first_row A (D.functions true) sheets x (mixture_by (D.of true) w.now) i v }
+{
+    let table = s.table;
+    let mut a1 = sum;
+    for k in 0usize..s.n - i {
+        let e = SIDE * i + (i + k);
+        let pair = perturbed_pair(s, w, e);
+        let v = saftvrqmie_dispersion::first_order_perturbation_ij(&pair)?;
+        let d = D::entry(&table, HS_DIAMETER + e);
+        let xi = component(xs, i);
+        let xj = component(xs, i + k);
+        a1 = a1 + saftvrqmie_dispersion::lead(i, i + k, xi, xj, w.rho_s, d) * v;
+    }
+    Ok(a1)
+}
+
+fn first<D: DualNum>(
+    s: &State<D>,
+    xs: &[D; SIDE],
+    w: &SegmentState<D>,
+) -> Result<D, Refusal>
+    requires { (0 < s.now.n) × (s.now.n ≤ side) × First (4 * sheet) (D.has s.now.table.values.now s.now.table.slopes.now) }
+    ensures { let A = D.beside true in
+        let table = D.entry_of true s.now.table.values.now s.now.table.slopes.now in
+        let sheets = sheets_by A s.now.n s.now.sheets.now s.now.orders (D.of true s.now.temperature) table in
+        (x : ℕ → A.Num) → Reads A (D.of true) s.now.n xs.now x →
+        answer_by (D.of true) result ≡ first A (D.functions true) sheets x (mixture_by (D.of true) w.now) }
+{
+    let mut a1 = zero::<D>();
+    for i in 0usize..s.n {
+        let next = first_row(s, xs, w, i, a1)?;
+        a1 = next;
+    }
+    Ok(a1)
+}
+
+fn second_row<D: DualNum>(
+    s: &State<D>,
+    xs: &[D; SIDE],
+    w: &SegmentState<D>,
+    alphas: &[D; SHEET],
+    i: usize,
+    sum: D,
+) -> Result<D, Refusal>
+    requires { (s.now.n ≤ side) × (i < s.now.n) × First (4 * sheet) (D.has s.now.table.values.now s.now.table.slopes.now) }
+    ensures { let A = D.beside true in
+        let table = D.entry_of true s.now.table.values.now s.now.table.slopes.now in
+        let sheets = sheets_by A s.now.n s.now.sheets.now s.now.orders (D.of true s.now.temperature) table in
+        (x : ℕ → A.Num) (a : ℕ → A.Num) (v : A.Num) → Reads A (D.of true) s.now.n xs.now x → Pairs A s.now.n (map (D.of true) alphas.now) a → D.taken true v ≡ D.of true sum →
+        answer_by (D.of true) result ≡ second_row A (D.functions true) sheets x (mixture_by (D.of true) w.now) a i v }
+{
+    let table = s.table;
+    let mut a2 = sum;
+    for k in 0usize..s.n - i {
+        let e = SIDE * i + (i + k);
+        let pair = perturbed_pair(s, w, e);
+        let v = saftvrqmie_dispersion::second_order_perturbation_ij::<D, true>(&pair)?;
+        let d = D::entry(&table, HS_DIAMETER + e);
+        let a = pair_entry(alphas, e);
+        let chi = saftvrqmie_dispersion::chi(a, w.zeta_bar);
+        let xi = component(xs, i);
+        let xj = component(xs, i + k);
+        let f = saftvrqmie_dispersion::lead(i, i + k, xi, xj, w.rho_s, d);
+        a2 = a2 + f * (chi + D::Plain::lit(1.0)) * v;
+    }
+    Ok(a2)
+}
+
+fn second<D: DualNum>(
+    s: &State<D>,
+    xs: &[D; SIDE],
+    w: &SegmentState<D>,
+    alphas: &[D; SHEET],
+) -> Result<D, Refusal>
+    requires { (0 < s.now.n) × (s.now.n ≤ side) × First (4 * sheet) (D.has s.now.table.values.now s.now.table.slopes.now) }
+    ensures { let A = D.beside true in
+        let table = D.entry_of true s.now.table.values.now s.now.table.slopes.now in
+        let sheets = sheets_by A s.now.n s.now.sheets.now s.now.orders (D.of true s.now.temperature) table in
+        (x : ℕ → A.Num) (a : ℕ → A.Num) → Reads A (D.of true) s.now.n xs.now x → Pairs A s.now.n (map (D.of true) alphas.now) a →
+        answer_by (D.of true) result ≡ second A (D.functions true) sheets x (mixture_by (D.of true) w.now) a }
+{
+    let mut a2 = zero::<D>();
+    for i in 0usize..s.n {
+        let next = second_row(s, xs, w, alphas, i, a2)?;
+        a2 = next;
+    }
+    let k = saftvrqmie_dispersion::k(w.zeta);
+    Ok(a2 * k)
+}
+
+fn third_row<D: DualNum>(
+    s: &State<D>,
+    xs: &[D; SIDE],
+    zeta_bar: D,
+    alphas: &[D; SHEET],
+    i: usize,
+    sum: D,
+) -> Result<D, Refusal>
+    requires { (s.now.n ≤ side) × (i < s.now.n) × First (4 * sheet) (D.has s.now.table.values.now s.now.table.slopes.now) }
+    ensures { let A = D.beside true in
+        let depths = sheet_in (D.entry_of true s.now.table.values.now s.now.table.slopes.now) 2 in
+        (x : ℕ → A.Num) (a : ℕ → A.Num) (v : A.Num) → Reads A (D.of true) s.now.n xs.now x → Pairs A s.now.n (map (D.of true) alphas.now) a → D.taken true v ≡ D.of true sum →
+        answer_by (D.of true) result ≡ third_row A (D.functions true) s.now.n depths x (D.of true zeta_bar) a i v }
+{
+    let table = s.table;
+    let mut a3 = sum;
+    for j in 0usize..s.n {
+        let e = SIDE * i + j;
+        let depth = D::entry(&table, EPSILON_K_EFF + e);
+        let a = pair_entry(alphas, e);
+        let v = saftvrqmie_dispersion::third_order_perturbation_ij(depth, a, zeta_bar)?;
+        let xi = component(xs, i);
+        let xj = component(xs, j);
+        a3 = a3 + xi * xj * v;
+    }
+    Ok(a3)
+}
+
+fn third<D: DualNum>(
+    s: &State<D>,
+    xs: &[D; SIDE],
+    zeta_bar: D,
+    alphas: &[D; SHEET],
+) -> Result<D, Refusal>
+    requires { (0 < s.now.n) × (s.now.n ≤ side) × First (4 * sheet) (D.has s.now.table.values.now s.now.table.slopes.now) }
+    ensures { let A = D.beside true in
+        let depths = sheet_in (D.entry_of true s.now.table.values.now s.now.table.slopes.now) 2 in
+        (x : ℕ → A.Num) (a : ℕ → A.Num) → Reads A (D.of true) s.now.n xs.now x → Pairs A s.now.n (map (D.of true) alphas.now) a →
+        answer_by (D.of true) result ≡ third A (D.functions true) s.now.n depths x (D.of true zeta_bar) a }
+{
+    let mut a3 = zero::<D>();
+    for i in 0usize..s.n {
+        let next = third_row(s, xs, zeta_bar, alphas, i, a3)?;
+        a3 = next;
+    }
+    Ok(a3)
+}
+
+// n_s is summed anew, as in the Rust. xs and alphas are room: a run of any numbers has no array of its own.
+pub fn helmholtz_energy_density<D: DualNum>(
+    s: &State<D>,
+    m: &[f64; SIDE],
+    x: &NumberList,
+    rho: &NumberList,
+    xs: &mut [D; SIDE],
+    alphas: &mut [D; SHEET],
+) -> Result<D, Refusal>
+    requires { (0 < s.now.n) × (s.now.n ≤ side)
+        × First (4 * sheet) (D.has s.now.table.values.now s.now.table.slopes.now)
+        × First s.now.n (D.has x.now.values.now x.now.slopes.now)
+        × First s.now.n (D.has rho.now.values.now rho.now.slopes.now) }
+    ensures { let A = D.beside true in
+        let table = D.entry_of true s.now.table.values.now s.now.table.slopes.now in
+        let sheets = sheets_by A s.now.n s.now.sheets.now s.now.orders (D.of true s.now.temperature) table in
+        let x = D.entry_of true x.now.values.now x.now.slopes.now in
+        let rho = D.entry_of true rho.now.values.now rho.now.slopes.now in
+        answer_by (D.of true) result ≡ dispersion A (D.functions true) sheets x rho (points A m.now) (D.of true s.now.temperature) }
+{
+    let table = s.table;
+    segment_fractions(s.n, x, m, xs);
+    let w = mixture(s.n, xs, rho, m, &table);
+    alphas_of(s, alphas)?;
+    let a1 = first(s, xs, &w)?;
+    let a2 = second(s, xs, &w, alphas)?;
+    let a3 = third(s, xs, w.zeta_bar, alphas)?;
+    let n_s = segment_density::<D>(s.n, rho, m);
+    Ok(n_s * saftvrqmie_dispersion::orders_sum(s.temperature, a1, a2, a3))
+}

@@ -1,0 +1,32 @@
+-- What the sums read, in the numbers N: sheets of a table by their entry e, component lists by their index i.
+use Rattle.std.specs.Prelude.{ℕ, ◌+◌, ◌*◌, ◌<◌, Float, List, map, ◌≡◌}
+use Rattle.number.specs.Arith.{Arith}
+use Rattle.number.specs.Lists.{at, nth}
+use Rattle.sizes.specs.Sizes.{sheet, cell}
+
+-- diameters of the components: the diagonal of a sheet
+abbrev pub diagonal : {N : Type 0} → (ℕ → N) → ℕ → N
+diagonal d i = d (cell i i)
+
+module _ (A : Arith) where
+  open A use {Num, lit}
+
+  -- 'Inputs .. are single points'
+  abbrev pub points : List Float → ℕ → Num
+  points l i = lit (at l i)
+
+  -- sheet k of a list
+  abbrev pub sheet_of : List Float → ℕ → ℕ → Num
+  sheet_of l k e = points l (k * sheet + e)
+
+-- the same of entries that a run reads
+abbrev pub sheet_in : {N : Type 0} → (ℕ → N) → ℕ → ℕ → N
+sheet_in f k e = f (k * sheet + e)
+
+-- the first n
+abbrev pub First : ℕ → (ℕ → Type 0) → Type 0
+First n P = (i : ℕ) → i < n → P i
+
+-- the first n of a run's own list are those of x
+abbrev pub Reads : {S : Type 0} (A : Arith) → (S → A.Num) → ℕ → List S → (ℕ → A.Num) → Type 0
+Reads A of n l x = (i : ℕ) → i < n → nth A (map of l) i ≡ x i
