@@ -1,5 +1,5 @@
 -- The alphas that the code's list holds are those of the formula at each pair, and where the code's refuse, so do they. Assumes nothing.
-use Prim.Native.Nat.{ℕ, ◌≤◌}
+use Prim.Native.Nat.{◌≤◌}
 use lib.ListN.{length}
 use mathlib.Core.List.{List}
 use mathlib.Core.Path.{◌≡◌, sym}
@@ -16,7 +16,7 @@ use Rattle.mie_parameters.specs.Answer.{outcome}
 use Rattle.mie_parameters.proofs.Laws.{held_at, refused_at}
 use Rattle.saftvrqmie_dispersion_sums.specs.State.{SheetsIn, Pairs}
 use Rattle.saftvrqmie_dispersion_sums.specs.Dispersion.{alpha_row, alphas}
-use Rattle.saftvrqmie_dispersion_sums.proofs.Alphas.{Rows, both_refuses, both_holds, alphas_both, rows_read}
+use Rattle.saftvrqmie_dispersion_sums.proofs.Alphas.{both_refuses, both_holds, alphas_both, rows_read}
 
 module _ (A : Arith) (F : Functions A.Num) (s : SheetsIn A.Num) (high : s.count ≤ side) (begin l : List A.Num) (len : length begin ≡ sheet)
     (found : Result (Unit {0}) Refusal) (are-l : outcome found l ≡ walk s.count (alpha_row A F s) begin) where

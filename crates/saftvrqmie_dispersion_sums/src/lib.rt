@@ -50,12 +50,7 @@ fn inv_x_s_sum<D: DualNum>(n: usize, x: &NumberList, m: &[f64; SIDE]) -> D
 }
 
 // x_s, in the first n places.
-fn segment_fractions<D: DualNum>(
-    n: usize,
-    x: &NumberList,
-    m: &[f64; SIDE],
-    xs: &mut [D; SIDE],
-)
+fn segment_fractions<D: DualNum>(n: usize, x: &NumberList, m: &[f64; SIDE], xs: &mut [D; SIDE])
     requires { (0 < n) × (n ≤ side) × First n (D.has x.now.values.now x.now.slopes.now) }
     ensures { let A = D.beside true in
         let x = D.entry_of true x.now.values.now x.now.slopes.now in
@@ -93,13 +88,7 @@ fn packing_row<D: DualNum>(
 }
 
 // `zeta_saft_vrq_mie` of sheet k.
-fn packing<D: DualNum>(
-    n: usize,
-    xs: &[D; SIDE],
-    table: &NumberList,
-    k: usize,
-    rho_s: D,
-) -> D
+fn packing<D: DualNum>(n: usize, xs: &[D; SIDE], table: &NumberList, k: usize, rho_s: D) -> D
     requires { (0 < n) × (n ≤ side) × (k < 4) × First (4 * sheet) (D.has table.now.values.now table.now.slopes.now) }
     ensures { let A = D.beside true in
         (x : ℕ → A.Num) → Reads A (D.of true) n xs.now x →
@@ -156,11 +145,7 @@ fn alpha_at<D: DualNum>(s: &State<D>, e: usize) -> Result<D, Refusal>
 }
 
 // `Alpha::new` of a row; 6 where a power is outside.
-fn alpha_row<D: DualNum>(
-    s: &State<D>,
-    i: usize,
-    alphas: &mut [D; SHEET],
-) -> Result<(), Refusal>
+fn alpha_row<D: DualNum>(s: &State<D>, i: usize, alphas: &mut [D; SHEET]) -> Result<(), Refusal>
     requires { (s.now.n ≤ side) × (i < s.now.n) × First (4 * sheet) (D.has s.now.table.values.now s.now.table.slopes.now) }
     ensures { let A = D.beside true in
         let table = D.entry_of true s.now.table.values.now s.now.table.slopes.now in
@@ -246,11 +231,7 @@ fn first_row<D: DualNum>(
     Ok(a1)
 }
 
-fn first<D: DualNum>(
-    s: &State<D>,
-    xs: &[D; SIDE],
-    w: &SegmentState<D>,
-) -> Result<D, Refusal>
+fn first<D: DualNum>(s: &State<D>, xs: &[D; SIDE], w: &SegmentState<D>) -> Result<D, Refusal>
     requires { (0 < s.now.n) × (s.now.n ≤ side) × First (4 * sheet) (D.has s.now.table.values.now s.now.table.slopes.now) }
     ensures { let A = D.beside true in
         let table = D.entry_of true s.now.table.values.now s.now.table.slopes.now in

@@ -1,8 +1,8 @@
 -- Sums and walks of a run that begin at a number taken as a D: v is held as such before the first turn, and as it is from then on. Assumes nothing.
-use Prim.Native.Nat.{ℕ, zero, suc, ◌+◌, ◌≤◌, ◌<◌}
+use Prim.Native.Nat.{ℕ, ◌+◌, ◌≤◌, ◌<◌}
 use native.Mathlib.Omega.{arith}
 use mathlib.Core.Path.{◌≡◌, sym, ap, ◌∙◌}
-use Rattle.number.specs.Ans.{Ans, held, refused, ◌>>=◌}
+use Rattle.number.specs.Ans.{Ans, held, refused}
 use Rattle.number.specs.Walk.{turns, walk}
 use Rattle.number.proofs.Walk.{turns_none, turns_next, turns_end, walk_none, walk_next, walk_stop, walk_end}
 

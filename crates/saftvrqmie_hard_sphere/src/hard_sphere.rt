@@ -57,12 +57,7 @@ fn zeta_added<D: DualNum>(rho: D, d: D, m: D::Plain, z: Zetas<D>) -> Zetas<D>
     }
 }
 
-pub fn zeta<D: DualNum>(
-    n: usize,
-    rho: &NumberList,
-    table: &NumberList,
-    m: &[f64; SIDE],
-) -> Zetas<D>
+pub fn zeta<D: DualNum>(n: usize, rho: &NumberList, table: &NumberList, m: &[f64; SIDE]) -> Zetas<D>
     requires { (0 < n) × (n ≤ side)
         × First n (D.has rho.now.values.now rho.now.slopes.now)
         × First (4 * sheet) (D.has table.now.values.now table.now.slopes.now) }

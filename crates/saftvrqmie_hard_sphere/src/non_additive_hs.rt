@@ -82,12 +82,7 @@ fn non_additive_column<D: DualNum>(
     r
 }
 
-fn non_additive_sum<D: DualNum>(
-    n: usize,
-    xs: &[D; SIDE],
-    table: &NumberList,
-    s: Shared<D>,
-) -> D
+fn non_additive_sum<D: DualNum>(n: usize, xs: &[D; SIDE], table: &NumberList, s: Shared<D>) -> D
     requires { (0 < n) × (n ≤ side) × First (4 * sheet) (D.has table.now.values.now table.now.slopes.now) }
     ensures { (w : Bool) (x : ℕ → (D.beside w).Num) → Reads (D.beside w) (D.of w) n xs.now x →
         let d = sheet_in (D.entry_of w table.now.values.now table.now.slopes.now) 1 in
@@ -120,11 +115,7 @@ fn non_additive<D: DualNum>(
     let f = frac_1mz3(z.z3);
     let rho_s = segment_density(n, rho, m);
     density_shares(n, rho_s, rho, m, xs);
-    let s = Shared {
-        rho_s,
-        z2: z.z2,
-        f,
-    };
+    let s = Shared { rho_s, z2: z.z2, f };
     let sum = non_additive_sum(n, xs, table, s);
     (rho_s * sum).after(z.z1).after(z.z0)
 }

@@ -1,7 +1,7 @@
 -- `saftvrqmie_dispersion_sums::alpha_row` meets its contract. Assumes nothing.
 use borrow.Author.Rules.{rules}
 use mathlib.Core.Bool.{true}
-use mathlib.Core.Path.{refl, ap}
+use mathlib.Core.Path.{refl}
 use Rattle.number.specs.Answer.{answer_by}
 use Rattle.number.proofs.Walk.{via, walk_none, walk_next, walk_stop, walk_end, handed_on}
 use Rattle.saftvrqmie_dispersion_sums.specs.Dispersion.{alpha_row}

@@ -22,10 +22,12 @@ returns-in_err-next g c x q =
 pub loop-i-preserved : goal.loop-i-preserved
 loop-i-preserved g c =
     let D = g.D.DualNum in
-    let m = g.met.D.DualNum in
-    (search rules, λ x q.
-        let t = c.loop-i.invariant.1 x q in
-        walked_next _ _ (m.taken_of_law true) _ _ _ _ _ t (via (answer_by (D.of true)) (c.first_row.ensures x _ q t.holds.begun) c.in_ok-next.was))
+    let m = g.met.D.DualNum in (
+      search rules,
+      λ x q.
+          let t = c.loop-i.invariant.1 x q in
+          walked_next _ _ (m.taken_of_law true) _ _ _ _ _ t (via (answer_by (D.of true)) (c.first_row.ensures x _ q t.holds.begun) c.in_ok-next.was),
+    )
 
 pub returns : goal.returns
 unfolding first

@@ -24,11 +24,14 @@ returns-in_err-v g c x v q p =
 pub loop-k-preserved : goal.loop-k-preserved
 loop-k-preserved g c =
     let D = g.D.DualNum in
-    let m = g.met.D.DualNum in
-    (c.loop-k.invariant.0, search rules, λ x v q p.
-        let t = c.loop-k.invariant.2 x v q p in
-        let lead = rw (c.entry-d.ensures true, c.component-xi.ensures true, q _ c.requires.1, c.component-xj.ensures true, q (c.args.i + c.loop-k.k) (omega (arith, c.loop-k-test.true, c.loop-k.invariant.0))) at (c.lead.ensures true) in
-        walked_next _ _ (m.taken_of_law true) _ _ _ _ _ t (first_held (D.beside true) _ _ _ _ _ _ _ _ _ (c.perturbed_pair-pair.ensures x) (c.first_order_perturbation_ij.ensures true) _ _ _ (ap (answer_by (D.of true)) c.in_ok-v.was) lead (rw (m.add_law true _ _ _ c.add-a1.ensures, ← t.holds.begun, m.add_taken_law true _ _, m.mul_law true _ _ _ c.mul.ensures))))
+    let m = g.met.D.DualNum in (
+      c.loop-k.invariant.0,
+      search rules,
+      λ x v q p.
+          let t = c.loop-k.invariant.2 x v q p in
+          let lead = rw (c.entry-d.ensures true, c.component-xi.ensures true, q _ c.requires.1, c.component-xj.ensures true, q (c.args.i + c.loop-k.k) (omega (arith, c.loop-k-test.true, c.loop-k.invariant.0))) at (c.lead.ensures true) in
+          walked_next _ _ (m.taken_of_law true) _ _ _ _ _ t (first_held (D.beside true) _ _ _ _ _ _ _ _ _ (c.perturbed_pair-pair.ensures x) (c.first_order_perturbation_ij.ensures true) _ _ _ (ap (answer_by (D.of true)) c.in_ok-v.was) lead (rw (m.add_law true _ _ _ c.add-a1.ensures, ← t.holds.begun, m.add_taken_law true _ _, m.mul_law true _ _ _ c.mul.ensures))),
+    )
 
 pub returns : goal.returns
 unfolding first_row

@@ -1,7 +1,6 @@
 -- `saftvrqmie_dispersion_sums::packing` meets its contract. Assumes nothing.
 use Prim.Native.Nat.{ℕ, ◌≤◌, ◌-◌}
 use mathlib.Core.Bool.{true}
-use mathlib.Core.Path.{◌≡◌}
 use Rattle.number.specs.Arith.{whole}
 use Rattle.number.specs.Walk.{turns}
 use Rattle.saftvrqmie_hard_sphere.specs.State.{sheet_in, Reads}

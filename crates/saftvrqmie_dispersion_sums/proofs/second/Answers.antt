@@ -23,10 +23,12 @@ returns-in_err-next g c x a q r =
 pub loop-i-preserved : goal.loop-i-preserved
 loop-i-preserved g c =
     let D = g.D.DualNum in
-    let m = g.met.D.DualNum in
-    (search rules, λ x a q r.
-        let t = c.loop-i.invariant.1 x a q r in
-        walked_next _ _ (m.taken_of_law true) _ _ _ _ _ t (via (answer_by (D.of true)) (c.second_row.ensures x a _ q r t.holds.begun) c.in_ok-next.was))
+    let m = g.met.D.DualNum in (
+      search rules,
+      λ x a q r.
+          let t = c.loop-i.invariant.1 x a q r in
+          walked_next _ _ (m.taken_of_law true) _ _ _ _ _ t (via (answer_by (D.of true)) (c.second_row.ensures x a _ q r t.holds.begun) c.in_ok-next.was),
+    )
 
 pub returns : goal.returns
 unfolding second ◌>>=◌

@@ -27,13 +27,16 @@ pub loop-k-preserved : goal.loop-k-preserved
 unfolding decimal of_bits
 loop-k-preserved g c =
     let D = g.D.DualNum in
-    let m = g.met.D.DualNum in
-    (c.loop-k.invariant.0, search rules, λ x a v q r p.
-        let t = c.loop-k.invariant.2 x a v q r p in
-        let in_row : c.args.i + c.loop-k.k < c.args.s.now.n = omega (arith, c.loop-k-test.true, c.loop-k.invariant.0) in
-        let lead = rw (c.entry-d.ensures true, c.component-xi.ensures true, q _ c.requires.1, c.component-xj.ensures true, q _ in_row) at (c.lead-f.ensures true) in
-        let chi = rw (c.pair_entry-a.ensures, r _ _ c.requires.1 in_row) at (c.chi-chi.ensures true) in
-        walked_next _ _ (m.taken_of_law true) _ _ _ _ _ t (second_held (D.beside true) _ _ _ _ _ _ _ _ _ (c.perturbed_pair-pair.ensures x) a c.second_order_perturbation_ij.ensures _ _ _ _ _ (ap (answer_by (D.of true)) c.in_ok-v.was) lead chi refl (rw (m.add_law true _ _ _ c.add-a2.ensures, ← t.holds.begun, m.add_taken_law true _ _, m.mul_law true _ _ _ c.mul-in-loop-k.ensures, m.mul_law true _ _ _ c.mul.ensures, m.add_plain_law true _ _ _ c.add.ensures, m.plain_lit_law true _ _ c.lit.ensures))))
+    let m = g.met.D.DualNum in (
+      c.loop-k.invariant.0,
+      search rules,
+      λ x a v q r p.
+          let t = c.loop-k.invariant.2 x a v q r p in
+          let in_row : c.args.i + c.loop-k.k < c.args.s.now.n = omega (arith, c.loop-k-test.true, c.loop-k.invariant.0) in
+          let lead = rw (c.entry-d.ensures true, c.component-xi.ensures true, q _ c.requires.1, c.component-xj.ensures true, q _ in_row) at (c.lead-f.ensures true) in
+          let chi = rw (c.pair_entry-a.ensures, r _ _ c.requires.1 in_row) at (c.chi-chi.ensures true) in
+          walked_next _ _ (m.taken_of_law true) _ _ _ _ _ t (second_held (D.beside true) _ _ _ _ _ _ _ _ _ (c.perturbed_pair-pair.ensures x) a c.second_order_perturbation_ij.ensures _ _ _ _ _ (ap (answer_by (D.of true)) c.in_ok-v.was) lead chi refl (rw (m.add_law true _ _ _ c.add-a2.ensures, ← t.holds.begun, m.add_taken_law true _ _, m.mul_law true _ _ _ c.mul-in-loop-k.ensures, m.mul_law true _ _ _ c.mul.ensures, m.add_plain_law true _ _ _ c.add.ensures, m.plain_lit_law true _ _ c.lit.ensures))),
+    )
 
 pub returns : goal.returns
 unfolding second_row

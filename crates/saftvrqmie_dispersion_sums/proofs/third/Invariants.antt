@@ -1,7 +1,6 @@
 -- `saftvrqmie_dispersion_sums::third` meets its contract. Assumes nothing.
 use Prim.Native.Nat.{ℕ, ◌≤◌, ◌-◌}
 use mathlib.Core.Bool.{true}
-use mathlib.Core.Path.{◌≡◌}
 use Rattle.number.specs.Arith.{whole}
 use mathlib.Core.List.{map}
 use Rattle.number.specs.Walk.{walk}

@@ -10,8 +10,8 @@ use Rattle.saftvrqmie_hard_sphere.proofs.hard_sphere.segment_density.Given as go
 abbrev pub invariant-loop-i : goal.invariant-loop-i
 invariant-loop-i g l =
     (l.i ≤ l.n) × ((w : Bool) → let D = g.D.DualNum in
-        let A = D.beside w in
-        Holds (D.of w) (D.taken w) l.i l.r (turns l.i (λ i s. A.add s (A.mul (D.entry_of w l.rho.values.now l.rho.slopes.now i) (points A l.m i))) (A.lit zero64)))
+    let A = D.beside w in
+    Holds (D.of w) (D.taken w) l.i l.r (turns l.i (λ i s. A.add s (A.mul (D.entry_of w l.rho.values.now l.rho.slopes.now i) (points A l.m i))) (A.lit zero64)))
 
 abbrev pub decreases-loop-i : goal.decreases-loop-i
 decreases-loop-i g l = l.n - l.i

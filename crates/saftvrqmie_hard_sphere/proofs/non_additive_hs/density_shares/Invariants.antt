@@ -12,8 +12,8 @@ use Rattle.saftvrqmie_hard_sphere.proofs.non_additive_hs.density_shares.Given as
 abbrev pub invariant-loop-i : goal.invariant-loop-i
 invariant-loop-i g l =
     (l.i ≤ l.n) × (length l.initial.xs ≡ side) × ((w : Bool) → let D = g.D.DualNum in
-        let A = D.beside w in
-        map (D.of w) l.xs ≡ turns l.i (λ i ys. set ys i (A.div (A.mul (D.entry_of w l.rho.values.now l.rho.slopes.now i) (points A l.m i)) (D.of w l.rho_s))) (map (D.of w) l.initial.xs))
+    let A = D.beside w in
+    map (D.of w) l.xs ≡ turns l.i (λ i ys. set ys i (A.div (A.mul (D.entry_of w l.rho.values.now l.rho.slopes.now i) (points A l.m i)) (D.of w l.rho_s))) (map (D.of w) l.initial.xs))
 
 abbrev pub decreases-loop-i : goal.decreases-loop-i
 decreases-loop-i g l = l.n - l.i
