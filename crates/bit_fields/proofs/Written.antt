@@ -117,7 +117,7 @@ low_le x n h =
 
 -- ---- a field, one part after the other
 module _ (old now : List ℕ) (at width left value n : ℕ) (inv : bits_of now ≡ over at (digits (width - left) (value / 2 ^ left)) (bits_of old)) where
-  pub put_next : (b : ℕ) → left ≤ width → at + width ≤ 8 * length old → length now ≡ length old → n ≡ min (8 - (at + (width - left)) % 8) left → 0 < left
+  pub put_next : (b : ℕ) → left ≤ width → at + width ≤ 8 * length old → length now ≡ length old → n ≡ min left (8 - (at + (width - left)) % 8) → 0 < left
       → digits 8 b ≡ over ((at + (width - left)) % 8) (digits n (value / 2 ^ (left - n))) (digits 8 (get_or now ((at + (width - left)) / 8) 0))
       → bits_of (set now ((at + (width - left)) / 8) b) ≡ over at (digits (width - (left - n)) (value / 2 ^ (left - n))) (bits_of old)
   put_next b le fits same e some d =

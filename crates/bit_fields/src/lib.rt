@@ -1,7 +1,7 @@
 // Fields of bits in a list of bytes, most significant first: read and written at any position.
 #![tactic(auto)]
 
-ghost use Rattle.std.specs.Prelude.{◌≡◌, false, cond, ◌+◌, ◌*◌, ◌%◌, ◌^◌, ◌<◌, ◌≤◌, min, length, get_or, take, drop};
+ghost use Rattle.std.specs.Prelude.{◌≡◌, false, cond, ◌+◌, ◌*◌, ◌%◌, ◌^◌, ◌<◌, ◌≤◌, length, get_or, take, drop};
 ghost use Rattle.bit_fields.specs.Bits.{numeral, digits, bits_of, over};
 
 fn wide(b: u8) -> u64
@@ -89,12 +89,6 @@ fn placed(b: u8, s: usize, n: usize, v: u64) -> u8
     (high + middle + low) as u8
 }
 
-fn lesser(a: usize, b: usize) -> usize
-    ensures { result ≡ min a b }
-{
-    if a < b { a } else { b }
-}
-
 // A field of at most 64 bits, in place of what was there; all else keeps its bits. A card's length is tested before it is written. A turn takes what the byte in hand has room for, so the turns are no range.
 pub fn put(l: &mut [u8], at: usize, width: usize, value: u64)
     requires { (at + width ≤ 8 * length l.old) × (width ≤ 64) × (at < 2 ^ 32) }
@@ -104,7 +98,7 @@ pub fn put(l: &mut [u8], at: usize, width: usize, value: u64)
     while 0 < left {
         let end = at + (width - left);
         let s = end % 8;
-        let n = lesser(8 - s, left);
+        let n = left.min(8 - s);
         l[end / 8] = placed(l[end / 8], s, n, value >> (left - n));
         left = left - n;
     }

@@ -3,9 +3,10 @@ use Prim.Native.Nat.{ℕ, zero, suc, ◌+◌, ◌*◌, ◌-◌, ◌/◌, ◌≤�
 use native.Mathlib.Nat.{mul_comm, mul-suc, suc-mul, mul-add, add-mul, mul-le-mul, mul_assoc}
 use native.Mathlib.Numerals.{add-one}
 use native.Mathlib.Omega.{arith}
-use lib.ListN.{length, get_or, take, set}
+use lib.ListN.{length, get_or, take, set, replicate}
 use lib.Seq.{take-suc-set}
-use mathlib.Core.Path.{◌≡◌, refl, ap}
+use Rattle.std.proofs.lemmas.List.{take_at, length-replicate, replicate_more}
+use mathlib.Core.Path.{◌≡◌, refl, sym, ap, ◌∙◌}
 use mathlib.Core.List.{List, [], ◌∷◌, ◌++◌, append_assoc, append-nil}
 use Rattle.number.specs.Walk.{turns}
 use Rattle.card.specs.Fields.{joined}
@@ -14,6 +15,15 @@ use Rattle.number.specs.Arith.{zero64}
 use lib.Ieee.{Float, of_bits, binary64}
 use borrow.Author.Tests.{eq-eqb, ne_eqb}
 use Rattle.card_lists.specs.Lists.{pairs_before, pair_number, pair_entry}
+
+-- one number in the first places
+each_one : {S : Type 0} (x : S) (n : ℕ) → replicate n x ≡ joined n (λ _. x ∷ [])
+unfolding joined
+each_one x zero = refl
+each_one {S} x (suc n) = (rw add-one at (sym (replicate_more n x))) ∙ ap (λ (s : List S). s ++ x ∷ []) (each_one x n)
+
+pub all_one : {S : Type 0} (x : S) (l rest : List S) (n m : ℕ) → m ≡ n → l ≡ replicate m x → take n (l ++ rest) ≡ joined n (λ _. x ∷ [])
+all_one x l rest n m e p = take_at l rest n (rw (p, length-replicate m x) e) ∙ p ∙ rw e (each_one x n)
 
 -- one entry more
 module _ {S : Type 0} (f : ℕ → S) where

@@ -1,7 +1,7 @@
 // A card's numbers as component lists: floats from patterns, and pairs in their square.
 #![tactic(auto)]
 
-ghost use Rattle.std.specs.Prelude.{◌≡◌, [], ◌∷◌, ◌++◌, ◌+◌, ◌*◌, ◌-◌, ◌<◌, ◌≤◌, min, max, length, take};
+ghost use Rattle.std.specs.Prelude.{◌≡◌, [], ◌∷◌, ◌++◌, ◌+◌, ◌*◌, ◌-◌, ◌<◌, ◌≤◌, length, take};
 ghost use Rattle.sizes.specs.Sizes.{side, sheet};
 ghost use Rattle.card.specs.Fields.{joined};
 ghost use Rattle.card_lists.specs.Lists.{column, orders, ones, pairs_before, pair_entry, pair_list};
@@ -38,22 +38,8 @@ pub fn ones(n: usize) -> [f64; SIDE]
     ensures { take n result ≡ ones n }
 {
     let mut list = [0.0; SIDE];
-    for i in 0usize..n {
-        list[i] = 1.0;
-    }
+    list[..n].fill(1.0);
     list
-}
-
-fn lesser(i: usize, j: usize) -> usize
-    ensures { result ≡ min i j }
-{
-    if i < j { i } else { j }
-}
-
-fn greater(i: usize, j: usize) -> usize
-    ensures { result ≡ max i j }
-{
-    if i < j { j } else { i }
 }
 
 // Row i is one of at most twelve.
@@ -72,8 +58,8 @@ fn pair_entry(values: &[u64], start: usize, n: usize, e: usize, i: usize, j: usi
     if i == j {
         return 0.0;
     }
-    let low = lesser(i, j);
-    let high = greater(i, j);
+    let low = i.min(j);
+    let high = i.max(j);
     let pair = pairs_before(n, low) + (high - 1 - low);
     number::of_bits(values[start + 2 * pair + e])
 }

@@ -7,20 +7,9 @@ use mathlib.Core.List.{List, ◌++◌, append_assoc}
 use lib.Dec.{eqb}
 use borrow.Author.Tests.{eqb-true, eqb-false}
 use lib.ListN.{length, get_or, set, take, drop, length-drop, length-set, length-append, take-append-drop}
-use lib.Seq.{get_or-set_same, get_or-set_other, take_at, drop_at, take-length, drop-drop, take-take, drop-append-le, length-take-le, get_or-take, get_or-drop, take-add}
+use lib.Seq.{get_or-set_same, get_or-set_other, take_at, drop_at, drop-drop, take-take, drop-append-le, length-take-le, get_or-take, get_or-drop, take-add}
 use Rattle.number.specs.Walk.{turns, filled}
-use Rattle.saftvrqmie.proofs.Laws.{copy_next}
 use Rattle.desk_place.specs.Layout.{part, over}
-
--- ---- a loop that lays x over d
-module _ {A : Type 0} (x d : List A) where
-  pub lay_next : (p : List A) (k : ℕ) (z : A) → k < length x → k < length d → p ≡ take k x ++ drop k d → set p k (get_or x k z) ≡ take (k + 1) x ++ drop (k + 1) d
-  lay_next p k z a b h = let q : 0 + k ≡ k = omega arith in rw q at (copy_next x d 0 p k z (rw q a) b h)
-
-  pub lay_end : (p : List A) (k : ℕ) → k ≤ length x → length x ≤ k → p ≡ take k x ++ drop k d → p ≡ x ++ drop (length x) d
-  lay_end p k a b h =
-      let q : k ≡ length x = omega arith in
-      h ∙ ap (λ (n : ℕ). take n x ++ drop n d) q ∙ ap (λ (l : List A). l ++ drop (length x) d) (take-length x)
 
 -- ---- a list that a loop fills
 module _ {A : Type 0} (f : ℕ → A) where

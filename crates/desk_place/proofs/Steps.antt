@@ -4,13 +4,14 @@ use Rattle.std.specs.Prelude.{Err, Ok, Result}
 use Rattle.number.specs.Answer.{code}
 use Rattle.number.specs.declared.refusal.Refusal.{Refusal}
 use native.Mathlib.Omega.{arith}
-use mathlib.Core.Path.{◌≡◌, refl, ap, ◌∙◌}
-use mathlib.Core.List.{List, [], ◌++◌}
+use mathlib.Core.Path.{◌≡◌, refl, sym, ap, ◌∙◌}
+use mathlib.Core.List.{List, [], ◌++◌, append-nil}
 use mathlib.Core.Bool.{Bool, true, false, not, ◌&&◌, cond}
 use mathlib.Core.Option.{Option, none, some}
 use lib.Dec.{eqb}
 use lib.Ieee.{Float}
-use lib.ListN.{length, get_or, set, take, drop, length-set, length-replicate}
+use lib.ListN.{length, get_or, set, take, drop, replicate, length-set, length-replicate, length-drop, drop_of_length-le}
+use lib.Seq.{length-take-le}
 use borrow.Author.Tests.{lt-ltb, le-ltb}
 use Rattle.number.specs.Ans.{Ans, held, refused, ◌>>=◌, demand}
 use Rattle.number.specs.Arith.{zero64}
@@ -99,7 +100,14 @@ module _ (p : Lists) where
 
 -- ---- a query that comes in
 
--- five parts, each laid over
+-- a part of +0 alone is a blank table laid over it
+blank_laid : (p y : List Float) → length p ≡ 4 * sheet → y ≡ replicate (length p) zero64 → y ≡ blank.values ++ drop (length blank.values) p
+blank_laid p y h e =
+    let k : length blank.values ≡ 4 * sheet = length-replicate (4 * sheet) zero64 in
+    let n : length p ≤ length blank.values = omega (arith, h, k) in
+    e ∙ ap (λ (m : ℕ). replicate m zero64) h ∙ sym (append-nil blank.values) ∙ ap (λ (l : List Float). blank.values ++ l) (sym (drop_of_length-le p n))
+
+-- five parts, the last all +0, each laid over
 pub five : (l m x rho sheets y1 y2 y3 y4 y5 : List Float) → length l ≡ place_floats → length m ≡ side → length x ≤ side → length rho ≤ side → length sheets ≡ 6 * sheet
     → (let l1 = back m_at side l y1 in
     let l2 = back fractions_at side l1 y2 in
@@ -109,7 +117,7 @@ pub five : (l m x rho sheets y1 y2 y3 y4 y5 : List Float) → length l ≡ place
     → y2 ≡ x ++ drop (length x) (part fractions_at side l1)
     → y3 ≡ rho ++ drop (length rho) (part densities_at side l2)
     → y4 ≡ sheets ++ drop (length sheets) (part sheets_at (6 * sheet) l3)
-    → y5 ≡ blank.values ++ drop (length blank.values) (part table_at (4 * sheet) l4)
+    → y5 ≡ replicate (length (part table_at (4 * sheet) l4)) zero64
     → back table_at (4 * sheet) l4 y5 ≡ over table_at blank.values (over sheets_at sheets (over densities_at rho (over fractions_at x (over m_at m l)))))
 five l m x rho sheets y1 y2 y3 y4 y5 h a b c d e1 e2 e3 e4 e5 =
     let k : length blank.values ≡ 4 * sheet = length-replicate (4 * sheet) zero64 in
@@ -125,7 +133,8 @@ five l m x rho sheets y1 y2 y3 y4 y5 h a b c d e1 e2 e3 e4 e5 =
     let g3 : length l3 ≡ place_floats = ap length o3 ∙ over_length densities_at rho l2 (omega (arith, g2, c)) ∙ g2 in
     let o4 = back_laid sheets_at (6 * sheet) l3 sheets y4 (omega (arith, g3)) (omega (arith, d)) e4 in
     let g4 : length l4 ≡ place_floats = ap length o4 ∙ over_length sheets_at sheets l3 (omega (arith, g3, d)) ∙ g3 in
-    let o5 = back_laid table_at (4 * sheet) l4 blank.values y5 (omega (arith, g4)) (omega (arith, k)) e5 in
+    let p5 : length (part table_at (4 * sheet) l4) ≡ 4 * sheet = length-take-le (4 * sheet) (drop table_at l4) (omega (arith, length-drop table_at l4, g4)) in
+    let o5 = back_laid table_at (4 * sheet) l4 blank.values y5 (omega (arith, g4)) (omega (arith, k)) (blank_laid (part table_at (4 * sheet) l4) y5 p5 e5) in
     o5 ∙ ap (over table_at blank.values) (o4 ∙ ap (over sheets_at sheets) (o3 ∙ ap (over densities_at rho) (o2 ∙ ap (over fractions_at x) o1)))
 
 pub floats_are : (l l' m x rho sheets : List Float) (t : Float) → l' ≡ over table_at blank.values (over sheets_at sheets (over densities_at rho (over fractions_at x (over m_at m (set l 0 t))))) → l' ≡ floats_entered m sheets t x rho l

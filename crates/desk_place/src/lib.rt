@@ -41,24 +41,11 @@ pub fn byte_at(bytes: &[u8], k: usize) -> usize
 }
 
 // A list over the first places of a part.
-pub fn lay(part: &mut [f64], x: &[f64])
+pub fn lay<T: Copy>(part: &mut [T], x: &[T])
     requires { length x.now ≤ length part.old }
     ensures { part.new ≡ x.now ++ drop (length x.now) part.old }
 {
-    let n = x.len();
-    for k in 0usize..n {
-        part[k] = x[k];
-    }
-}
-
-pub fn lay_bytes(part: &mut [u8], x: &[u8])
-    requires { length x.now ≤ length part.old }
-    ensures { part.new ≡ x.now ++ drop (length x.now) part.old }
-{
-    let n = x.len();
-    for k in 0usize..n {
-        part[k] = x[k];
-    }
+    part[..x.len()].copy_from_slice(x);
 }
 
 // The pair in hand, at entry e of the sheets where they lie.
@@ -222,8 +209,7 @@ pub fn enter_floats(
     lay(&mut floats[FRACTIONS_AT..DENSITIES_AT], fractions);
     lay(&mut floats[DENSITIES_AT..SHEETS_AT], densities);
     lay(&mut floats[SHEETS_AT..TABLE_AT], sheets);
-    let blank = [0.0; TABLE];
-    lay(&mut floats[TABLE_AT..PLACE_FLOATS], &blank);
+    floats[TABLE_AT..PLACE_FLOATS].fill(0.0);
 }
 
 fn flag(wanted: bool) -> u8
@@ -241,5 +227,5 @@ pub fn enter_bytes(bytes: &mut [u8], count: usize, orders: &[u8], wanted: bool)
     bytes[ROW_AT] = 0;
     bytes[COLUMN_AT] = 0;
     bytes[WANTED_AT] = flag(wanted);
-    lay_bytes(&mut bytes[ORDERS_AT..PLACE_BYTES], orders);
+    lay(&mut bytes[ORDERS_AT..PLACE_BYTES], orders);
 }

@@ -16,7 +16,6 @@ use Rattle.enclosure.specs.Enclosure.{enclosures}
 use Rattle.dual.specs.Dual.{DualOf}
 use Rattle.dual.specs.Value.{dual_of}
 use Rattle.dual.specs.declared.Dual.{Dual}
-use Rattle.slopes.specs.Answer.{dual_answer}
 use Rattle.slopes.specs.Mixed.{Mixed, plain, sloped}
 use Rattle.slopes.specs.Rules.{real_power, mixed_power, mixed_functions}
 use Rattle.power.specs.Power.{exponent_of, power_of}
@@ -59,7 +58,7 @@ unfolding answered ◌>>=◌
 asked_once x (held v) = refl
 asked_once x (refused n) = refl
 
-pub sloped_is : (r : Result Dual Refusal) (a : Ans (DualOf Float)) → dual_answer r ≡ a → answer_by (λ x. sloped (dual_of x)) r ≡ (a >>= λ v. held (sloped v))
+pub sloped_is : (r : Result Dual Refusal) (a : Ans (DualOf Float)) → answer_by dual_of r ≡ a → answer_by (λ x. sloped (dual_of x)) r ≡ (a >>= λ v. held (sloped v))
 unfolding ◌>>=◌
 sloped_is (Ok x) a p = rw (← p)
 sloped_is (Err e) a p = rw (← p)

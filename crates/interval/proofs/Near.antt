@@ -21,7 +21,7 @@ use Rattle.number.proofs.Ops.{NonZero, add_rounds, sub_rounds, mul_rounds, div_r
 use Rattle.number.proofs.Order.{lt_yes, lt_no, lt_from, least_is, greatest_is, over, under, both}
 use Rattle.number.proofs.Inside.{next_down_same, next_up_same, down_one, up_one, down_one_finite, up_one_finite, down_one_more, up_one_less, down_one_more_finite, up_one_less_finite, both_above, both_below}
 use Rattle.interval.specs.declared.Interval.{Interval}
-use Rattle.interval.specs.Interval.{point, outward, around, mul_i, pow_i}
+use Rattle.interval.specs.Interval.{point, outward, around, corners, mul_i, pow_i}
 use Rattle.interval.proofs.Encloses.{sign_nonzero}
 
 -- a rounded corner and its exact fraction
@@ -713,3 +713,7 @@ third_is x = refl
 
 pub outward_same : (g h : Bool) (a b : Float) → g ≡ h → outward g a b ≡ outward h a b
 outward_same g h a b e = ap (λ (z : Bool). outward z a b) e
+
+-- the four corners that a closure worked
+pub by_corners : (op : Float → Float → Float) (g : Bool) (x y r : Interval) (a b c d : Float) → a ≡ op x.lower y.lower → b ≡ op x.lower y.upper → c ≡ op x.upper y.lower → d ≡ op x.upper y.upper → r ≡ around g a b c d → r ≡ corners op g x y
+by_corners op g x y r a b c d p q s t e = rw (e, p, q, s, t)

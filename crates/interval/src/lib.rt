@@ -2,12 +2,11 @@
 // The usual way of an operation is inlined: operands in order, a positive factor or divisor, results on one side of zero and away from it and from the largest f64. There two corners are the least and the greatest, and a step is one pattern further. Everything else goes out of line.
 #![tactic(auto)]
 
-ghost use Rattle.std.specs.Prelude.{◌≡◌, ◌&&◌, cond};
+ghost use Rattle.std.specs.Prelude.{◌≡◌, ◌&&◌, cond, Float};
 ghost use Rattle.std.specs.Float.{binary64};
 ghost use Rattle.std.specs.Float.Ieee.{lt, neg, mul};
 ghost use Rattle.number.specs.Inside.{least_normal, largest, InsideAbove, InsideBelow};
 ghost use Rattle.interval.specs.Interval.{point, outward, around, add_i, sub_i, mul_i, div_i, neg_i, pow_i, down_i, after_i};
-ghost use Rattle.interval.specs.Worked.{worked_of};
 
 use std::ops::{Add, Div, Mul, Neg, Sub};
 
@@ -17,24 +16,6 @@ pub struct Interval {
     pub lower: f64,
     pub upper: f64,
     pub sound: bool,
-}
-
-// The operations that go out of line together. One function for the three is too large to be inlined, as is wanted.
-#[derive(Clone, Copy)]
-enum Operation {
-    Sum,
-    Difference,
-    Quotient,
-}
-
-#[derive(Clone, Copy)]
-struct Operands {
-    operation: Operation,
-    sound: bool,
-    xl: f64,
-    xu: f64,
-    yl: f64,
-    yu: f64,
 }
 
 fn outward(g: bool, a: f64, b: f64) -> Interval
@@ -58,26 +39,20 @@ fn around(g: bool, a: f64, b: f64, c: f64, d: f64) -> Interval
     outward(g, lower, upper)
 }
 
-fn worked(operation: Operation, x: f64, y: f64) -> f64
-    ensures { result ≡ worked_of operation x y }
+// The general way of an operation: the least and the greatest of its four corners. It stands out of line, so that the usual way is inlined.
+#[inline(never)]
+fn corners<F: Fn(f64, f64) -> f64>(worked: F, g: bool, x: Interval, y: Interval) -> Interval
+    requires { F.IsAlwaysCallable worked }
+    ensures { (a b c d : Float)
+        × F.post worked x.lower y.lower a × F.post worked x.lower y.upper b
+        × F.post worked x.upper y.lower c × F.post worked x.upper y.upper d
+        × (result ≡ around g a b c d) }
 {
-    match operation {
-        Operation::Sum => x + y,
-        Operation::Difference => x - y,
-        Operation::Quotient => x / y,
-    }
-}
-
-fn corners(o: Operands) -> Interval
-    ensures { let worked = worked_of o.operation in
-        result ≡ around o.sound (worked o.xl o.yl) (worked o.xl o.yu) (worked o.xu o.yl) (worked o.xu o.yu) }
-{
-    let operation = o.operation;
-    let a = worked(operation, o.xl, o.yl);
-    let b = worked(operation, o.xl, o.yu);
-    let c = worked(operation, o.xu, o.yl);
-    let d = worked(operation, o.xu, o.yu);
-    around(o.sound, a, b, c, d)
+    let a = worked(x.lower, y.lower);
+    let b = worked(x.lower, y.upper);
+    let c = worked(x.upper, y.lower);
+    let d = worked(x.upper, y.upper);
+    around(g, a, b, c, d)
 }
 
 // From a to b, both above zero: a step in the patterns.
@@ -203,14 +178,7 @@ impl Add for Interval {
                 return falling(g, a, b);
             }
         }
-        let q = corners(Operands {
-            operation: Operation::Sum,
-            sound: g,
-            xl: self.lower,
-            xu: self.upper,
-            yl: y.lower,
-            yu: y.upper,
-        });
+        let q = corners(|a, b| a + b, g, self, y);
         Interval {
             lower: q.lower,
             upper: q.upper,
@@ -236,14 +204,7 @@ impl Sub for Interval {
                 return falling(g, a, b);
             }
         }
-        let q = corners(Operands {
-            operation: Operation::Difference,
-            sound: g,
-            xl: self.lower,
-            xu: self.upper,
-            yl: y.lower,
-            yu: y.upper,
-        });
+        let q = corners(|a, b| a - b, g, self, y);
         Interval {
             lower: q.lower,
             upper: q.upper,
@@ -304,14 +265,7 @@ impl Div for Interval {
             }
         }
         let one_sign = (0.0 < y.lower) | (y.upper < 0.0);
-        let q = corners(Operands {
-            operation: Operation::Quotient,
-            sound: g & one_sign,
-            xl: self.lower,
-            xu: self.upper,
-            yl: y.lower,
-            yu: y.upper,
-        });
+        let q = corners(|a, b| a / b, g & one_sign, self, y);
         Interval {
             lower: q.lower,
             upper: q.upper,

@@ -79,11 +79,7 @@ fn all_within(low: f64, high: f64, n: usize, l: &[f64]) -> bool
     requires { length l.now ≡ n }
     ensures { result ≡ all_within low high n (at l.now) }
 {
-    let mut ok = true;
-    for i in 0usize..n {
-        ok = ok & within(low, high, l[i]);
-    }
-    ok
+    l[..n].iter().all(|x| within(low, high, *x))
 }
 
 // The three list tests below take lists as long as the count: an operation has refused others with 1 before it asks them.
@@ -161,9 +157,5 @@ pub fn all_one(n: usize, m: &[f64]) -> bool
     requires { length m.now ≡ n }
     ensures { result ≡ all_one n (at m.now) }
 {
-    let mut ok = true;
-    for i in 0usize..n {
-        ok = ok & (m[i] == 1.0);
-    }
-    ok
+    m[..n].iter().all(|x| *x == 1.0)
 }

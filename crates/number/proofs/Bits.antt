@@ -20,17 +20,11 @@ plain n h =
     subst (λ (b : Bool). T (not b)) (sym (nan_bits_above binary64 n))
     (not_T (ltb 0x7ff0_0000_0000_0000 (n % 0x8000_0000_0000_0000)) (λ t. not-le_of_lt (ltb→lt 0x7ff0_0000_0000_0000 (n % 0x8000_0000_0000_0000) t) h))
 
--- what equals itself is no NaN, and what does not is
-pub own_yes : (x : Float) → eq x x ≡ true → T (not (is_nan x))
-unfolding eq is_nan
-own_yes nan h = absurd (true≢false (sym h))
-own_yes (inf s) h = tt
-own_yes (fin s m e) h = tt
-
 self : (s : Bool) (a : ℕ) → level s a s a ≡ true
 self true a = let e : eqb a a ≡ true = is_true (eqb a a) (eq→eqb {a = a} refl) in rw e
 self false a = let e : eqb a a ≡ true = is_true (eqb a a) (eq→eqb {a = a} refl) in rw e
 
+-- what does not equal itself is a NaN
 pub own_no : (x : Float) → eq x x ≡ false → 0x7ff8_0000_0000_0000 ≡ to_bits binary64 x
 unfolding eq to_bits
 own_no nan h = refl

@@ -11,9 +11,9 @@ pub mod Neighbour
 pub mod Between
 pub mod Power
 pub mod Walk
+pub mod Every
 pub mod Rel
 pub mod Absolute
-pub mod Signed
 pub mod Order
 pub mod Extended
 pub mod Inside

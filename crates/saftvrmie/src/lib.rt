@@ -55,20 +55,14 @@ fn all_finite(n: usize, d: &[f64; SIDE]) -> bool
     requires { n ≤ side }
     ensures { result ≡ diameters_finite n d.now }
 {
-    let mut ok = true;
-    for i in 0usize..n {
-        ok = ok & number::is_finite(d[i]);
-    }
-    ok
+    d[..n].iter().all(|x| number::is_finite(*x))
 }
 
 fn write(n: usize, d: &[f64; SIDE], out: &mut [f64])
     requires { (n ≤ side) × (length out.old ≡ n) }
     ensures { out.new ≡ filled n (at d.now) out.old }
 {
-    for i in 0usize..n {
-        out[i] = d[i];
-    }
+    out.copy_from_slice(&d[..n]);
 }
 
 fn right_length(n: usize, len: usize) -> bool

@@ -1,17 +1,16 @@
 -- The table, test by test; copies into parts of a list. Assumes nothing.
-use Prim.Native.Nat.{ℕ, suc, ◌+◌, ◌*◌, ◌≤◌, ◌<◌}
+use Prim.Native.Nat.{ℕ, ◌+◌, ◌*◌, ◌≤◌}
 use Rattle.std.specs.Prelude.{Err, Ok, Result}
 use Rattle.number.specs.declared.refusal.Refusal.{Refusal}
 use native.Mathlib.Omega.{arith}
-use native.Mathlib.Numerals.{add-one}
 use mathlib.Core.Path.{◌≡◌, refl, sym, ap, ◌∙◌, subst}
 use mathlib.Core.Bool.{true, false, ◌&&◌}
 use mathlib.Core.List.{List, ◌++◌, append-nil, append_assoc}
 use lib.Ieee.{Float}
 use lib.Dec.{eqb}
 use borrow.Author.Tests.{eqb-true}
-use lib.ListN.{length, get_or, set, take, drop, length-drop, length-set, drop_of_length-le}
-use lib.Seq.{paste-suc, get_or-drop, take_at, drop_at, take-add, drop-drop, length-take-le, take_all}
+use lib.ListN.{length, take, drop, length-set, drop_of_length-le}
+use lib.Seq.{take_at, drop_at, take-add, drop-drop, length-take-le, take_all}
 use Rattle.mie_parameters.specs.Answer.{verdict, stored}
 use Rattle.number.specs.Answer.{code}
 use Rattle.number.specs.Ans.{Ans, held, refused, ◌>>=◌, demand}
@@ -28,25 +27,6 @@ use Rattle.saftvrqmie_potential.specs.Potential.{FloatPair, pair_in, pair_at_ent
 use Rattle.saftvrqmie_properties.specs.Properties.{PairPropertiesIn, pair_properties_in, pair_properties_answer, pair_properties}
 use Rattle.saftvrqmie_properties.specs.declared.PairProperties.{PairProperties}
 use Rattle.saftvrqmie.specs.Table.{Lent, store, work_turn, work_row, work_pairs, blank, table_finite, right_lists, temperature_table}
-
--- a loop that copies v from `from` on over d
-module _ {A : Type 0} (v d : List A) (from : ℕ) where
-  pub copy_none : d ≡ take 0 (drop from v) ++ drop 0 d
-  copy_none = refl
-
-  pub copy_next : (p : List A) (k : ℕ) (z : A) → from + k < length v → k < length d → p ≡ take k (drop from v) ++ drop k d
-      → set p k (get_or v (from + k) z) ≡ take (k + 1) (drop from v) ++ drop (k + 1) d
-  copy_next p k z a b h =
-      let e : k < length (drop from v) = rw length-drop (omega arith) in
-      let q : 0 + k ≡ k = omega arith in
-      let r : 0 + suc k ≡ suc k = omega arith in
-      rw (add-one, h, ← get_or-drop from v k z) ((rw q at (paste-suc d 0 (drop from v) k z (rw q b) e)) ∙ ap (λ (m : ℕ). take (suc k) (drop from v) ++ drop m d) r)
-
-  pub copy_end : (p : List A) (k n : ℕ) → k ≤ n → n ≤ k → length d ≡ n → p ≡ take k (drop from v) ++ drop k d → p ≡ take n (drop from v)
-  copy_end p k n a b e h =
-      let q : k ≡ n = omega arith in
-      let l : length d ≤ n = omega arith in
-      h ∙ rw (q, drop_of_length-le d l) (append-nil (take n (drop from v)))
 
 -- the parts of a list, replaced one after the other by those of v: so far up to a
 pub part_next : {A : Type 0} (v d l : List A) (a k : ℕ) → a + k ≤ length v → length v ≡ length d → l ≡ take a v ++ drop a d

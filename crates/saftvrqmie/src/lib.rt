@@ -92,11 +92,7 @@ fn work_pairs(
 pub fn all_finite(values: &[f64; TABLE]) -> bool
     ensures { result ≡ table_finite values.now }
 {
-    let mut ok = true;
-    for k in 0usize..TABLE {
-        ok = ok & number::is_finite(values[k]);
-    }
-    ok
+    values.iter().all(|x| number::is_finite(*x))
 }
 
 // A sheet of the values into its own part of the lent list.
@@ -104,18 +100,14 @@ fn write_sheet(part: &mut [f64], values: &[f64; TABLE], from: usize)
     requires { (length part.old ≡ sheet) × (from + sheet ≤ 4 * sheet) × (length values.now ≡ 4 * sheet) }
     ensures { part.new ≡ take sheet (drop from values.now) }
 {
-    for k in 0usize..SHEET {
-        part[k] = values[from + k];
-    }
+    part.copy_from_slice(&values[from..from + SHEET]);
 }
 
 fn write_counts(part: &mut [u8], numbers: &[u8; COUNTS], from: usize)
     requires { (length part.old ≡ sheet) × (from + sheet ≤ 3 * sheet) × (length numbers.now ≡ 3 * sheet) }
     ensures { part.new ≡ take sheet (drop from numbers.now) }
 {
-    for k in 0usize..SHEET {
-        part[k] = numbers[from + k];
-    }
+    part.copy_from_slice(&numbers[from..from + SHEET]);
 }
 
 // Each sheet through its own part of the lent list.

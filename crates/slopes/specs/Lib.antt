@@ -1,4 +1,3 @@
 pub mod Mixed
 pub mod Rules
 pub mod Staged
-pub mod Answer

@@ -8,7 +8,7 @@ ghost use Rattle.dual.specs.Dual.{plain_d, add_d, sub_d, mul_d, div_d};
 ghost use Rattle.dual.specs.Value.{dual_of};
 ghost use Rattle.slopes.specs.Rules.{real_power, exp_d, ln1p_d, ln_d};
 ghost use Rattle.slopes.specs.Staged.{slope_inside, slope_exponent_of, raised_of};
-ghost use Rattle.slopes.specs.Answer.{dual_answer};
+ghost use Rattle.number.specs.Answer.{answer_by};
 
 use binary_log::Log;
 use dual::Dual;
@@ -100,7 +100,7 @@ pub fn raise(log: Log, slope: f64, exponent: SlopeExponent) -> Dual
 
 // x.powf(e); no value where one of the two powers is outside its domain.
 pub fn powf(x: Dual, e: f64) -> Result<Dual, Refusal>
-    ensures { dual_answer result ≡ real_power port (dual_of x) e }
+    ensures { answer_by dual_of result ≡ real_power port (dual_of x) e }
 {
     if !binary_log::base_inside(x.re) {
         return Err(Refusal::Domain);
@@ -112,7 +112,7 @@ pub fn powf(x: Dual, e: f64) -> Result<Dual, Refusal>
 }
 
 pub fn exp(x: Dual) -> Result<Dual, Refusal>
-    ensures { dual_answer result ≡ exp_d port (dual_of x) }
+    ensures { answer_by dual_of result ≡ exp_d port (dual_of x) }
 {
     let v = elementary::exp(x.re)?;
     Ok(Dual {
@@ -122,7 +122,7 @@ pub fn exp(x: Dual) -> Result<Dual, Refusal>
 }
 
 pub fn ln_1p(x: Dual) -> Result<Dual, Refusal>
-    ensures { dual_answer result ≡ ln1p_d port (dual_of x) }
+    ensures { answer_by dual_of result ≡ ln1p_d port (dual_of x) }
 {
     let v = elementary::ln_1p(x.re)?;
     Ok(Dual {
@@ -132,7 +132,7 @@ pub fn ln_1p(x: Dual) -> Result<Dual, Refusal>
 }
 
 pub fn ln(x: Dual) -> Result<Dual, Refusal>
-    ensures { dual_answer result ≡ ln_d port (dual_of x) }
+    ensures { answer_by dual_of result ≡ ln_d port (dual_of x) }
 {
     let v = elementary::ln(x.re)?;
     Ok(Dual {

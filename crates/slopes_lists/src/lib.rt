@@ -36,11 +36,7 @@ fn all_finite(n: usize, l: &[f64]) -> bool
     requires { length l.now ≡ n }
     ensures { result ≡ all_finite n l.now }
 {
-    let mut ok = true;
-    for i in 0usize..n {
-        ok = ok & number::is_finite(l[i]);
-    }
-    ok
+    l[..n].iter().all(|x| number::is_finite(*x))
 }
 
 // 7: a supplied slope. The lists are as long as the count: an operation refuses others with 1 before it asks.

@@ -1,24 +1,11 @@
 -- `card_lists::ones` meets its contract. Assumes nothing.
-use Prim.Native.Nat.{ℕ, ◌<◌}
-use native.Mathlib.Omega.{arith}
-use mathlib.Core.Path.{◌≡◌, refl}
-use lib.ListN.{length, length-set, replicate}
-use Rattle.card_lists.specs.Lists.{column, orders, ones}
-use Rattle.sizes.specs.Sizes.{side}
-use Rattle.card_lists.proofs.Lists.{fill_none, fill_next}
-use Rattle.number.specs.Arith.{decimal, zero64}
-use mathlib.Core.Bool.{false}
+use Rattle.std.proofs.Common.{rules, false}
 use lib.Ieee.{of_bits}
-use borrow.Author.Rules.{rules}
+use Rattle.number.specs.Arith.{decimal}
+use Rattle.card_lists.specs.Lists.{ones}
+use Rattle.card_lists.proofs.Lists.{all_one}
 use Rattle.card_lists.proofs.ones.Goals as goal
 
-pub loop-i-init : goal.loop-i-init
-loop-i-init c = (search rules, search rules, fill_none (λ (i : ℕ). decimal false 1 0) (replicate side zero64))
-
-pub loop-i-preserved : goal.loop-i-preserved
-unfolding decimal of_bits
-loop-i-preserved c = let g : c.loop-i.i < length c.loop-i.list = omega arith in (search rules, simp length-set c.loop-i.invariant.1, fill_next (λ (i : ℕ). decimal false 1 0) c.loop-i.list c.loop-i.i _ g c.loop-i.invariant.2 refl)
-
 pub returns : goal.returns
-unfolding column orders ones
-returns c = let e : ◌≡◌ c.loop-i.i c.args.n = omega arith in rw e at c.loop-i.invariant.2
+unfolding ones decimal of_bits
+returns c = all_one (decimal false 1 0) _ _ c.args.n _ (search rules) (c.fill.ensures.after (λ y h. search rules))

@@ -4,11 +4,11 @@ use native.Mathlib.Omega.{arith}
 use lib.ListN.{length-set}
 use Rattle.desk_place.proofs.enter_bytes.Goals as goal
 
-pub slice_bounds-lay_bytes-end : goal.slice_bounds-lay_bytes-end
-slice_bounds-lay_bytes-end c = simp length-set (omega (arith, c.requires.0))
+pub slice_bounds-lay-end : goal.slice_bounds-lay-end
+slice_bounds-lay-end c = simp length-set (omega (arith, c.requires.0))
 
 pub shape_of-bytes : goal.shape_of-bytes
 shape_of-bytes c = omega (arith, four_length c.args.bytes.now c.args.count c.flag.result)
 
 pub returns : goal.returns
-returns c = bytes_are _ _ _ _ _ _ c.requires.0 c.requires.1 c.flag.ensures c.lay_bytes.ensures
+returns c = bytes_are _ _ _ _ _ _ c.requires.0 c.requires.1 c.flag.ensures c.lay.ensures

@@ -8,17 +8,8 @@ use Rattle.number.proofs.Power.{start, done, times, turn_more, turn_last}
 use Rattle.interval.proofs.any_power.Goals as goal
 use Rattle.interval.proofs.any_power.Goals.{Joined-left-eq1, then-left-eq1, else-left-eq1}
 
-pub point-acc-requires : goal.point-acc-requires
-point-acc-requires c = tt
-
 pub loop-left-init : goal.loop-left-init
 loop-left-init c = rw c.point-acc.ensures (start mul_i _ _ _ c.ranges.n.fits)
-
-pub product-acc-requires : goal.product-acc-requires
-product-acc-requires c = tt
-
-pub product-sq-requires : goal.product-sq-requires
-product-sq-requires c = tt
 
 acc_is : (c : Joined-left-eq1) → c.if-left-eq1.acc ≡ times mul_i c.loop-left.left c.loop-left.sq c.loop-left.acc
 unfolding mul_i

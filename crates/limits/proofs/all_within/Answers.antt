@@ -1,15 +1,12 @@
 -- `limits::all_within` meets its contract. Assumes nothing.
-use Rattle.limits.specs.Limits.{all_within}
-use Rattle.number.proofs.Walk.{every_none, every_next, every_end}
-use borrow.Author.Rules.{rules}
+use Rattle.std.proofs.Common.{rules, ◌∙◌, take, arith}
+use Rattle.std.proofs.lemmas.Iterator.{YieldsList-from_slice}
+use Rattle.std.proofs.lemmas.Iterator.Search.{all_from_yields_List}
+use Rattle.std.specs.Float.{nan}
+use Rattle.number.proofs.Every.{every_take}
+use Rattle.limits.specs.Limits.{in_limits, all_within}
 use Rattle.limits.proofs.all_within.Goals as goal
-
-pub loop-i-init : goal.loop-i-init
-loop-i-init c = (search rules, every_none _)
-
-pub loop-i-preserved : goal.loop-i-preserved
-loop-i-preserved c = (search rules, every_next _ _ _ _ c.loop-i.invariant.1 c.within-ok.ensures)
 
 pub returns : goal.returns
 unfolding all_within
-returns c = every_end _ _ _ _ c.loop-i.invariant.0 c.loop-i-test.false c.loop-i.invariant.1
+returns c = let test = in_limits c.args.low c.args.high in all_from_yields_List test _ _ _ c.all.ensures.ran (YieldsList-from_slice (take c.args.n c.args.l.now) c.iter.ensures.rest) (λ x b q k. search rules) ∙ every_take test nan c.args.l.now c.args.n (omega (arith, c.requires))

@@ -1,5 +1,5 @@
 -- `limits::row_within` meets its contract. Assumes nothing.
-use Rattle.number.proofs.Walk.{every_none, every_next, every_end}
+use Rattle.number.proofs.Walk.{every_none, every_next}
 use borrow.Author.Rules.{rules}
 use Rattle.limits.proofs.row_within.Goals as goal
 
@@ -8,6 +8,3 @@ loop-j-init c = (search rules, every_none _)
 
 pub loop-j-preserved : goal.loop-j-preserved
 loop-j-preserved c = (search rules, every_next _ _ _ _ c.loop-j.invariant.1 c.pair_within-ok.ensures)
-
-pub returns : goal.returns
-returns c = every_end _ _ _ _ c.loop-j.invariant.0 c.loop-j-test.false c.loop-j.invariant.1

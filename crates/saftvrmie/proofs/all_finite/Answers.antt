@@ -1,15 +1,13 @@
 -- `saftvrmie::all_finite` meets its contract. Assumes nothing.
+use Rattle.std.proofs.Common.{rules, ◌∙◌, take, arith}
+use Rattle.std.proofs.lemmas.Iterator.{YieldsList-from_slice}
+use Rattle.std.proofs.lemmas.Iterator.Search.{all_from_yields_List}
+use Rattle.std.specs.Float.{nan}
+use lib.Ieee.Scale.{finite}
+use Rattle.number.proofs.Every.{every_take}
 use Rattle.saftvrmie.specs.Diameters.{diameters_finite}
-use Rattle.number.proofs.Walk.{every_none, every_next, every_end}
-use borrow.Author.Rules.{rules}
 use Rattle.saftvrmie.proofs.all_finite.Goals as goal
-
-pub loop-i-init : goal.loop-i-init
-loop-i-init c = (search rules, every_none _)
-
-pub loop-i-preserved : goal.loop-i-preserved
-loop-i-preserved c = (search rules, every_next _ _ _ _ c.loop-i.invariant.1 c.is_finite-ok.ensures)
 
 pub returns : goal.returns
 unfolding diameters_finite
-returns c = every_end _ _ _ _ c.loop-i.invariant.0 c.loop-i-test.false c.loop-i.invariant.1
+returns c = all_from_yields_List finite _ _ _ c.all.ensures.ran (YieldsList-from_slice (take c.args.n c.args.d.now) c.iter.ensures.rest) (λ x b q k. search rules) ∙ every_take finite nan c.args.d.now c.args.n (search rules)

@@ -1,14 +1,8 @@
 -- `saftvrmie::write` meets its contract. Assumes nothing.
-use mathlib.Core.Path.{refl}
-use Rattle.number.proofs.Walk.{turns_none, turns_next, turns_end}
-use borrow.Author.Rules.{rules}
+use Rattle.std.proofs.Common.{rules, ◌∙◌}
+use Rattle.std.specs.Float.{nan}
+use Rattle.number.proofs.Every.{copied_all}
 use Rattle.saftvrmie.proofs.write.Goals as goal
 
-pub loop-i-init : goal.loop-i-init
-loop-i-init c = (search rules, search rules, turns_none _ _)
-
-pub loop-i-preserved : goal.loop-i-preserved
-loop-i-preserved c = (search rules, search rules, turns_next _ _ _ _ _ c.loop-i.invariant.2 refl)
-
 pub returns : goal.returns
-returns c = turns_end _ _ _ _ _ c.loop-i.invariant.0 c.loop-i-test.false c.loop-i.invariant.2
+returns c = c.copy_from_slice.ensures.after ∙ copied_all c.args.d.now c.args.out.now nan c.args.n (search rules) c.requires.1

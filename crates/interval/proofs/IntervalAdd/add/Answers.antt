@@ -1,7 +1,9 @@
 -- `interval::IntervalAdd::add` meets its contract. Assumes nothing.
-use Rattle.interval.proofs.Near.{sum_usual, above_tests, below_tests, goes_up, goes_down}
+use Rattle.interval.proofs.Near.{sum_usual, by_corners, above_tests, below_tests, goes_up, goes_down}
+use lib.Ieee.{binary64, add}
+use Rattle.std.proofs.Common.{rules}
 use mathlib.Core.Path.{sym, ◌∙◌}
-use mathlib.Core.Bool.{true}
+use mathlib.Core.Bool.{true, ◌&&◌}
 use Rattle.interval.specs.Interval.{add_i}
 use Rattle.interval.proofs.IntervalAdd.add.Goals as goal
 
@@ -21,4 +23,4 @@ returns-then-below c = c.falling.ensures ∙ (sum_usual _ _ _ _ _ c.if-self-y.tr
 
 pub returns : goal.returns
 unfolding add_i
-returns c = c.corners-q.ensures
+returns c = let e = c.corners-q.ensures in by_corners (add binary64) (c.args.self.sound && c.args.y.sound) c.args.self c.args.y _ e.0 e.1 e.2 e.3 (search rules) (search rules) (search rules) (search rules) e.8

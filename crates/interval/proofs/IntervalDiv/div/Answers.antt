@@ -1,8 +1,9 @@
 -- `interval::IntervalDiv::div` meets its contract. Assumes nothing.
-use Rattle.interval.proofs.Near.{by_chosen, one_sound, one_sign_told, outward_same, above_tests, below_tests, goes_up, goes_down}
+use Rattle.interval.proofs.Near.{by_chosen, one_sound, one_sign_told, outward_same, by_corners, above_tests, below_tests, goes_up, goes_down}
+use Rattle.std.proofs.Common.{rules}
 use mathlib.Core.Path.{sym, ◌∙◌}
 use mathlib.Core.Bool.{true, ◌&&◌}
-use lib.Ieee.{lt, of_bits}
+use lib.Ieee.{binary64, lt, div, of_bits}
 use Rattle.number.specs.Arith.{zero64}
 use Rattle.interval.specs.Interval.{one_sign, div_i}
 use Rattle.interval.proofs.IntervalDiv.div.Goals as goal
@@ -25,4 +26,4 @@ returns-then-below c = c.falling.ensures ∙ outward_same _ _ _ _ (one_sound (c.
 
 pub returns : goal.returns
 unfolding div_i one_sign of_bits
-returns c = c.corners-q.ensures
+returns c = let e = c.corners-q.ensures in by_corners (div binary64) (c.args.self.sound && c.args.y.sound && one_sign c.args.y) c.args.self c.args.y _ e.0 e.1 e.2 e.3 (search rules) (search rules) (search rules) (search rules) e.8

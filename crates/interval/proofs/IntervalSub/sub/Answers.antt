@@ -1,7 +1,9 @@
 -- `interval::IntervalSub::sub` meets its contract. Assumes nothing.
-use Rattle.interval.proofs.Near.{difference_usual, above_tests, below_tests, goes_up, goes_down}
+use Rattle.interval.proofs.Near.{difference_usual, by_corners, above_tests, below_tests, goes_up, goes_down}
+use lib.Ieee.{binary64, sub}
+use Rattle.std.proofs.Common.{rules}
 use mathlib.Core.Path.{sym, ◌∙◌}
-use mathlib.Core.Bool.{true}
+use mathlib.Core.Bool.{true, ◌&&◌}
 use Rattle.interval.specs.Interval.{sub_i}
 use Rattle.interval.proofs.IntervalSub.sub.Goals as goal
 
@@ -21,4 +23,4 @@ returns-then-below c = c.falling.ensures ∙ (difference_usual _ _ _ _ _ c.if-se
 
 pub returns : goal.returns
 unfolding sub_i
-returns c = c.corners-q.ensures
+returns c = let e = c.corners-q.ensures in by_corners (sub binary64) (c.args.self.sound && c.args.y.sound) c.args.self c.args.y _ e.0 e.1 e.2 e.3 (search rules) (search rules) (search rules) (search rules) e.8
