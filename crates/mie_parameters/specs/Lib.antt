@@ -3,3 +3,4 @@ pub mod Answer
 pub mod Places
 pub mod Sums
 pub mod Tables
+pub mod Sheets

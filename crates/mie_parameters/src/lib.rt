@@ -1,9 +1,9 @@
-// What both models share: constants, the tables of their dispersion; of their parameters the combining rules of a Mie pair, the answer, and lists in their places.
+// What both models share: constants, the tables of their dispersion; of their parameters the combining rules of a Mie pair, the answer, lists in their places, the six sheets, and the set beside the answer.
 #![tactic(auto)]
 
-ghost use Rattle.std.specs.Prelude.{◌≡◌, ◌≤◌, length};
+ghost use Rattle.std.specs.Prelude.{◌≡◌, ◌≤◌, length, get_or};
 ghost use Rattle.number.specs.Answer.{answer};
-ghost use Rattle.number.specs.Arith.{floats};
+ghost use Rattle.number.specs.Arith.{floats, zero64};
 ghost use Rattle.number.specs.Functions.{calls};
 ghost use Rattle.elementary.specs.Port.{port};
 ghost use Rattle.number.specs.Lists.{at};
@@ -11,6 +11,9 @@ ghost use Rattle.sizes.specs.Sizes.{side};
 ghost use Rattle.mie_parameters.specs.Combine.{epsilon_k_ij, lambda_ij, c_ij};
 ghost use Rattle.mie_parameters.specs.Answer.{number_of};
 ghost use Rattle.mie_parameters.specs.Places.{in_places};
+
+pub mod set;
+pub mod sheets;
 
 use number::Refusal;
 use sizes::SIDE;
@@ -44,6 +47,17 @@ pub const LAM_COEFF: [[f64; 4]; 4] = [
     [-1.9057, 22.845, -228.14, 973.92],
     [1.0885, -6.1962, 106.98, -677.64],
 ];
+
+// An entry of a table of decimals, 0 beyond it. The table is a static, which stands in memory once: a const would be built at every call.
+#[inline(always)]
+pub fn table_entry(t: &[f64], k: usize) -> f64
+    ensures { result ≡ get_or t.now k zero64 }
+{
+    if k < t.len() {
+        return t[k];
+    }
+    0.0
+}
 
 // An answer at the C boundary: 0, or the refusal's number.
 pub fn number(a: Result<(), Refusal>) -> u8

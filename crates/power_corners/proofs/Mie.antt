@@ -26,7 +26,8 @@ use Rattle.limits.specs.Limits.{square, same_bits, pair_within, pairs_within, co
 use Rattle.mie_parameters.specs.Combine.{lambda_ij, c_ij}
 use Rattle.mie_parameters.proofs.Laws.{and_left, and_right}
 use Rattle.saftvrmie_parameters.specs.Combine.{lr_ij}
-use Rattle.saftvrmie_parameters.specs.Parameters.{Lists, right_lengths, component_of, within_in, within_limits, pair_parameters, store_pair, sheets_turn, sheets_row, sheets_of, saft_vr_mie_pars}
+use Rattle.saftvrmie_parameters.specs.Parameters.{Lists, right_lengths, component_of, within_in, within_limits, pair_parameters, saft_vr_mie_pars}
+use Rattle.mie_parameters.specs.Sheets.{sheets_turn, sheets_row, sheets_of}
 use Rattle.saftvrmie_parameters.specs.declared.PairParameters.{PairParameters}
 use Rattle.saftvrmie_parameters.specs.declared.SaftVRMiePars.{SaftVRMiePars}
 use Rattle.saftvrmie_parameters.proofs.Laws.{lengths, sheets_in}
@@ -99,7 +100,7 @@ module _ (l : Lists) where
   value i j = pair_parameters (component_of l i) (component_of l j) (square l.count l.k_ij i j) (square l.count l.gamma_ij i j)
 
   stand : (y : List Float) → l.count ≤ side → sheets_in l ≡ held y → (i j : ℕ) → i < l.count → j < l.count → Stands value entry y i j
-  unfolding sheets_of sheets_row sheets_turn store_pair
+  unfolding sheets_of sheets_row sheets_turn
   stand y n h = (rows value entry l.count l.count (replicate (6 * sheet) zero64) y n n (length-replicate (6 * sheet) zero64) h).done
 
   -- what a held set is made of

@@ -16,7 +16,8 @@ use Rattle.elementary.specs.Port.{port}
 use Rattle.limits.specs.declared.Component.{Component}
 use Rattle.limits.specs.Limits.{square, all_one}
 use Rattle.mie_parameters.specs.Combine.{lambda_ij, c_ij}
-use Rattle.saftvrqmie_parameters.specs.Parameters.{Lists, right_lengths, component_of, within_in, order_walk, pair_parameters, store_pair, sheets_turn, sheets_row, sheets_of, saft_vrq_mie_pars}
+use Rattle.saftvrqmie_parameters.specs.Parameters.{Lists, right_lengths, component_of, within_in, order_walk, pair_parameters, saft_vrq_mie_pars}
+use Rattle.mie_parameters.specs.Sheets.{sheets_turn, sheets_row, sheets_of}
 use Rattle.saftvrqmie_parameters.specs.declared.PairParameters.{PairParameters}
 use Rattle.saftvrqmie_parameters.specs.declared.SaftVRQMiePars.{SaftVRQMiePars}
 use Rattle.saftvrqmie_parameters.proofs.Laws.{lengths, sheets_in}
@@ -60,7 +61,7 @@ module _ (l : Lists) where
   value i j = pair_parameters (component_of l i) (component_of l j) (at l.mass i) (at l.mass j) (square l.count l.k_ij i j) (square l.count l.l_ij i j)
 
   stand : (y : List Float) → l.count ≤ side → sheets_in l ≡ held y → (i j : ℕ) → i < l.count → j < l.count → Stands value entry y i j
-  unfolding sheets_of sheets_row sheets_turn store_pair
+  unfolding sheets_of sheets_row sheets_turn
   stand y n h = (rows value entry l.count l.count (replicate (6 * sheet) zero64) y n n (length-replicate (6 * sheet) zero64) h).done
 
   -- what a held set is made of

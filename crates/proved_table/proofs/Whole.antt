@@ -18,6 +18,7 @@ use Rattle.power.proofs.Corners as PowerCorners
 use Rattle.interval.proofs.Example.{sum_of_one_and_zero}
 use Rattle.limits.specs.Limits.{in_limits, count_within, component_within, components_within, all_within, masses_within, same_bits, pair_within, pairs_within, all_one}
 use Rattle.mie_parameters.specs.Combine.{epsilon_k_ij, lambda_ij, c_ij}
+use Rattle.mie_parameters.specs.Sheets.{sheets_of, sheets_row, sheets_turn}
 use Rattle.saftvrqmie_parameters.specs.Combine.{sigma_ij}
 use Rattle.number.specs.Functions.{answered, answered₂}
 use Rattle.number.specs.Domain.{base_inside, exponent_inside}
@@ -57,7 +58,7 @@ unfolding Quantum.order_walk Quantum.order_row walk Quantum.pair_orders demand �
 orders_1_2_walk = refl
 
 accepted_0_1 : Accepted (Quantum.saft_vrq_mie_pars (alike (0 ∷ 1 ∷ [])))
-unfolding Quantum.saft_vrq_mie_pars Quantum.right_lengths count_within Quantum.within_limits components_within component_within in_limits masses_within all_within pairs_within pair_within same_bits all_one every turns Quantum.order_walk Quantum.order_row walk Quantum.pair_orders Quantum.sheets_of Quantum.sheets_row Quantum.sheets_turn Quantum.pair_parameters epsilon_k_ij lambda_ij c_ij sigma_ij answered answered₂ root positive_root whole_root powf_of base_inside exponent_inside demand ◌>>=◌ decimal digits pow_digits pow_up Ieee.round Ieee.of_bits Ieee.le Ieee.lt Ieee.eq Ieee.is_nan Ieee.to_bits Ieee.neg Ieee.add Ieee.sub Ieee.mul Ieee.div Ieee.size
+unfolding Quantum.saft_vrq_mie_pars Quantum.right_lengths count_within Quantum.within_limits components_within component_within in_limits masses_within all_within pairs_within pair_within same_bits all_one every turns Quantum.order_walk Quantum.order_row walk Quantum.pair_orders sheets_of sheets_row sheets_turn Quantum.pair_parameters epsilon_k_ij lambda_ij c_ij sigma_ij answered answered₂ root positive_root whole_root powf_of base_inside exponent_inside demand ◌>>=◌ decimal digits pow_digits pow_up Ieee.round Ieee.of_bits Ieee.le Ieee.lt Ieee.eq Ieee.is_nan Ieee.to_bits Ieee.neg Ieee.add Ieee.sub Ieee.mul Ieee.div Ieee.size
 accepted_0_1 = record { result = _; is = refl }
 
 within_2 : (a b : ℕ) → Within (alike (a ∷ b ∷ []))

@@ -1,7 +1,5 @@
 -- Laws over plain values, cited at the returns. Assumes nothing.
 use Prim.Native.Nat.{ℕ, ◌*◌, ◌≤◌}
-use Rattle.std.specs.Prelude.{Err, Ok, Result}
-use Rattle.number.specs.declared.refusal.Refusal.{Refusal}
 use mathlib.Core.Path.{◌≡◌}
 use mathlib.Core.Bool.{true, false, ◌&&◌}
 use lib.Dec.{eqb}
@@ -9,28 +7,14 @@ use lib.ListN.{length}
 use lib.Ieee.{Float}
 use mathlib.Core.List.{List}
 use borrow.Author.Tests.{eqb-true}
-use Rattle.number.specs.Answer.{answer, code}
 use Rattle.number.specs.Ans.{Ans, held, refused, ◌>>=◌, demand}
 use Rattle.number.specs.Arith.{floats}
 use Rattle.number.specs.Lists.{at}
-use Rattle.sizes.specs.Sizes.{side, cell}
-use Rattle.number.proofs.Walk.{via}
-use Rattle.limits.specs.declared.Component.{Component}
+use Rattle.sizes.specs.Sizes.{side}
 use Rattle.limits.specs.Limits.{square, count_within}
-use Rattle.saftvrmie_parameters.specs.declared.PairParameters.{PairParameters}
 use Rattle.mie_parameters.specs.Places.{in_places}
 use Rattle.mie_parameters.proofs.Laws.{and_left, and_right, count_low, count_high}
-use Rattle.saftvrmie_parameters.specs.Parameters.{Lists, Fitting, pair_parameters, store_pair, sheets_turn, sheets_of, right_lengths, within_in, component_of, saft_vr_mie_pars}
-
--- a turn of the sheets, over plain values
-module _ (n : ℕ) (c : ℕ → Component) (k l : ℕ → ℕ → Float) (i j : ℕ) (x : List Float) (a b : Component) (r : Result PairParameters Refusal) where
-  pub pair_held : (y : List Float) (p : PairParameters) → a ≡ c i → b ≡ c j → answer r ≡ pair_parameters a b (k i j) (l i j) → r ≡ Ok p → y ≡ store_pair x (cell i j) p → sheets_turn n c k l i j x ≡ held y
-  unfolding sheets_turn ◌>>=◌
-  pair_held y p d e q h g = rw (← d, ← e, via answer q h, g)
-
-  pub pair_outside : (m : Refusal) → a ≡ c i → b ≡ c j → answer r ≡ pair_parameters a b (k i j) (l i j) → r ≡ Err m → sheets_turn n c k l i j x ≡ refused (code m)
-  unfolding sheets_turn ◌>>=◌
-  pair_outside m d e q h = rw (← d, ← e, via answer q h)
+use Rattle.saftvrmie_parameters.specs.Parameters.{Lists, Fitting, sheets_of, right_lengths, within_in, component_of, saft_vr_mie_pars}
 
 -- what right lengths say
 pub record Right (l : Lists) : Type 0 where

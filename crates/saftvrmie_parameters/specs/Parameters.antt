@@ -1,17 +1,19 @@
 -- The parameters of SAFT-VR Mie: their tests in document 01's order, and the set.
-use Rattle.std.specs.Prelude.{◌≡◌, ◌≤◌, ℕ, ◌+◌, ◌*◌, eqb, Float, length, set, replicate, List, Bool, ◌&&◌}
+use Rattle.std.specs.Prelude.{◌≡◌, ◌≤◌, ℕ, ◌+◌, ◌*◌, eqb, Float, length, replicate, List, [], ◌∷◌, Bool, ◌&&◌}
 use Rattle.number.specs.Arith.{floats, zero64}
-use Rattle.number.specs.Ans.{Ans, held, refused, ◌>>=◌, demand}
+use Rattle.number.specs.Ans.{Ans, held, ◌>>=◌, demand}
 use Rattle.number.specs.Functions.{calls}
 use Rattle.number.specs.Lists.{at}
 use Rattle.sizes.specs.Sizes.{side, sheet, cell}
-use Rattle.number.specs.Walk.{walk}
 use Rattle.elementary.specs.Port.{port}
 use Rattle.mie_parameters.specs.Combine.{epsilon_k_ij, lambda_ij, c_ij}
 use Rattle.limits.specs.declared.Component.{Component}
 use Rattle.limits.specs.Limits.{square, components, count_within, components_within, segments_within, pairs_within}
 use Rattle.saftvrmie_parameters.specs.Combine.{sigma_ij, alpha_ij, lr_ij}
 use Rattle.mie_parameters.specs.Places.{in_places}
+use Rattle.mie_parameters.specs.Answer.{stored}
+use Rattle.mie_parameters.specs.Sheets as Sheets
+use Rattle.mie_parameters.specs.Sheets.{store_row}
 use Rattle.saftvrmie_parameters.specs.declared.ComponentLists.{ComponentLists}
 use Rattle.saftvrmie_parameters.specs.declared.PairParameters.{PairParameters}
 use Rattle.saftvrmie_parameters.specs.declared.SaftVRMiePars.{SaftVRMiePars}
@@ -83,10 +85,13 @@ pair_parameters a b k gamma =
     c_ij floats (calls floats port) lr la >>= λ c.
     held (record { sigma = sigma; epsilon_k = epsilon_k; lr = lr; la = la; c = c; alpha = alpha_ij floats c lr la })
 
--- the six sheets at one entry, in the order of the Rust's fields
-unfoldable pub store_pair : List Float → ℕ → PairParameters → List Float
-store_pair s e p =
-    set (set (set (set (set (set s e p.sigma) (1 * sheet + e) p.epsilon_k) (2 * sheet + e) p.lr) (3 * sheet + e) p.la) (4 * sheet + e) p.c) (5 * sheet + e) p.alpha
+-- in the order of the sheets, which is that of the Rust's fields
+abbrev pub row_of : PairParameters → List Float
+row_of p = p.sigma ∷ p.epsilon_k ∷ p.lr ∷ p.la ∷ p.c ∷ p.alpha ∷ []
+
+-- the six sheets at one entry
+abbrev pub store_pair : List Float → ℕ → PairParameters → List Float
+store_pair s e p = store_row s e (row_of p)
 
 -- the sheets at (i, j)
 abbrev pub pair_at : List Float → ℕ → ℕ → PairParameters
@@ -101,19 +106,15 @@ pair_at s i j =
     }
 
 module _ (n : ℕ) (c : ℕ → Component) (k gamma : ℕ → ℕ → Float) where
-  -- pair (i, j) into its entry; pairs row by row
-  unfoldable pub sheets_turn : ℕ → ℕ → List Float → Ans (List Float)
-  sheets_turn i j s = pair_parameters (c i) (c j) (k i j) (gamma i j) >>= λ p. held (store_pair s (cell i j) p)
-
-  unfoldable pub sheets_row : ℕ → List Float → Ans (List Float)
-  sheets_row i s = walk n (sheets_turn i) s
+  abbrev pub pair_of : ℕ → ℕ → Ans PairParameters
+  pair_of i j = pair_parameters (c i) (c j) (k i j) (gamma i j)
 
   -- +0 where unused
-  unfoldable pub sheets_of : Ans (List Float)
-  sheets_of = walk n sheets_row (replicate (6 * sheet) zero64)
+  abbrev pub sheets_of : Ans (List Float)
+  sheets_of = Sheets.sheets_of row_of n pair_of
 
-abbrev pub sheets_row_in : Lists → ℕ → List Float → Ans (List Float)
-sheets_row_in l = sheets_row l.count (component_of l) (square l.count l.k_ij) (square l.count l.gamma_ij)
+abbrev pub pair_in : Lists → ℕ → ℕ → Ans PairParameters
+pair_in l = pair_of l.count (component_of l) (square l.count l.k_ij) (square l.count l.gamma_ij)
 
 -- ---- the operation: the first that applies is given
 unfoldable pub saft_vr_mie_pars : Lists → Ans SaftVRMiePars
@@ -140,5 +141,4 @@ empty_set = record { count = 0; m = zero_list; sigma = zero_list; epsilon_k = ze
 
 -- the set beside an answer
 abbrev pub set_of : Ans SaftVRMiePars → SaftVRMiePars
-set_of (held s) = s
-set_of (refused n) = empty_set
+set_of = stored empty_set

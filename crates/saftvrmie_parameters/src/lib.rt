@@ -7,16 +7,17 @@ ghost use Rattle.number.specs.Functions.{calls};
 ghost use Rattle.elementary.specs.Port.{port};
 ghost use Rattle.number.specs.Arith.{floats};
 ghost use Rattle.number.specs.Lists.{at};
-ghost use Rattle.sizes.specs.Sizes.{side, sheet};
-ghost use Rattle.number.specs.Walk.{walk};
+ghost use Rattle.sizes.specs.Sizes.{side};
 ghost use Rattle.limits.specs.Limits.{square, components};
 ghost use Rattle.saftvrmie_parameters.specs.Combine.{sigma_ij, alpha_ij, lr_ij};
-ghost use Rattle.saftvrmie_parameters.specs.Parameters.{empty_set, set_of, lists_of, Fitting, right_lengths, within_in, pair_parameters, store_pair, sheets_row_in, saft_vr_mie_pars};
+ghost use Rattle.saftvrmie_parameters.specs.Parameters.{empty_set, set_of, lists_of, Fitting, right_lengths, within_in, pair_parameters, pair_in, row_of, saft_vr_mie_pars};
 ghost use Rattle.mie_parameters.specs.Answer.{outcome};
 
 use limits::Component;
+use mie_parameters::set::Parameters;
+use mie_parameters::sheets::PairLists;
+use mie_parameters::{set, sheets};
 use number::Refusal;
-use sizes::mie_set::{ALPHA_IJ, C_IJ, EPSILON_K_IJ, LA_IJ, LR_IJ};
 use sizes::{SHEETS, SIDE};
 
 // Document 01's Forms ask for a struct by value with the count and the flat array: no list of its own length.
@@ -31,12 +32,7 @@ pub struct SaftVRMiePars {
     pub sheets: [f64; SHEETS],
 }
 
-// Whether a set is held, or the refusal; beside a refusal the empty set.
-#[derive(Clone, Copy)]
-pub struct ParameterSet {
-    pub answer: Result<(), Refusal>,
-    pub set: SaftVRMiePars,
-}
+pub type ParameterSet = mie_parameters::set::ParameterSet<SaftVRMiePars>;
 
 // The lists that a caller hands.
 #[derive(Clone, Copy)]
@@ -61,31 +57,25 @@ pub struct PairParameters {
     pub alpha: f64,
 }
 
-// The set beside a refusal: count 0, all +0.
-fn empty_set() -> SaftVRMiePars
-    ensures { result ≡ empty_set }
-{
-    let blank = [0.0; SIDE];
-    SaftVRMiePars {
-        count: 0,
-        m: blank,
-        sigma: blank,
-        epsilon_k: blank,
-        lr: blank,
-        la: blank,
-        sheets: [0.0; SHEETS],
+impl Parameters for SaftVRMiePars {
+    ghost empty_set = { empty_set };
+
+    // Count 0, all +0.
+    fn empty() -> SaftVRMiePars {
+        let blank = [0.0; SIDE];
+        SaftVRMiePars {
+            count: 0,
+            m: blank,
+            sigma: blank,
+            epsilon_k: blank,
+            lr: blank,
+            la: blank,
+            sheets: [0.0; SHEETS],
+        }
     }
 }
 
-pub fn refused_with(refusal: Refusal) -> ParameterSet
-    ensures { (result.answer ≡ Err refusal) × (result.set ≡ empty_set) }
-{
-    ParameterSet {
-        answer: Err(refusal),
-        set: empty_set(),
-    }
-}
-
+// No l_ij: the quantum model alone has it.
 fn sigma_ij(si: f64, sj: f64) -> f64
     ensures { result ≡ sigma_ij floats si sj }
 {
@@ -105,6 +95,7 @@ fn lr_ij(li: f64, lj: f64, gamma: f64) -> Result<f64, Refusal>
     Ok((1.0 - gamma) * r + 3.0)
 }
 
+// gamma_ij and alpha are of this model alone, mass of the quantum one.
 fn pair_parameters(
     a: Component,
     b: Component,
@@ -136,41 +127,36 @@ fn pair_parameters(
     })
 }
 
-fn store_pair(s: &mut [f64; SHEETS], e: usize, p: PairParameters)
-    requires { e < sheet }
-    ensures { s.new ≡ store_pair s.old e p }
-{
-    s[e] = p.sigma;
-    s[EPSILON_K_IJ + e] = p.epsilon_k;
-    s[LR_IJ + e] = p.lr;
-    s[LA_IJ + e] = p.la;
-    s[C_IJ + e] = p.c;
-    s[ALPHA_IJ + e] = p.alpha;
-}
+impl<'a> PairLists for ComponentLists<'a> {
+    type Pair = PairParameters;
 
-// Row i of the six sheets.
-fn sheets_row(l: &ComponentLists, i: usize, s: &mut [f64; SHEETS]) -> Result<(), Refusal>
-    requires { (i < l.now.count) × Fitting (lists_of l.now) }
-    ensures { outcome result s.new ≡ sheets_row_in (lists_of l.now) i s.old }
-{
-    let n = l.count;
-    let a = limits::component_at(l.sigma, l.epsilon_k, l.lr, l.la, i);
-    for j in 0usize..n {
-        let b = limits::component_at(l.sigma, l.epsilon_k, l.lr, l.la, j);
-        let p = pair_parameters(a, b, l.k_ij[n * i + j], l.gamma_ij[n * i + j])?;
-        store_pair(s, SIDE * i + j, p);
-    }
-    Ok(())
-}
+    ghost size = { λ l. l.count };
 
-fn fill_sheets(l: &ComponentLists, s: &mut [f64; SHEETS]) -> Result<(), Refusal>
-    requires { Fitting (lists_of l.now) }
-    ensures { outcome result s.new ≡ walk l.now.count (sheets_row_in (lists_of l.now)) s.old }
-{
-    for i in 0usize..l.count {
-        sheets_row(l, i, s)?;
+    ghost fits = { λ l. Fitting (lists_of l) };
+
+    ghost pair_at = { λ l. pair_in (lists_of l) };
+
+    ghost row_of = { row_of };
+
+    fn count(&self) -> usize {
+        self.count
     }
-    Ok(())
+
+    // Inlined with the row: a call a pair would hand the six numbers through memory.
+    #[inline(always)]
+    fn pair(&self, i: usize, j: usize) -> Result<PairParameters, Refusal> {
+        let a = limits::component_at(self.sigma, self.epsilon_k, self.lr, self.la, i);
+        let b = limits::component_at(self.sigma, self.epsilon_k, self.lr, self.la, j);
+        let e = self.count * i + j;
+        pair_parameters(a, b, self.k_ij[e], self.gamma_ij[e])
+    }
+
+    #[inline(always)]
+    fn row(p: PairParameters) -> [f64; 6]
+        ensures { result ≡ row_of p }
+    {
+        [p.sigma, p.epsilon_k, p.lr, p.la, p.c, p.alpha]
+    }
 }
 
 fn right_lengths(l: &ComponentLists) -> bool
@@ -189,7 +175,7 @@ fn right_lengths(l: &ComponentLists) -> bool
         & (l.gamma_ij.len() == square)
 }
 
-// The numbers' limits.
+// The numbers' limits; the quantum model limits masses where this one limits m.
 fn within_limits(l: &ComponentLists) -> bool
     requires { (length l.now.m.now ≡ l.now.count) × Fitting (lists_of l.now) }
     ensures { result ≡ within_in (lists_of l.now) }
@@ -211,7 +197,7 @@ pub fn saft_vr_mie_pars(l: &ComponentLists) -> Result<SaftVRMiePars, Refusal>
         return Err(Refusal::Limit);
     }
     let mut sheets = [0.0; SHEETS];
-    fill_sheets(l, &mut sheets)?;
+    sheets::fill_sheets(l, &mut sheets)?;
     let m = mie_parameters::in_places(l.count, l.m);
     let sigma = mie_parameters::in_places(l.count, l.sigma);
     let epsilon_k = mie_parameters::in_places(l.count, l.epsilon_k);
@@ -228,16 +214,10 @@ pub fn saft_vr_mie_pars(l: &ComponentLists) -> Result<SaftVRMiePars, Refusal>
     })
 }
 
-// The same with the set beside the answer, as document 01 has it: of a refused call the empty set.
+// The same with the set beside the answer: of a refused call the empty set.
 pub fn parameters(l: &ComponentLists) -> ParameterSet
     ensures answer { outcome result.answer result.set ≡ saft_vr_mie_pars (lists_of l.now) }
     ensures set { result.set ≡ set_of (saft_vr_mie_pars (lists_of l.now)) }
 {
-    match saft_vr_mie_pars(l) {
-        Ok(set) => ParameterSet {
-            answer: Ok(()),
-            set,
-        },
-        Err(refusal) => refused_with(refusal),
-    }
+    set::beside_answer(saft_vr_mie_pars(l))
 }

@@ -1,7 +1,5 @@
 -- Laws over plain values, cited at the returns. Assumes nothing.
 use Prim.Native.Nat.{ℕ, ◌*◌, ◌≤◌, ◌<◌, max}
-use Rattle.std.specs.Prelude.{Err, Ok, Result}
-use Rattle.number.specs.declared.refusal.Refusal.{Refusal}
 use native.Mathlib.Nat.{mul-le-mul}
 use native.Mathlib.Omega.{arith}
 use mathlib.Core.Path.{◌≡◌}
@@ -11,19 +9,15 @@ use lib.ListN.{length}
 use lib.Ieee.{Float}
 use mathlib.Core.List.{List}
 use borrow.Author.Tests.{lt-leb, le-leb, eq-eqb, ne_eqb, eqb-true}
-use Rattle.number.specs.Answer.{answer, code}
 use Rattle.number.specs.Ans.{Ans, held, refused, ◌>>=◌, demand}
 use Rattle.number.specs.Arith.{floats}
 use Rattle.number.specs.Lists.{at}
-use Rattle.sizes.specs.Sizes.{side, cell}
-use Rattle.number.proofs.Walk.{via}
-use Rattle.limits.specs.declared.Component.{Component}
+use Rattle.sizes.specs.Sizes.{side}
 use Rattle.limits.specs.Limits.{square, count_within, all_one}
 use Rattle.saftvrqmie_parameters.specs.declared.OrderRecord.{OrderRecord}
-use Rattle.saftvrqmie_parameters.specs.declared.PairParameters.{PairParameters}
 use Rattle.mie_parameters.specs.Places.{in_places}
 use Rattle.mie_parameters.proofs.Laws.{and_left, and_right, count_low, count_high}
-use Rattle.saftvrqmie_parameters.specs.Parameters.{Lists, Fitting, pair_orders, pair_parameters, store_pair, sheets_turn, sheets_of, right_lengths, within_in, component_of, order_walk, orders_of, saft_vrq_mie_pars}
+use Rattle.saftvrqmie_parameters.specs.Parameters.{Lists, Fitting, pair_orders, sheets_of, right_lengths, within_in, component_of, order_walk, orders_of, saft_vrq_mie_pars}
 
 module _ (a b : ℕ) where
   pub above : 2 < max a b → refused 4 ≡ pair_orders a b
@@ -40,16 +34,6 @@ module _ (a b : ℕ) where
 
   pub product_small : a ≤ 2 → b ≤ 2 → a * b ≤ 4
   product_small p q = mul-le-mul p q
-
--- a turn of the sheets, over plain values
-module _ (n : ℕ) (c : ℕ → Component) (mass : ℕ → Float) (k l : ℕ → ℕ → Float) (i j : ℕ) (x : List Float) (a b : Component) (r : Result PairParameters Refusal) where
-  pub pair_held : (y : List Float) (p : PairParameters) → a ≡ c i → b ≡ c j → answer r ≡ pair_parameters a b (mass i) (mass j) (k i j) (l i j) → r ≡ Ok p → y ≡ store_pair x (cell i j) p → sheets_turn n c mass k l i j x ≡ held y
-  unfolding sheets_turn ◌>>=◌
-  pair_held y p d e q h g = rw (← d, ← e, via answer q h, g)
-
-  pub pair_outside : (e : Refusal) → a ≡ c i → b ≡ c j → answer r ≡ pair_parameters a b (mass i) (mass j) (k i j) (l i j) → r ≡ Err e → sheets_turn n c mass k l i j x ≡ refused (code e)
-  unfolding sheets_turn ◌>>=◌
-  pair_outside m d e q h = rw (← d, ← e, via answer q h)
 
 -- what right lengths say
 pub record Right (l : Lists) : Type 0 where

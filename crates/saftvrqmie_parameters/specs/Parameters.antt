@@ -1,7 +1,7 @@
 -- The quantum parameters: their tests in document 01's order, and the set.
-use Rattle.std.specs.Prelude.{◌≡◌, ◌≤◌, ℕ, ◌+◌, ◌*◌, max, eqb, leb, Float, get_or, length, set, replicate, List, Bool, true, not, ◌&&◌, cond}
+use Rattle.std.specs.Prelude.{◌≡◌, ◌≤◌, ℕ, ◌*◌, max, eqb, leb, Float, get_or, length, set, replicate, List, [], ◌∷◌, Bool, true, not, ◌&&◌, cond}
 use Rattle.number.specs.Arith.{floats, zero64}
-use Rattle.number.specs.Ans.{Ans, held, refused, ◌>>=◌, demand}
+use Rattle.number.specs.Ans.{Ans, held, ◌>>=◌, demand}
 use Rattle.number.specs.Functions.{calls}
 use Rattle.number.specs.Lists.{at}
 use Rattle.sizes.specs.Sizes.{side, sheet, cell}
@@ -16,6 +16,9 @@ use Rattle.saftvrqmie_parameters.specs.declared.FeynmanHibbsOrder.{FeynmanHibbsO
 use Rattle.saftvrqmie_parameters.specs.declared.FeynmanHibbsOrder.TheVariants.{FH0, FH1, FH2}
 use Rattle.saftvrqmie_parameters.specs.declared.OrderRecord.{OrderRecord}
 use Rattle.mie_parameters.specs.Places.{in_places}
+use Rattle.mie_parameters.specs.Answer.{stored}
+use Rattle.mie_parameters.specs.Sheets as Sheets
+use Rattle.mie_parameters.specs.Sheets.{store_row}
 use Rattle.saftvrqmie_parameters.specs.declared.PairParameters.{PairParameters}
 use Rattle.saftvrqmie_parameters.specs.declared.SaftVRQMiePars.{SaftVRQMiePars}
 
@@ -107,25 +110,24 @@ pair_parameters a b ma mb k l =
     c_ij floats (calls floats port) lr la >>= λ c.
     held (record { sigma = sigma; epsilon_k = epsilon_k; c = c; lr = lr; la = la; mass = mass_ij floats ma mb })
 
--- the six sheets at one entry, in the order of the Rust's fields
-unfoldable pub store_pair : List Float → ℕ → PairParameters → List Float
-store_pair s e p =
-    set (set (set (set (set (set s e p.sigma) (1 * sheet + e) p.epsilon_k) (2 * sheet + e) p.c) (3 * sheet + e) p.lr) (4 * sheet + e) p.la) (5 * sheet + e) p.mass
+-- in the order of the sheets, which is that of the Rust's fields
+abbrev pub row_of : PairParameters → List Float
+row_of p = p.sigma ∷ p.epsilon_k ∷ p.c ∷ p.lr ∷ p.la ∷ p.mass ∷ []
+
+-- the six sheets at one entry
+abbrev pub store_pair : List Float → ℕ → PairParameters → List Float
+store_pair s e p = store_row s e (row_of p)
 
 module _ (n : ℕ) (c : ℕ → Component) (mass : ℕ → Float) (k l : ℕ → ℕ → Float) where
-  -- pair (i, j) into its entry; pairs row by row
-  unfoldable pub sheets_turn : ℕ → ℕ → List Float → Ans (List Float)
-  sheets_turn i j s = pair_parameters (c i) (c j) (mass i) (mass j) (k i j) (l i j) >>= λ p. held (store_pair s (cell i j) p)
-
-  unfoldable pub sheets_row : ℕ → List Float → Ans (List Float)
-  sheets_row i s = walk n (sheets_turn i) s
+  abbrev pub pair_of : ℕ → ℕ → Ans PairParameters
+  pair_of i j = pair_parameters (c i) (c j) (mass i) (mass j) (k i j) (l i j)
 
   -- +0 where unused
-  unfoldable pub sheets_of : Ans (List Float)
-  sheets_of = walk n sheets_row (replicate (6 * sheet) zero64)
+  abbrev pub sheets_of : Ans (List Float)
+  sheets_of = Sheets.sheets_of row_of n pair_of
 
-abbrev pub sheets_row_in : Lists → ℕ → List Float → Ans (List Float)
-sheets_row_in l = sheets_row l.count (component_of l) (at l.mass) (square l.count l.k_ij) (square l.count l.l_ij)
+abbrev pub pair_in : Lists → ℕ → ℕ → Ans PairParameters
+pair_in l = pair_of l.count (component_of l) (at l.mass) (square l.count l.k_ij) (square l.count l.l_ij)
 
 -- `FeynmanHibbsOrder::try_from`; where it is used the number is at most 2
 abbrev pub order_of : ℕ → FeynmanHibbsOrder
@@ -161,5 +163,4 @@ empty_set = record { count = 0; m = replicate side zero64; sheets = replicate (6
 
 -- the set beside an answer
 abbrev pub set_of : Ans SaftVRQMiePars → SaftVRQMiePars
-set_of (held s) = s
-set_of (refused n) = empty_set
+set_of = stored empty_set

@@ -5,16 +5,17 @@ ghost use Rattle.std.specs.Prelude.{Err, ◌≡◌, true, ◌*◌, ◌<◌, ◌�
 ghost use Rattle.number.specs.Answer.{answer};
 ghost use Rattle.number.specs.Arith.{floats};
 ghost use Rattle.number.specs.Lists.{at};
-ghost use Rattle.sizes.specs.Sizes.{side, sheet};
-ghost use Rattle.number.specs.Walk.{walk};
+ghost use Rattle.sizes.specs.Sizes.{side};
 ghost use Rattle.limits.specs.Limits.{square, components};
 ghost use Rattle.saftvrqmie_parameters.specs.Combine.{sigma_ij, mass_ij};
-ghost use Rattle.saftvrqmie_parameters.specs.Parameters.{empty_set, set_of, lists_of, Fitting, right_lengths, within_in, sheets_row_in, record_m, pair_orders, order_row, order_walk, pair_parameters, store_pair, order_of, orders_row, orders_of, saft_vrq_mie_pars};
+ghost use Rattle.saftvrqmie_parameters.specs.Parameters.{empty_set, set_of, lists_of, Fitting, right_lengths, within_in, record_m, pair_orders, order_row, order_walk, pair_parameters, pair_in, row_of, order_of, orders_row, orders_of, saft_vrq_mie_pars};
 ghost use Rattle.mie_parameters.specs.Answer.{outcome};
 
 use limits::Component;
+use mie_parameters::set::Parameters;
+use mie_parameters::sheets::PairLists;
+use mie_parameters::{set, sheets};
 use number::Refusal;
-use sizes::quantum_set::{C_IJ, EPSILON_K_IJ, LAMBDA_A_IJ, LAMBDA_R_IJ, MASS_IJ};
 use sizes::{SHEET, SHEETS, SIDE};
 
 #[derive(Clone, Copy)]
@@ -38,12 +39,7 @@ pub struct SaftVRQMiePars {
     pub orders: [OrderRecord; SHEET],
 }
 
-// Whether a set is held, or the refusal; beside a refusal the empty set.
-#[derive(Clone, Copy)]
-pub struct ParameterSet {
-    pub answer: Result<(), Refusal>,
-    pub set: SaftVRQMiePars,
-}
+pub type ParameterSet = mie_parameters::set::ParameterSet<SaftVRQMiePars>;
 
 // The lists that a caller hands; fh are the orders' bytes.
 #[derive(Clone, Copy)]
@@ -70,26 +66,19 @@ pub struct PairParameters {
     pub mass: f64,
 }
 
-// The set beside a refusal: count 0, all +0, FH0.
-fn empty_set() -> SaftVRQMiePars
-    ensures { result ≡ empty_set }
-{
-    SaftVRQMiePars {
-        count: 0,
-        m: [0.0; SIDE],
-        sheets: [0.0; SHEETS],
-        orders: [OrderRecord {
-            order: FeynmanHibbsOrder::FH0,
-        }; SHEET],
-    }
-}
+impl Parameters for SaftVRQMiePars {
+    ghost empty_set = { empty_set };
 
-pub fn refused_with(refusal: Refusal) -> ParameterSet
-    ensures { (result.answer ≡ Err refusal) × (result.set ≡ empty_set) }
-{
-    ParameterSet {
-        answer: Err(refusal),
-        set: empty_set(),
+    // Count 0, all +0, FH0.
+    fn empty() -> SaftVRQMiePars {
+        SaftVRQMiePars {
+            count: 0,
+            m: [0.0; SIDE],
+            sheets: [0.0; SHEETS],
+            orders: [OrderRecord {
+                order: FeynmanHibbsOrder::FH0,
+            }; SHEET],
+        }
     }
 }
 
@@ -173,42 +162,36 @@ fn pair_parameters(
     })
 }
 
-fn store_pair(s: &mut [f64; SHEETS], e: usize, p: PairParameters)
-    requires { e < sheet }
-    ensures { s.new ≡ store_pair s.old e p }
-{
-    s[e] = p.sigma;
-    s[EPSILON_K_IJ + e] = p.epsilon_k;
-    s[C_IJ + e] = p.c;
-    s[LAMBDA_R_IJ + e] = p.lr;
-    s[LAMBDA_A_IJ + e] = p.la;
-    s[MASS_IJ + e] = p.mass;
-}
+impl<'a> PairLists for ComponentLists<'a> {
+    type Pair = PairParameters;
 
-// Row i of the six sheets.
-fn sheets_row(l: &ComponentLists, i: usize, s: &mut [f64; SHEETS]) -> Result<(), Refusal>
-    requires { (i < l.now.count) × Fitting (lists_of l.now) }
-    ensures { outcome result s.new ≡ sheets_row_in (lists_of l.now) i s.old }
-{
-    let n = l.count;
-    let a = limits::component_at(l.sigma, l.epsilon_k, l.lr, l.la, i);
-    for j in 0usize..n {
-        let b = limits::component_at(l.sigma, l.epsilon_k, l.lr, l.la, j);
-        let k = l.k_ij[n * i + j];
-        let p = pair_parameters(a, b, l.mass[i], l.mass[j], k, l.l_ij[n * i + j])?;
-        store_pair(s, SIDE * i + j, p);
-    }
-    Ok(())
-}
+    ghost size = { λ l. l.count };
 
-fn fill_sheets(l: &ComponentLists, s: &mut [f64; SHEETS]) -> Result<(), Refusal>
-    requires { Fitting (lists_of l.now) }
-    ensures { outcome result s.new ≡ walk l.now.count (sheets_row_in (lists_of l.now)) s.old }
-{
-    for i in 0usize..l.count {
-        sheets_row(l, i, s)?;
+    ghost fits = { λ l. Fitting (lists_of l) };
+
+    ghost pair_at = { λ l. pair_in (lists_of l) };
+
+    ghost row_of = { row_of };
+
+    fn count(&self) -> usize {
+        self.count
     }
-    Ok(())
+
+    // Inlined with the row: a call a pair would hand the six numbers through memory.
+    #[inline(always)]
+    fn pair(&self, i: usize, j: usize) -> Result<PairParameters, Refusal> {
+        let a = limits::component_at(self.sigma, self.epsilon_k, self.lr, self.la, i);
+        let b = limits::component_at(self.sigma, self.epsilon_k, self.lr, self.la, j);
+        let e = self.count * i + j;
+        pair_parameters(a, b, self.mass[i], self.mass[j], self.k_ij[e], self.l_ij[e])
+    }
+
+    #[inline(always)]
+    fn row(p: PairParameters) -> [f64; 6]
+        ensures { result ≡ row_of p }
+    {
+        [p.sigma, p.epsilon_k, p.c, p.lr, p.la, p.mass]
+    }
 }
 
 // The order of a byte that is at most 2.
@@ -305,7 +288,7 @@ pub fn saft_vrq_mie_pars(l: &ComponentLists) -> Result<SaftVRQMiePars, Refusal>
     }
     order_walk(l.count, l.fh)?;
     let mut sheets = [0.0; SHEETS];
-    fill_sheets(l, &mut sheets)?;
+    sheets::fill_sheets(l, &mut sheets)?;
     let m = mie_parameters::in_places(l.count, l.m);
     let orders = orders_of(l.count, l.fh);
     Ok(SaftVRQMiePars {
@@ -316,16 +299,10 @@ pub fn saft_vrq_mie_pars(l: &ComponentLists) -> Result<SaftVRQMiePars, Refusal>
     })
 }
 
-// The same with the set beside the answer, as document 01 has it: of a refused call the empty set.
+// The same with the set beside the answer: of a refused call the empty set.
 pub fn parameters(l: &ComponentLists) -> ParameterSet
     ensures answer { outcome result.answer result.set ≡ saft_vrq_mie_pars (lists_of l.now) }
     ensures set { result.set ≡ set_of (saft_vrq_mie_pars (lists_of l.now)) }
 {
-    match saft_vrq_mie_pars(l) {
-        Ok(set) => ParameterSet {
-            answer: Ok(()),
-            set,
-        },
-        Err(refusal) => refused_with(refusal),
-    }
+    set::beside_answer(saft_vrq_mie_pars(l))
 }

@@ -1,5 +1,5 @@
 -- `saftvrmie_parameters::saft_vr_mie_pars` meets its contract. Assumes nothing.
-use Rattle.saftvrmie_parameters.specs.Parameters.{sheets_of}
+use Rattle.mie_parameters.specs.Sheets.{sheets_of}
 use Rattle.saftvrmie_parameters.proofs.Laws.{lengths, fitting, refuses_1, refuses_2, refuses_6, holds}
 use Rattle.mie_parameters.proofs.Laws.{held_at, refused_at}
 use Rattle.number.proofs.Walk.{told, handed_on}
@@ -15,7 +15,7 @@ pub returns-then-not-within_limits : goal.returns-then-not-within_limits
 returns-then-not-within_limits c = rw (refuses_2 _ (told c.right_lengths.ensures c.if-not-right_lengths.false) (told c.within_limits.ensures c.if-not-within_limits.true))
 
 pub fill_sheets-requires : goal.fill_sheets-requires
-fill_sheets-requires c = fitting _ (told c.right_lengths.ensures c.if-not-right_lengths.false)
+fill_sheets-requires c = let p = told c.right_lengths.ensures c.if-not-right_lengths.false in ((lengths _ p).high, fitting _ p)
 
 pub returns-in_err-fill_sheets : goal.returns-in_err-fill_sheets
 unfolding sheets_of

@@ -1,6 +1,6 @@
 -- `saftvrqmie_parameters::saft_vrq_mie_pars` meets its contract. Assumes nothing.
 use Rattle.std.proofs.Common.{sym}
-use Rattle.saftvrqmie_parameters.specs.Parameters.{sheets_of}
+use Rattle.mie_parameters.specs.Sheets.{sheets_of}
 use Rattle.saftvrqmie_parameters.proofs.Laws.{lengths, fitting, refuses_1, refuses_2, refuses_3, refuses_4_5, refuses_6, holds}
 use Rattle.mie_parameters.proofs.Laws.{held_at, refused_at}
 use Rattle.number.proofs.Walk.{told, handed_on}
@@ -28,7 +28,7 @@ pub returns-in_err-order_walk : goal.returns-in_err-order_walk
 returns-in_err-order_walk c = rw (handed_on _ c.from_residual.ensures, refuses_4_5 _ _ (told c.right_lengths.ensures c.if-not-right_lengths.false) (told c.within_limits.ensures c.if-not-within_limits.false) (told c.all_one.ensures c.if-not-all_one.false) (refused_at _ _ _ _ c.order_walk.ensures c.in_err-order_walk.was))
 
 pub fill_sheets-requires : goal.fill_sheets-requires
-fill_sheets-requires c = fitting _ (told c.right_lengths.ensures c.if-not-right_lengths.false)
+fill_sheets-requires c = let p = told c.right_lengths.ensures c.if-not-right_lengths.false in ((lengths _ p).high, fitting _ p)
 
 pub returns-in_err-fill_sheets : goal.returns-in_err-fill_sheets
 unfolding sheets_of
