@@ -10,6 +10,9 @@ ghost use Rattle.saftvrmie_diameter.specs.Answer.{halley_answer};
 ghost use Rattle.saftvrmie_diameter.specs.Diameter.{positions, weights, c_eps_t, halley_step, halley, lower_limit, diameter_from, hs_diameter};
 ghost use Rattle.saftvrmie_diameter.specs.Staged.{exponents_inside, exponents_of, inverse_at, beta_u_at, logs_of, betas_of, node_at};
 
+pub mod rule;
+
+use crate::rule::Rule;
 use binary_log::Log;
 use dual_num::DualNum;
 use number::Refusal;
@@ -38,43 +41,6 @@ pub const GLQ10: [[f64; 2]; 10] = [
     [-0.9739065285171717, 0.0666713443086881],
     [0.9739065285171717, 0.0666713443086881],
 ];
-
-// An entry, 0 beyond the table. Read at literal places, since at a place worked at run time the table would be rebuilt at every call.
-pub fn position(k: usize) -> f64
-    ensures { result ≡ entry (calls floats port) positions k }
-{
-    match k {
-        0 => GLQ10[0][0],
-        1 => GLQ10[1][0],
-        2 => GLQ10[2][0],
-        3 => GLQ10[3][0],
-        4 => GLQ10[4][0],
-        5 => GLQ10[5][0],
-        6 => GLQ10[6][0],
-        7 => GLQ10[7][0],
-        8 => GLQ10[8][0],
-        9 => GLQ10[9][0],
-        _ => 0.0,
-    }
-}
-
-pub fn weight(k: usize) -> f64
-    ensures { result ≡ entry (calls floats port) weights k }
-{
-    match k {
-        0 => GLQ10[0][1],
-        1 => GLQ10[1][1],
-        2 => GLQ10[2][1],
-        3 => GLQ10[3][1],
-        4 => GLQ10[4][1],
-        5 => GLQ10[5][1],
-        6 => GLQ10[6][1],
-        7 => GLQ10[7][1],
-        8 => GLQ10[8][1],
-        9 => GLQ10[9][1],
-        _ => 0.0,
-    }
-}
 
 // inverse_temperature * c_ij * epsilon_k_ij
 pub fn c_eps_t<D: DualNum>(temperature: D, c: D::Plain, epsilon_k: D::Plain) -> D
@@ -158,7 +124,7 @@ fn inverse_at(r0: f64, k: usize) -> f64
     ensures { result ≡ inverse_at r0 k }
 {
     let width = (-r0 + 1.0) * 0.5;
-    1.0 / (width * position(k) + width + r0) * 1.0
+    1.0 / (width * f64::position(k) + width + r0) * 1.0
 }
 
 // `beta_u_mie`, from the logarithm of the inverse radius.
@@ -168,7 +134,7 @@ fn beta_u_mie(e: Exponents, c_eps_t: f64, log: Log) -> f64
     (power::raise(log, e.lr) - power::raise(log, e.la)) * c_eps_t
 }
 
-// The logarithms of the nodes' inverse radii. The nodes' work goes stage by stage, each stage for all ten: so it goes side by side.
+// The logarithms of the nodes' inverse radii. The nodes' work goes stage by stage, each stage for all ten: so it goes side by side. Node by node, as saftvrmie_diameter_ends has it, the diameter takes 29 % longer; over both runs' numbers the stages' lists would be a generic function's own, which it cannot have.
 fn logs_of(r0: f64) -> [Log; 10]
     ensures { result ≡ logs_of r0 }
 {
@@ -202,7 +168,7 @@ fn node(r0: f64, k: usize, ri: f64, u: f64, d: f64) -> Result<f64, Refusal>
         return Err(Refusal::Domain);
     }
     let e = elementary::exp_m1(-u)?;
-    Ok(d + (-r0 + 1.0) * 0.5 * (-e) * weight(k))
+    Ok(d + (-r0 + 1.0) * 0.5 * (-e) * f64::weight(k))
 }
 
 // A pair's diameter from its reduced lower limit.

@@ -11,10 +11,9 @@ ghost use Rattle.enclosure.specs.Enclosure.{enclosures, point};
 ghost use Rattle.saftvrmie_diameter.specs.Diameter.{c_eps_t, beta_u_mie, node_turn, diameter_from};
 ghost use Rattle.saftvrmie_diameter_ends.specs.Operations.{diameter_ends};
 
-mod rule;
-
 use enclosure::{Enclosure, Ends};
 use number::Refusal;
+use saftvrmie_diameter::rule::Rule;
 use saftvrmie_parameters::SaftVRMiePars;
 use sizes::{SHEET, SHEETS, SIDE};
 
@@ -33,7 +32,7 @@ fn beta_u_mie(
     Ok((plr - pla) * c_eps_t)
 }
 
-// One node's part, added.
+// One node's part, added: the stages of the float run are for its speed alone.
 fn node(
     la: Enclosure,
     lr: Enclosure,
@@ -48,8 +47,8 @@ fn node(
     let one = Enclosure::point(1.0);
     let half = Enclosure::point(0.5);
     let width = (-r0 + one) * half;
-    let x = rule::position(k);
-    let w = rule::weight(k);
+    let x = Enclosure::position(k);
+    let w = Enclosure::weight(k);
     let r = width * x + width + r0;
     let u = beta_u_mie(la, lr, c_eps_t, r)?;
     let e = elementary_ends::exp_m1(-u)?;

@@ -7,9 +7,10 @@ ghost use Rattle.saftvrqmie_searches.specs.Diameter.{abscissas, weights};
 
 use enclosure::Enclosure;
 use interval::Interval;
+use mie_parameters::table_entry;
 
 // The greatest f64 not above each decimal, and the least not below it.
-const X_K21_BELOW: [f64; 21] = [
+static X_K21_BELOW: [f64; 21] = [
     -0.9956571630258081,
     -0.9739065285171717,
     -0.9301574913557082,
@@ -33,7 +34,7 @@ const X_K21_BELOW: [f64; 21] = [
     0.995657163025808,
 ];
 
-const X_K21_ABOVE: [f64; 21] = [
+static X_K21_ABOVE: [f64; 21] = [
     -0.995657163025808,
     -0.9739065285171716,
     -0.9301574913557081,
@@ -57,7 +58,7 @@ const X_K21_ABOVE: [f64; 21] = [
     0.9956571630258081,
 ];
 
-const W_K21_BELOW: [f64; 21] = [
+static W_K21_BELOW: [f64; 21] = [
     0.011694638867371874,
     0.032558162307964725,
     0.054755896574351995,
@@ -81,7 +82,7 @@ const W_K21_BELOW: [f64; 21] = [
     0.011694638867371874,
 ];
 
-const W_K21_ABOVE: [f64; 21] = [
+static W_K21_ABOVE: [f64; 21] = [
     0.011694638867371876,
     0.03255816230796473,
     0.054755896574352,
@@ -105,123 +106,6 @@ const W_K21_ABOVE: [f64; 21] = [
     0.011694638867371876,
 ];
 
-// Their entries, 0 beyond the nodes. A match, since a table read at a variable place would be rebuilt at every node.
-fn abscissa_below(k: usize) -> f64
-    ensures { result ≡ (entry (calls enclosures port) abscissas k).ends.lower }
-{
-    match k {
-        0 => X_K21_BELOW[0],
-        1 => X_K21_BELOW[1],
-        2 => X_K21_BELOW[2],
-        3 => X_K21_BELOW[3],
-        4 => X_K21_BELOW[4],
-        5 => X_K21_BELOW[5],
-        6 => X_K21_BELOW[6],
-        7 => X_K21_BELOW[7],
-        8 => X_K21_BELOW[8],
-        9 => X_K21_BELOW[9],
-        10 => X_K21_BELOW[10],
-        11 => X_K21_BELOW[11],
-        12 => X_K21_BELOW[12],
-        13 => X_K21_BELOW[13],
-        14 => X_K21_BELOW[14],
-        15 => X_K21_BELOW[15],
-        16 => X_K21_BELOW[16],
-        17 => X_K21_BELOW[17],
-        18 => X_K21_BELOW[18],
-        19 => X_K21_BELOW[19],
-        20 => X_K21_BELOW[20],
-        _ => 0.0,
-    }
-}
-
-fn abscissa_above(k: usize) -> f64
-    ensures { result ≡ (entry (calls enclosures port) abscissas k).ends.upper }
-{
-    match k {
-        0 => X_K21_ABOVE[0],
-        1 => X_K21_ABOVE[1],
-        2 => X_K21_ABOVE[2],
-        3 => X_K21_ABOVE[3],
-        4 => X_K21_ABOVE[4],
-        5 => X_K21_ABOVE[5],
-        6 => X_K21_ABOVE[6],
-        7 => X_K21_ABOVE[7],
-        8 => X_K21_ABOVE[8],
-        9 => X_K21_ABOVE[9],
-        10 => X_K21_ABOVE[10],
-        11 => X_K21_ABOVE[11],
-        12 => X_K21_ABOVE[12],
-        13 => X_K21_ABOVE[13],
-        14 => X_K21_ABOVE[14],
-        15 => X_K21_ABOVE[15],
-        16 => X_K21_ABOVE[16],
-        17 => X_K21_ABOVE[17],
-        18 => X_K21_ABOVE[18],
-        19 => X_K21_ABOVE[19],
-        20 => X_K21_ABOVE[20],
-        _ => 0.0,
-    }
-}
-
-fn weight_below(k: usize) -> f64
-    ensures { result ≡ (entry (calls enclosures port) weights k).ends.lower }
-{
-    match k {
-        0 => W_K21_BELOW[0],
-        1 => W_K21_BELOW[1],
-        2 => W_K21_BELOW[2],
-        3 => W_K21_BELOW[3],
-        4 => W_K21_BELOW[4],
-        5 => W_K21_BELOW[5],
-        6 => W_K21_BELOW[6],
-        7 => W_K21_BELOW[7],
-        8 => W_K21_BELOW[8],
-        9 => W_K21_BELOW[9],
-        10 => W_K21_BELOW[10],
-        11 => W_K21_BELOW[11],
-        12 => W_K21_BELOW[12],
-        13 => W_K21_BELOW[13],
-        14 => W_K21_BELOW[14],
-        15 => W_K21_BELOW[15],
-        16 => W_K21_BELOW[16],
-        17 => W_K21_BELOW[17],
-        18 => W_K21_BELOW[18],
-        19 => W_K21_BELOW[19],
-        20 => W_K21_BELOW[20],
-        _ => 0.0,
-    }
-}
-
-fn weight_above(k: usize) -> f64
-    ensures { result ≡ (entry (calls enclosures port) weights k).ends.upper }
-{
-    match k {
-        0 => W_K21_ABOVE[0],
-        1 => W_K21_ABOVE[1],
-        2 => W_K21_ABOVE[2],
-        3 => W_K21_ABOVE[3],
-        4 => W_K21_ABOVE[4],
-        5 => W_K21_ABOVE[5],
-        6 => W_K21_ABOVE[6],
-        7 => W_K21_ABOVE[7],
-        8 => W_K21_ABOVE[8],
-        9 => W_K21_ABOVE[9],
-        10 => W_K21_ABOVE[10],
-        11 => W_K21_ABOVE[11],
-        12 => W_K21_ABOVE[12],
-        13 => W_K21_ABOVE[13],
-        14 => W_K21_ABOVE[14],
-        15 => W_K21_ABOVE[15],
-        16 => W_K21_ABOVE[16],
-        17 => W_K21_ABOVE[17],
-        18 => W_K21_ABOVE[18],
-        19 => W_K21_ABOVE[19],
-        20 => W_K21_ABOVE[20],
-        _ => 0.0,
-    }
-}
-
 // Entries of the rule; k is the turn of a loop over its 21 nodes, and beyond them there is no entry.
 pub fn abscissa(k: usize) -> Enclosure
     requires { k < 21 }
@@ -230,8 +114,8 @@ pub fn abscissa(k: usize) -> Enclosure
     Enclosure {
         value: saftvrqmie_searches::abscissa(k),
         ends: Interval {
-            lower: abscissa_below(k),
-            upper: abscissa_above(k),
+            lower: table_entry(&X_K21_BELOW, k),
+            upper: table_entry(&X_K21_ABOVE, k),
             sound: true,
         },
     }
@@ -244,8 +128,8 @@ pub fn weight(k: usize) -> Enclosure
     Enclosure {
         value: saftvrqmie_searches::weight(k),
         ends: Interval {
-            lower: weight_below(k),
-            upper: weight_above(k),
+            lower: table_entry(&W_K21_BELOW, k),
+            upper: table_entry(&W_K21_ABOVE, k),
             sound: true,
         },
     }

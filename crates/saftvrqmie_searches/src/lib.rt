@@ -16,6 +16,7 @@ ghost use Rattle.saftvrqmie_searches.specs.Diameter.{abscissas, weights, node_tu
 
 use dual::Dual;
 use dual_num::DualNum;
+use mie_parameters::table_entry;
 use number::{Arithmetic, Refusal};
 use saftvrqmie_potential::{FloatPair, QMiePotential, Shared};
 
@@ -80,63 +81,22 @@ pub enum Search<D> {
 
 pub type FloatSearch = Search<f64>;
 
-// The tables' entries; beyond the nodes 0. A match, since a table read at a variable place would be rebuilt at every node.
+// Read at a place worked at run time: a static stands in memory once.
+static ABSCISSAS: [f64; 21] = X_K21;
+
+static WEIGHTS: [f64; 21] = W_K21;
+
+// The tables' entries; beyond the nodes 0.
 pub fn abscissa(k: usize) -> f64
     ensures { result ≡ entry (calls floats port) abscissas k }
 {
-    match k {
-        0 => X_K21[0],
-        1 => X_K21[1],
-        2 => X_K21[2],
-        3 => X_K21[3],
-        4 => X_K21[4],
-        5 => X_K21[5],
-        6 => X_K21[6],
-        7 => X_K21[7],
-        8 => X_K21[8],
-        9 => X_K21[9],
-        10 => X_K21[10],
-        11 => X_K21[11],
-        12 => X_K21[12],
-        13 => X_K21[13],
-        14 => X_K21[14],
-        15 => X_K21[15],
-        16 => X_K21[16],
-        17 => X_K21[17],
-        18 => X_K21[18],
-        19 => X_K21[19],
-        20 => X_K21[20],
-        _ => 0.0,
-    }
+    table_entry(&ABSCISSAS, k)
 }
 
 pub fn weight(k: usize) -> f64
     ensures { result ≡ entry (calls floats port) weights k }
 {
-    match k {
-        0 => W_K21[0],
-        1 => W_K21[1],
-        2 => W_K21[2],
-        3 => W_K21[3],
-        4 => W_K21[4],
-        5 => W_K21[5],
-        6 => W_K21[6],
-        7 => W_K21[7],
-        8 => W_K21[8],
-        9 => W_K21[9],
-        10 => W_K21[10],
-        11 => W_K21[11],
-        12 => W_K21[12],
-        13 => W_K21[13],
-        14 => W_K21[14],
-        15 => W_K21[15],
-        16 => W_K21[16],
-        17 => W_K21[17],
-        18 => W_K21[18],
-        19 => W_K21[19],
-        20 => W_K21[20],
-        _ => 0.0,
-    }
+    table_entry(&WEIGHTS, k)
 }
 
 // Numbers of a run without ends: a node of the rule is one float, and work that nothing uses does not count.

@@ -1,5 +1,5 @@
 -- `saftvrmie_diameter::node` meets its contract. Assumes nothing.
-use Rattle.std.proofs.Common.{rules}
+use Rattle.std.proofs.Common.{rules, true}
 use lib.Ieee.{of_bits}
 use Rattle.number.specs.Arith.{decimal}
 use Rattle.saftvrmie_diameter.specs.Staged.{node_at}
@@ -18,4 +18,4 @@ returns-in_err-e c = search rules
 
 pub returns : goal.returns
 unfolding node_at demand ◌>>=◌ decimal of_bits
-returns c = rw (told c.base_inside.ensures c.if-not-base_inside.false, via answer c.exp_m1.ensures c.in_ok-e.was, c.weight.ensures)
+returns c = rw (told c.base_inside.ensures c.if-not-base_inside.false, via answer c.exp_m1.ensures c.in_ok-e.was, (c.weight.ensures true))

@@ -1,97 +1,11 @@
--- `saftvrqmie_searches::abscissa` meets its contract: each arm is the list's entry, the default arm that beyond it. Assumes nothing.
+-- `saftvrqmie_searches::abscissa` meets its contract. Assumes nothing.
 use lib.Ieee.{of_bits, neg}
-use Rattle.number.specs.Arith.{decimal, floats}
-use Rattle.fixed_point.proofs.Arms.{above}
-use Rattle.number.specs.Functions.{entry, calls}
-use Rattle.elementary.specs.Port.{port}
+use Rattle.number.specs.Arith.{decimal}
+use Rattle.number.specs.Functions.{entry}
+use Rattle.mie_parameters.proofs.Laws.{table_at}
 use Rattle.saftvrqmie_searches.specs.Diameter.{abscissas}
-use Rattle.number.proofs.Entries.{entry_at, entry_beyond}
 use Rattle.saftvrqmie_searches.proofs.abscissa.Goals as goal
 
-pub returns-in-0 : goal.returns-in-0
+pub returns : goal.returns
 unfolding entry decimal of_bits neg
-returns-in-0 c = entry_at (calls floats port) abscissas _ 0 c.in-0.is
-
-pub returns-in-1 : goal.returns-in-1
-unfolding entry decimal of_bits neg
-returns-in-1 c = entry_at (calls floats port) abscissas _ 1 c.in-1.is
-
-pub returns-in-2 : goal.returns-in-2
-unfolding entry decimal of_bits neg
-returns-in-2 c = entry_at (calls floats port) abscissas _ 2 c.in-2.is
-
-pub returns-in-3 : goal.returns-in-3
-unfolding entry decimal of_bits neg
-returns-in-3 c = entry_at (calls floats port) abscissas _ 3 c.in-3.is
-
-pub returns-in-4 : goal.returns-in-4
-unfolding entry decimal of_bits neg
-returns-in-4 c = entry_at (calls floats port) abscissas _ 4 c.in-4.is
-
-pub returns-in-5 : goal.returns-in-5
-unfolding entry decimal of_bits neg
-returns-in-5 c = entry_at (calls floats port) abscissas _ 5 c.in-5.is
-
-pub returns-in-6 : goal.returns-in-6
-unfolding entry decimal of_bits neg
-returns-in-6 c = entry_at (calls floats port) abscissas _ 6 c.in-6.is
-
-pub returns-in-7 : goal.returns-in-7
-unfolding entry decimal of_bits neg
-returns-in-7 c = entry_at (calls floats port) abscissas _ 7 c.in-7.is
-
-pub returns-in-8 : goal.returns-in-8
-unfolding entry decimal of_bits neg
-returns-in-8 c = entry_at (calls floats port) abscissas _ 8 c.in-8.is
-
-pub returns-in-9 : goal.returns-in-9
-unfolding entry decimal of_bits neg
-returns-in-9 c = entry_at (calls floats port) abscissas _ 9 c.in-9.is
-
-pub returns-in-10 : goal.returns-in-10
-unfolding entry decimal of_bits neg
-returns-in-10 c = entry_at (calls floats port) abscissas _ 10 c.in-10.is
-
-pub returns-in-11 : goal.returns-in-11
-unfolding entry decimal of_bits neg
-returns-in-11 c = entry_at (calls floats port) abscissas _ 11 c.in-11.is
-
-pub returns-in-12 : goal.returns-in-12
-unfolding entry decimal of_bits neg
-returns-in-12 c = entry_at (calls floats port) abscissas _ 12 c.in-12.is
-
-pub returns-in-13 : goal.returns-in-13
-unfolding entry decimal of_bits neg
-returns-in-13 c = entry_at (calls floats port) abscissas _ 13 c.in-13.is
-
-pub returns-in-14 : goal.returns-in-14
-unfolding entry decimal of_bits neg
-returns-in-14 c = entry_at (calls floats port) abscissas _ 14 c.in-14.is
-
-pub returns-in-15 : goal.returns-in-15
-unfolding entry decimal of_bits neg
-returns-in-15 c = entry_at (calls floats port) abscissas _ 15 c.in-15.is
-
-pub returns-in-16 : goal.returns-in-16
-unfolding entry decimal of_bits neg
-returns-in-16 c = entry_at (calls floats port) abscissas _ 16 c.in-16.is
-
-pub returns-in-17 : goal.returns-in-17
-unfolding entry decimal of_bits neg
-returns-in-17 c = entry_at (calls floats port) abscissas _ 17 c.in-17.is
-
-pub returns-in-18 : goal.returns-in-18
-unfolding entry decimal of_bits neg
-returns-in-18 c = entry_at (calls floats port) abscissas _ 18 c.in-18.is
-
-pub returns-in-19 : goal.returns-in-19
-unfolding entry decimal of_bits neg
-returns-in-19 c = entry_at (calls floats port) abscissas _ 19 c.in-19.is
-
-pub returns-in-20 : goal.returns-in-20
-unfolding entry decimal of_bits neg
-returns-in-20 c = entry_at (calls floats port) abscissas _ 20 c.in-20.is
-
-pub returns-in_default : goal.returns-in_default
-unfolding entry decimal of_bits neg
-returns-in_default c = entry_beyond (calls floats port) abscissas _ (above _ 21 c.in_default.in_default-own.rest)
+returns c = rw c.table_entry.ensures (table_at (λ e. decimal e.minus e.digits e.places) abscissas c.args.k)

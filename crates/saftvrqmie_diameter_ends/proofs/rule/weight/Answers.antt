@@ -1,13 +1,16 @@
 -- `saftvrqmie_diameter_ends::rule::weight` meets its contract. Assumes nothing.
 use lib.Dec.{T}
 use lib.Ieee.{of_bits, to_bits, fits, neg}
-use Rattle.number.specs.Arith.{decimal}
+use Rattle.std.proofs.Common.{◌∙◌}
+use Rattle.number.specs.Arith.{decimal, node}
 use Rattle.number.specs.Neighbour.{step_up, step_down, next_up, next_down}
+use Rattle.number.specs.Functions.{entry}
 use Rattle.elementary.specs.Port.{port}
 use Rattle.interval.specs.Interval as Interval
 use Rattle.enclosure.specs.Constants as Constants
 use Rattle.enclosure.specs.Enclosure.{constant_e}
 use Rattle.enclosure.proofs.Entries.{sounds, entry_made}
+use Rattle.mie_parameters.proofs.Laws.{table_at}
 use Rattle.saftvrqmie_searches.specs.Diameter.{weights}
 use Rattle.saftvrqmie_diameter_ends.proofs.rule.weight.Goals as goal
 
@@ -16,4 +19,8 @@ unfolding constant_e Constants.below Constants.above Interval.point next_up next
 all_sound = tt
 
 pub returns : goal.returns
-returns c = entry_made port weights all_sound _ _ _ _ c.weight.ensures c.weight_below.ensures c.weight_above.ensures
+unfolding entry constant_e Constants.below Constants.above Interval.point next_up next_down step_up step_down to_bits decimal of_bits fits neg
+returns c =
+    entry_made port weights all_sound c.args.k _ _ _ c.weight.ensures
+    (c.table_entry.ensures ∙ table_at (λ e. Constants.below (node e.minus e.digits e.places)) weights c.args.k)
+    (c.table_entry-2.ensures ∙ table_at (λ e. Constants.above (node e.minus e.digits e.places)) weights c.args.k)
