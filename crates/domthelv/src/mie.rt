@@ -7,6 +7,7 @@ ghost use Rattle.domthelv.specs.Operations.{vr_parameters, vr_diameters, vr_radi
 ghost use Rattle.stages.specs.Stages.{mie_stage};
 ghost use Rattle.saftvrmie_parameters.specs.Parameters as Mie;
 
+use saftvrmie_energies::Set;
 use saftvrmie_parameters::ComponentLists;
 use sizes::SIDE;
 
@@ -162,14 +163,17 @@ pub fn domthelv_vr_dispersion(
     let lr = set_lists::places(lists, 3 * SIDE);
     let la = set_lists::places(lists, 4 * SIDE);
     let flat = set_lists::flat(sheets);
-    let worked = saftvrmie_energies::dispersion_of(
+    let set = Set {
         count,
-        &m,
-        &sigma,
-        &epsilon_k,
-        &lr,
-        &la,
-        &flat,
+        m: &m,
+        sigma: &sigma,
+        epsilon_k: &epsilon_k,
+        lr: &lr,
+        la: &la,
+        sheets: &flat,
+    };
+    let worked = saftvrmie_energies::dispersion_of(
+        &set,
         temperature,
         fractions,
         densities,

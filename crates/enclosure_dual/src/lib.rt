@@ -93,6 +93,7 @@ impl Add for EnclosureDual {
 
     ghost add_gives = { λ x y r. dual_of r ≡ add_d enclosures (dual_of x) (dual_of y) };
 
+    #[inline(always)]
     fn add(self, y: EnclosureDual) -> EnclosureDual {
         EnclosureDual {
             re: self.re + y.re,
@@ -106,6 +107,7 @@ impl Sub for EnclosureDual {
 
     ghost sub_gives = { λ x y r. dual_of r ≡ sub_d enclosures (dual_of x) (dual_of y) };
 
+    #[inline(always)]
     fn sub(self, y: EnclosureDual) -> EnclosureDual {
         EnclosureDual {
             re: self.re - y.re,
@@ -119,6 +121,7 @@ impl Neg for EnclosureDual {
 
     ghost neg_gives = { λ x r. dual_of r ≡ neg_d enclosures (dual_of x) };
 
+    #[inline(always)]
     fn neg(self) -> EnclosureDual {
         EnclosureDual {
             re: -self.re,
@@ -132,6 +135,7 @@ impl Mul for EnclosureDual {
 
     ghost mul_gives = { λ x y r. dual_of r ≡ mul_d enclosures (dual_of x) (dual_of y) };
 
+    #[inline(always)]
     fn mul(self, y: EnclosureDual) -> EnclosureDual {
         let left = self.eps * y.re;
         let right = self.re * y.eps;
@@ -147,6 +151,7 @@ impl Div for EnclosureDual {
 
     ghost div_gives = { λ x y r. dual_of r ≡ div_d enclosures (dual_of x) (dual_of y) };
 
+    #[inline(always)]
     fn div(self, y: EnclosureDual) -> EnclosureDual {
         let left = self.eps * y.re;
         let right = self.re * y.eps;
@@ -186,26 +191,52 @@ pub fn zero_times(x: Enclosure) -> Enclosure
     }
 }
 
-// x + c, c a plain number; as are the next two.
-pub fn add_plain(x: EnclosureDual, c: Enclosure) -> EnclosureDual
-    ensures { dual_of result ≡ add_d enclosures (dual_of x) (plain_d enclosures c) }
-{
-    EnclosureDual {
-        re: x.re + c,
-        eps: x.eps + Enclosure::point(0.0),
+// Beside a plain number, which is taken as one with slope +0.
+impl Add<Enclosure> for EnclosureDual {
+    type Output = EnclosureDual;
+
+    ghost add_gives = { λ x c r. dual_of r ≡ add_d enclosures (dual_of x) (plain_d enclosures c) };
+
+    #[inline(always)]
+    fn add(self, c: Enclosure) -> EnclosureDual {
+        EnclosureDual {
+            re: self.re + c,
+            eps: self.eps + Enclosure::point(0.0),
+        }
     }
 }
 
-pub fn mul_plain(x: EnclosureDual, c: Enclosure) -> EnclosureDual
-    ensures { dual_of result ≡ mul_d enclosures (dual_of x) (plain_d enclosures c) }
-{
-    let left = x.eps * c;
-    EnclosureDual {
-        re: x.re * c,
-        eps: left + times_zero(x.re),
+impl Sub<Enclosure> for EnclosureDual {
+    type Output = EnclosureDual;
+
+    ghost sub_gives = { λ x c r. dual_of r ≡ sub_d enclosures (dual_of x) (plain_d enclosures c) };
+
+    #[inline(always)]
+    fn sub(self, c: Enclosure) -> EnclosureDual {
+        EnclosureDual {
+            re: self.re - c,
+            eps: self.eps - Enclosure::point(0.0),
+        }
     }
 }
 
+impl Mul<Enclosure> for EnclosureDual {
+    type Output = EnclosureDual;
+
+    ghost mul_gives = { λ x c r. dual_of r ≡ mul_d enclosures (dual_of x) (plain_d enclosures c) };
+
+    #[inline(always)]
+    fn mul(self, c: Enclosure) -> EnclosureDual {
+        let left = self.eps * c;
+        EnclosureDual {
+            re: self.re * c,
+            eps: left + times_zero(self.re),
+        }
+    }
+}
+
+// A plain number from the left.
+#[inline(always)]
 pub fn plain_mul(c: Enclosure, x: EnclosureDual) -> EnclosureDual
     ensures { dual_of result ≡ mul_d enclosures (plain_d enclosures c) (dual_of x) }
 {

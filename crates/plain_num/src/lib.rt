@@ -2,6 +2,7 @@
 #![tactic(auto)]
 
 ghost use Rattle.std.specs.Prelude.{◌≡◌, Bool};
+ghost use Rattle.std.proofs.Common.{rules};
 ghost use Rattle.number.specs.Answer.{answer_by};
 
 use dual_num::DualNum;
@@ -25,6 +26,9 @@ pub trait PlainNum: DualNum {
 
     fn tanh(self) -> Result<Self, Refusal>
         ensures { (w : Bool) → answer_by (Self.of w) result ≡ (Self.functions w).tanh (Self.of w self) };
+
+    // A plain number taken as a D is the number itself.
+    ghost taken_law: { (w : Bool) (m : (Self.beside w).Num) → Self.taken w m ≡ m };
 }
 
 impl PlainNum for f64 {
@@ -47,6 +51,8 @@ impl PlainNum for f64 {
     fn tanh(self) -> Result<f64, Refusal> {
         elementary::tanh(self)
     }
+
+    ghost taken_law = { Prim.search rules };
 }
 
 impl PlainNum for Enclosure {
@@ -69,4 +75,6 @@ impl PlainNum for Enclosure {
     fn tanh(self) -> Result<Enclosure, Refusal> {
         elementary_ends::tanh(self)
     }
+
+    ghost taken_law = { Prim.search rules };
 }

@@ -1,3 +1,5 @@
-pub mod Staged
 pub mod Relation
 pub mod Shared
+pub mod Slope
+pub mod Lost
+pub mod Staged

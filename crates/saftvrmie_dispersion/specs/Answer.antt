@@ -3,17 +3,13 @@ use Rattle.std.specs.Prelude.{Float, Result}
 use Rattle.number.specs.Answer.{answer_by}
 use Rattle.number.specs.declared.refusal.Refusal.{Refusal}
 use Rattle.number.specs.Ans.{Ans}
-use Rattle.dual.specs.Dual.{DualOf}
-use Rattle.dual.specs.Value.{dual_of}
 use Rattle.saftvrmie_parameters.specs.declared.PairParameters.{PairParameters}
 use Rattle.saftvrmie_dispersion.specs.Sutherland.{FluidIn}
 use Rattle.saftvrmie_dispersion.specs.Terms.{PairIn, BarIn, FiveIn, OrdersIn, TermsIn, SumsIn}
 use Rattle.saftvrmie_dispersion.specs.Chain.{KIn, LinkIn}
 use Rattle.saftvrmie_dispersion.specs.declared.Fluid.{Fluid}
-use Rattle.saftvrmie_dispersion.specs.declared.FluidDual.{FluidDual}
 use Rattle.saftvrmie_dispersion.specs.declared.Bar.{Bar}
 use Rattle.saftvrmie_dispersion.specs.declared.Five.{Five}
-use Rattle.saftvrmie_dispersion.specs.declared.FiveDual.{FiveDual}
 use Rattle.saftvrmie_dispersion.specs.declared.OrdersDual.{OrdersDual}
 use Rattle.saftvrmie_dispersion.specs.declared.Terms.{Terms}
 use Rattle.saftvrmie_dispersion.specs.declared.Sums.{Sums}
@@ -35,9 +31,6 @@ fluid_by of w =
 abbrev pub fluid_in : {N : Type 0} → Fluid N → FluidIn N
 fluid_in w = fluid_by (λ x. x) w
 
-abbrev pub fluid_dual_in : FluidDual → FluidIn (DualOf Float)
-fluid_dual_in w = record { segment_density = dual_of w.segment_density; zeta_x = dual_of w.zeta_x; k_hs = dual_of w.k_hs; b1 = dual_of w.b1; b2 = dual_of w.b2; b3 = dual_of w.b3 }
-
 abbrev pub bar_by : {S N : Type 0} → (S → N) → Bar S → BarIn N
 bar_by of b = record { zeta_x_bar = of b.zeta_x_bar; zx5 = of b.zx5; zx8 = of b.zx8 }
 
@@ -47,11 +40,8 @@ bar_in b = bar_by (λ x. x) b
 abbrev pub five_by : {S N : Type 0} → (S → N) → Five S → FiveIn N
 five_by of s = record { at_la = of s.at_la; at_lr = of s.at_lr; at_2la = of s.at_2la; at_lalr = of s.at_lalr; at_2lr = of s.at_2lr }
 
-abbrev pub five_dual_in : FiveDual → FiveIn (DualOf Float)
-five_dual_in s = record { at_la = dual_of s.at_la; at_lr = dual_of s.at_lr; at_2la = dual_of s.at_2la; at_lalr = dual_of s.at_lalr; at_2lr = dual_of s.at_2lr }
-
-abbrev pub orders_dual_in : OrdersDual → OrdersIn (DualOf Float)
-orders_dual_in o = record { five = five_dual_in o.five; a1 = dual_of o.a1; a2 = dual_of o.a2 }
+abbrev pub orders_by : {S N : Type 0} → (S → N) → OrdersDual S → OrdersIn N
+orders_by of o = record { five = five_by of o.five; a1 = of o.a1; a2 = of o.a2 }
 
 abbrev pub terms_by : {S N : Type 0} → (S → N) → Terms S → TermsIn N
 terms_by of t = record { a1 = of t.a1; a2 = of t.a2; a3 = of t.a3; xi = of t.xi }
@@ -71,11 +61,8 @@ k_by of k = record { k0 = of k.k0; k1 = of k.k1; k2 = of k.k2; k3 = of k.k3 }
 abbrev pub k_in : {N : Type 0} → KValues N → KIn N
 k_in k = k_by (λ x. x) k
 
-abbrev pub link_in : Link → LinkIn Float
-link_in l = record { m = l.m; fraction = l.fraction; t_inv = l.t_inv }
-
-abbrev pub orders_dual_answer : Result OrdersDual Refusal → Ans (OrdersIn (DualOf Float))
-orders_dual_answer = answer_by orders_dual_in
+abbrev pub link_by : {S N : Type 0} → (S → N) → Link S → LinkIn N
+link_by of l = record { m = of l.m; fraction = of l.fraction; t_inv = of l.t_inv }
 
 abbrev pub terms_answer : {N : Type 0} → Result (Terms N) Refusal → Ans (TermsIn N)
 terms_answer = answer_by terms_in

@@ -1,18 +1,20 @@
 // The chain: the hard spheres' k-values, the fluid with slopes, and what a component's link adds.
 ghost use Rattle.std.specs.Prelude.{◌≡◌, Bool, false};
-ghost use Rattle.number.specs.Answer.{answer, answer_by};
-ghost use Rattle.number.specs.Arith.{floats, decimal, whole};
-ghost use Rattle.number.specs.Functions.{calls};
-ghost use Rattle.elementary.specs.Port.{port};
-ghost use Rattle.dual.specs.Value.{dual_of};
+ghost use Rattle.number.specs.Answer.{answer_by};
+ghost use Rattle.number.specs.Arith.{decimal, whole};
 ghost use Rattle.saftvrmie_dispersion.specs.Chain.{k_of, rho_dual, zeta_dual, fluid_dual, g1_of, g2_of, link_pref, g_hs, gamma_of, ln_g_mie, link_of, add_link, chain_pure};
-ghost use Rattle.saftvrmie_dispersion.specs.Answer.{pair_of, fluid_dual_in, bar_in, orders_dual_in, sums_by, sums_in, k_by, k_in, link_in, sums_answer};
+ghost use Rattle.saftvrmie_dispersion.specs.Answer.{pair_in, fluid_by, bar_by, orders_by, sums_by, k_by, link_by};
+ghost use Rattle.slope_num.specs.Value.{slope_by};
 
-use crate::{Bar, FluidDual, KValues, Link, OrdersDual, Sums, Terms, dual_sums, orders};
-use dual::Dual;
+use crate::sutherland::lit;
+use crate::{
+    ChainNum, ChainState, Fluid, KValues, Link, OrdersDual, Sums, Terms, orders, slope_sums,
+};
+use dual_num::DualNum;
 use number::{Arithmetic, Refusal};
 use plain_num::PlainNum;
 use saftvrmie_parameters::PairParameters;
+use slope_num::SlopeNum;
 
 // k0's polynomial.
 fn k0_sum<D: PlainNum>(z: D, z2: D, z3: D) -> D
@@ -76,55 +78,62 @@ pub fn k_values<D: PlainNum>(zeta_x: D) -> Result<KValues<D>, Refusal>
     })
 }
 
-fn rho_dual(rho: f64) -> Dual
-    ensures { dual_of result ≡ rho_dual floats rho }
+fn rho_dual<S: SlopeNum>(rho: S::Re) -> S
+    ensures { (w : Bool) → slope_by S.parts (S.Re.of w) result ≡ rho_dual (S.Re.beside w) (S.Re.of w rho) }
 {
-    Dual { re: rho, eps: 1.0 }
+    S::new(rho, S::Re::entered(1.0))
 }
 
-fn zeta_dual(zeta_x: f64, rho: f64) -> Dual
-    ensures { dual_of result ≡ zeta_dual floats zeta_x rho }
+// The density is looked at in the float run.
+fn zeta_dual<S: SlopeNum>(zeta_x: S::Re, rho: S::Re) -> S
+    ensures { (w : Bool) → slope_by S.parts (S.Re.of w) result ≡ zeta_dual (S.Re.beside w) (S.Re.of w zeta_x) (S.Re.of w rho) }
 {
-    let rho_s = rho_dual(rho);
-    if rho == 0.0 {
-        return rho_s * Dual::plain(0.0);
+    let rho_s = rho_dual::<S>(rho);
+    if rho.value() == 0.0 {
+        return rho_s * S::Re::entered(0.0);
     }
-    Dual::plain(zeta_x / rho) * rho_s
+    S::plain_mul(zeta_x / rho, rho_s)
 }
 
-pub fn fluid_dual(zeta_x: f64, rho: f64) -> FluidDual
-    ensures { fluid_dual_in result ≡ fluid_dual floats zeta_x rho }
+// The state with its slopes.
+pub fn fluid_dual<S: SlopeNum>(zeta_x: S::Re, rho: S::Re) -> Fluid<S>
+    ensures { (w : Bool) → fluid_by (slope_by S.parts (S.Re.of w)) result ≡ fluid_dual (S.Re.beside w) (S.Re.of w zeta_x) (S.Re.of w rho) }
 {
-    let z = zeta_dual(zeta_x, rho);
-    let one = Dual::plain(1.0);
-    let minus = -z;
-    FluidDual {
-        segment_density: rho_dual(rho),
+    let z = zeta_dual::<S>(zeta_x, rho);
+    let one = S::Re::entered(1.0);
+    Fluid {
+        segment_density: rho_dual::<S>(rho),
         zeta_x: z,
-        k_hs: dual_sums::k_hs_dual(z),
-        b1: minus * Dual::plain(0.5) + one,
-        b2: z * (z + one) * Dual::plain(4.5),
-        b3: (minus + one).pow_down(3),
+        k_hs: slope_sums::k_hs_dual(z),
+        b1: -z * S::Re::entered(0.5) + one,
+        b2: z * (z + one) * S::Re::entered(4.5),
+        b3: (-z + one).powi_down(3),
     }
 }
 
-fn g1(o: OrdersDual, p: PairParameters, pref: f64) -> f64
-    ensures { result ≡ g1_of floats (orders_dual_in o) (pair_of p) pref }
+fn g1<S: SlopeNum>(o: &OrdersDual<S>, p: PairParameters, pref: S::Re) -> S::Re
+    ensures { (w : Bool) → let A = S.Re.beside w in
+        S.Re.of w result ≡ g1_of A (orders_by (slope_by S.parts (S.Re.of w)) o.now) (pair_in A.lit p) (S.Re.of w pref) }
 {
-    o.a1.eps * 3.0 / pref - (o.five.at_la.re * p.la - o.five.at_lr.re * p.lr) * p.c
+    let at_la = o.five.at_la.re() * S::Re::entered(p.la);
+    let at_lr = o.five.at_lr.re() * S::Re::entered(p.lr);
+    o.a1.eps() * S::Re::entered(3.0) / pref - (at_la - at_lr) * S::Re::entered(p.c)
 }
 
-fn g2_mca(o: OrdersDual, p: PairParameters, pref: f64, k_hs: f64) -> f64
-    ensures { result ≡ g2_of floats (orders_dual_in o) (pair_of p) pref k_hs }
+fn g2_mca<S: SlopeNum>(o: &OrdersDual<S>, p: PairParameters, pref: S::Re, k_hs: S::Re) -> S::Re
+    ensures { (w : Bool) → let A = S.Re.beside w in
+        S.Re.of w result ≡ g2_of A (orders_by (slope_by S.parts (S.Re.of w)) o.now) (pair_in A.lit p) (S.Re.of w pref) (S.Re.of w k_hs) }
 {
-    o.a2.eps * 3.0 / pref / p.epsilon_k
-        - (o.five.at_2lr.re * p.lr - o.five.at_lalr.re * (p.la + p.lr) + o.five.at_2la.re * p.la)
-            * k_hs
-            * number::pow_up(p.c, 2)
+    let la = S::Re::entered(p.la);
+    let lr = S::Re::entered(p.lr);
+    let five = o.five.at_2lr.re() * lr - o.five.at_lalr.re() * (la + lr);
+    let sums = five + o.five.at_2la.re() * la;
+    let slope = o.a2.eps() * S::Re::entered(3.0) / pref / S::Re::entered(p.epsilon_k);
+    slope - sums * k_hs * S::Re::entered(p.c).square()
 }
 
-pub fn link_pref<D: PlainNum>(d3: D, eps_k: D::Plain) -> D
-    ensures { (w : Bool) → D.of w result ≡ link_pref (D.beside w) (D.functions w).pi (D.of w d3) (D.plain w eps_k) }
+pub fn link_pref<D: PlainNum>(d3: D, eps_k: D) -> D
+    ensures { (w : Bool) → D.of w result ≡ link_pref (D.beside w) (D.functions w).pi (D.of w d3) (D.of w eps_k) }
 {
     d3 * eps_k * D::Plain::lit(2.0) * D::pi()
 }
@@ -155,24 +164,28 @@ pub fn ln_g_mie<D: PlainNum>(g_hs: D, beta_eps: D, g1: D, g2: D) -> Result<D, Re
 }
 
 // What a component adds to a_chain.
-fn link_term(
-    k: KValues<f64>,
-    zeta_x_bar: f64,
-    o: OrdersDual,
-    k_hs: f64,
+fn link_term<S: SlopeNum>(
+    of: &ChainState<S, S::Re>,
+    o: &OrdersDual<S>,
     p: PairParameters,
-    d: f64,
-    link: Link,
-) -> Result<f64, Refusal>
-    ensures { answer result ≡ link_of floats (calls floats port) (k_in k) zeta_x_bar (orders_dual_in o) k_hs (pair_of p) d (link_in link) }
+    d: S::Re,
+    link: Link<S::Re>,
+) -> Result<S::Re, Refusal>
+    ensures { (w : Bool) → let A = S.Re.beside w in
+        let k = k_by (S.Re.of w) of.now.k in
+        let bar = bar_by (S.Re.of w) of.now.bar in
+        let k_hs = (slope_by S.parts (S.Re.of w) of.now.fluid.k_hs).re in
+        answer_by (S.Re.of w) result ≡ link_of A (S.Re.functions w) k bar.zeta_x_bar (orders_by (slope_by S.parts (S.Re.of w)) o.now) k_hs (pair_in A.lit p) (S.Re.of w d) (link_by (S.Re.of w) link) }
 {
-    let pref = link_pref(number::pow_up(d, 3), p.epsilon_k);
-    let beta_eps = link.t_inv * p.epsilon_k;
-    let g = g_hs(k, orders::x0_of(d, p.sigma))?;
-    let gamma = gamma(zeta_x_bar, beta_eps, p.alpha)?;
-    let g2 = g2_mca(o, p, pref, k_hs) * (gamma + 1.0);
+    let eps_k = S::Re::entered(p.epsilon_k);
+    let pref = link_pref(d.cube(), eps_k);
+    let beta_eps = link.t_inv * eps_k;
+    let g = g_hs(of.k, orders::x0_of(d, lit::<S::Re>(p.sigma)))?;
+    let gamma = gamma(of.bar.zeta_x_bar, beta_eps, S::Re::entered(p.alpha))?;
+    let one = S::Re::entered(1.0);
+    let g2 = g2_mca(o, p, pref, of.fluid.k_hs.re()) * (gamma + one);
     let ln_g = ln_g_mie(g, beta_eps, g1(o, p, pref), g2)?;
-    Ok(-link.fraction * (link.m - 1.0) * ln_g)
+    Ok(-link.fraction * (link.m - one) * ln_g)
 }
 
 pub fn add_link<D: PlainNum>(s: Sums<D>, l: D) -> Sums<D>
@@ -187,28 +200,30 @@ pub fn add_link<D: PlainNum>(s: Sums<D>, l: D) -> Sums<D>
 }
 
 // A component of the chain, added to the sums.
-pub fn chain_pure(
-    w: FluidDual,
-    bar: Bar<f64>,
-    k: KValues<f64>,
+pub fn chain_pure<S: ChainNum>(
+    of: &ChainState<S, S::Re>,
     p: PairParameters,
-    d: f64,
-    of: Link,
-    xs: f64,
-    s: Sums<f64>,
-) -> Result<Sums<f64>, Refusal>
-    ensures { sums_answer result ≡ chain_pure floats (calls floats port) (fluid_dual_in w) (bar_in bar) (k_in k) (pair_of p) d (link_in of) xs (sums_in s) }
+    d: S::Re,
+    link: Link<S::Re>,
+    xs: S::Re,
+    s: Sums<S::Re>,
+) -> Result<Sums<S::Re>, Refusal>
+    ensures { (w : Bool) → let A = S.Re.beside w in
+        let fluid = fluid_by (slope_by S.parts (S.Re.of w)) of.now.fluid in
+        let bar = bar_by (S.Re.of w) of.now.bar in
+        let k = k_by (S.Re.of w) of.now.k in
+        answer_by (sums_by (S.Re.of w)) result ≡ chain_pure A (S.Re.functions w) fluid bar k (pair_in A.lit p) (S.Re.of w d) (link_by (S.Re.of w) link) (S.Re.of w xs) (sums_by (S.Re.of w) s) }
 {
-    let o = dual_sums::orders_dual(w, p, d)?;
-    let six = orders::six_of::<f64>(p.alpha);
-    let a3 = orders::a3(bar.zeta_x_bar, six, p.epsilon_k)?;
+    let o = slope_sums::orders_dual(&of.fluid, p, d)?;
+    let six = orders::six_of::<S::Re>(p.alpha);
+    let a3 = orders::a3(of.bar.zeta_x_bar, six, lit::<S::Re>(p.epsilon_k))?;
     let terms = Terms {
-        a1: o.a1.re,
-        a2: o.a2.re,
+        a1: o.a1.re(),
+        a2: o.a2.re(),
         a3,
-        xi: orders::xi(bar, six),
+        xi: orders::xi(of.bar, six),
     };
     let t = orders::add_pure(xs, terms, s);
-    let l = link_term(k, bar.zeta_x_bar, o, w.k_hs.re, p, d, of)?;
+    let l = link_term(of, &o, p, d, link)?;
     Ok(add_link(t, l))
 }

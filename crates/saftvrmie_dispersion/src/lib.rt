@@ -1,22 +1,24 @@
-// What a pair and a component add to the Helmholtz energies of SAFT-VR Mie (saftvrmie/eos/dispersion.rs), in any numbers; the chain in floats, its pure terms in dual numbers. The powers of one x0 share its logarithm.
+// What a pair and a component add to the Helmholtz energies of SAFT-VR Mie (saftvrmie/eos/dispersion.rs), in any numbers; the chain's pure terms in numbers with a slope by the segment density. The powers of one x0 share its logarithm.
 #![tactic(auto)]
 
 mod chain;
-mod dual_sums;
+mod chain_num;
+mod lost_slopes;
 mod orders;
+mod slope_sums;
 mod sutherland;
 
 pub use crate::chain::{
     add_link, chain_pure, fluid_dual, g_hs, gamma, k_values, link_pref, ln_g_mie,
 };
-pub use crate::dual_sums::{a1s_ij_dual, k_hs_dual, orders_dual, zeta_eff_dual};
+pub use crate::chain_num::ChainNum;
 pub use crate::orders::{
     a3, add_pair, add_pure, bar_of, orders_sum, pair_terms, six_of, x0_of, xi,
 };
+pub use crate::slope_sums::{k_hs_dual, orders_dual};
 pub use crate::sutherland::{fluid_of, k_hs, lambda_of};
-use dual::Dual;
 
-// What all pairs of a state share: b1, b2 and b3 are the factors of `b_ij` that hang on zeta_x alone.
+// What all pairs, or the components of a chain, share in a state: b1, b2 and b3 are the factors of `b_ij` that hang on zeta_x alone.
 #[derive(Clone, Copy)]
 pub struct Fluid<D> {
     pub segment_density: D,
@@ -25,17 +27,6 @@ pub struct Fluid<D> {
     pub b1: D,
     pub b2: D,
     pub b3: D,
-}
-
-// The same with slopes by the segment density.
-#[derive(Clone, Copy)]
-pub struct FluidDual {
-    pub segment_density: Dual,
-    pub zeta_x: Dual,
-    pub k_hs: Dual,
-    pub b1: Dual,
-    pub b2: Dual,
-    pub b3: Dual,
 }
 
 // zeta_x_bar and its powers 5 and 8.
@@ -78,21 +69,12 @@ pub struct Five<D> {
     pub at_2lr: D,
 }
 
-#[derive(Clone, Copy)]
-pub struct FiveDual {
-    pub at_la: Dual,
-    pub at_lr: Dual,
-    pub at_2la: Dual,
-    pub at_lalr: Dual,
-    pub at_2lr: Dual,
-}
-
 // The first and the second order of a component, with the sums that they are made of.
 #[derive(Clone, Copy)]
-pub struct OrdersDual {
-    pub five: FiveDual,
-    pub a1: Dual,
-    pub a2: Dual,
+pub struct OrdersDual<S> {
+    pub five: Five<S>,
+    pub a1: S,
+    pub a2: S,
 }
 
 // The three orders of a pair, and the chi that corrects the second.
@@ -121,10 +103,18 @@ pub struct KValues<D> {
     pub k3: D,
 }
 
+// What the components of a chain share: the fluid with slopes by the segment density, and the plain numbers R of its run.
+#[derive(Clone, Copy)]
+pub struct ChainState<S, R> {
+    pub fluid: Fluid<S>,
+    pub bar: Bar<R>,
+    pub k: KValues<R>,
+}
+
 // What only the chain reads of a component and of the state; t_inv is 1/T.
 #[derive(Clone, Copy)]
-pub struct Link {
-    pub m: f64,
-    pub fraction: f64,
-    pub t_inv: f64,
+pub struct Link<R> {
+    pub m: R,
+    pub fraction: R,
+    pub t_inv: R,
 }

@@ -4,13 +4,14 @@ ghost use Rattle.number.specs.Answer.{answer_by};
 ghost use Rattle.saftvrmie_dispersion.specs.Sutherland.{k_hs, fluid_of, c_row, b_of, a1s_b};
 ghost use Rattle.saftvrmie_dispersion.specs.Terms.{five};
 ghost use Rattle.saftvrmie_dispersion.specs.Answer.{fluid_by, five_by};
+ghost use Rattle.saftvrmie_dispersion.specs.Staged.{powers_held, five_held};
 ghost use Rattle.saftvrmie_dispersion.specs.Shared.{lambda_by, lambda_of, zeta_eff_by, a1s_by, i_by, j_by, a1s_b_by};
-ghost use Rattle.saftvrmie_dispersion.specs.Staged.{lambda_inside, five_inside};
 
 use crate::{Five, Fluid, Lambda};
 use dual_num::DualNum;
 use mie_parameters::LAM_COEFF;
 use number::{Arithmetic, Refusal};
+use plain_num::PlainNum;
 
 pub fn k_hs<D: DualNum>(zeta_x: D) -> D
     ensures { (w : Bool) → D.of w result ≡ k_hs (D.beside w) (D.of w zeta_x) }
@@ -137,20 +138,47 @@ pub fn five_sums<D: DualNum>(
     })
 }
 
-// ---- in floats, for the sums with slopes
+// ---- for the sums with slopes
 
-fn lambda_inside(lambda: f64) -> bool
-    ensures { result ≡ lambda_inside lambda }
+// A number of the source, plain.
+pub fn lit<D: DualNum>(x: f64) -> D::Plain
+    ensures { (w : Bool) → D.plain w result ≡ (D.beside w).lit x }
 {
-    power::exponent_inside(lambda)
-        & (power::exponent_inside(3.0 - lambda) & power::exponent_inside(4.0 - lambda))
+    D::Plain::lit(x)
 }
 
-// Whether each power of x0 has its exponent inside the domain: then none of the five sums can refuse.
-pub fn five_inside(la: f64, lr: f64) -> bool
-    ensures { result ≡ five_inside la lr }
+// Whether x0 has its powers to lambda, 3 - lambda and 4 - lambda.
+fn powers_held<D: DualNum>(x0: D::Base, lambda: D::Plain) -> bool
+    ensures { (w : Bool) → result ≡ powers_held (D.beside w) (D.power_at w x0) (D.plain w lambda) }
 {
-    lambda_inside(la)
-        & (lambda_inside(lr)
-            & (lambda_inside(2.0 * la) & (lambda_inside(la + lr) & lambda_inside(2.0 * lr))))
+    let n = D::exponent_inside(D::exponent(lambda));
+    let n3 = D::exponent_inside(D::exponent(D::Plain::lit(3.0) - lambda));
+    let n4 = D::exponent_inside(D::exponent(D::Plain::lit(4.0) - lambda));
+    D::base_inside(x0) & (n & (n3 & n4))
+}
+
+// And those of all five sums.
+pub fn five_held<D: DualNum>(x0: D::Base, la: D::Plain, lr: D::Plain) -> bool
+    ensures { (w : Bool) → result ≡ five_held (D.beside w) (D.power_at w x0) (D.plain w la) (D.plain w lr) }
+{
+    let two = D::Plain::lit(2.0);
+    let at_2la = powers_held::<D>(x0, two * la);
+    let at_lalr = powers_held::<D>(x0, la + lr);
+    let at_2lr = powers_held::<D>(x0, two * lr);
+    powers_held::<D>(x0, la) & (powers_held::<D>(x0, lr) & (at_2la & (at_lalr & at_2lr)))
+}
+
+// What the sums work of an exponent alone, as numbers of the run.
+pub fn lambda_in<D: PlainNum>(lambda: D::Plain) -> Lambda<D>
+    ensures { (w : Bool) → lambda_by (D.of w) result ≡ lambda_of (D.beside w) (D.plain w lambda) }
+{
+    let of = lambda_of::<D>(lambda);
+    Lambda {
+        l3: D::lift(of.l3),
+        l4: D::lift(of.l4),
+        c0: D::lift(of.c0),
+        c1: D::lift(of.c1),
+        c2: D::lift(of.c2),
+        c3: D::lift(of.c3),
+    }
 }

@@ -5,10 +5,13 @@ use lib.Ieee.{Float}
 use lib.Ieee.Scale.{finite}
 use lib.ListN.{length}
 use mathlib.Core.List.{List}
-use mathlib.Core.Path.{◌≡◌}
+use mathlib.Core.Path.{◌≡◌, refl}
 use mathlib.Core.Bool.{Bool, true, false, ◌&&◌}
 use borrow.Author.Tests.{eqb-true}
 use Rattle.number.specs.Ans.{held, refused, ◌>>=◌, demand}
+use Rattle.std.specs.Prelude.{Result, Ok, Err}
+use Rattle.number.specs.Answer.{answer, answer_by}
+use Rattle.number.specs.declared.refusal.Refusal.{Refusal}
 use Rattle.number.specs.Arith.{floats}
 use Rattle.number.specs.Functions.{calls}
 use Rattle.sizes.specs.Sizes.{side}
@@ -35,6 +38,11 @@ module _ (n x rho d : ℕ) (p : state_lengths n x rho d ≡ true) where
   pub right_d : d ≡ n
   unfolding state_lengths
   right_d = eqb-true d n (and_right ((count_within n && eqb x n) && eqb rho n) (eqb d n) p)
+
+-- ---- numbers that a run holds as they are
+pub as_it_is : {T : Type 0} (r : Result T Refusal) → answer r ≡ answer_by (λ x. x) r
+as_it_is (Ok x) = refl
+as_it_is (Err r) = refl
 
 -- ---- the operation
 module _ (s : SaftVRMiePars) (t : Float) (x rho d : List Float) (chain : Bool) where

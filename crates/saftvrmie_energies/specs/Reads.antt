@@ -1,12 +1,18 @@
 -- Lent lists and a run's own as the formulas read them: the contracts of helpers alone.
-use Rattle.std.specs.Prelude.{ℕ, Float, List, map}
+use Rattle.std.specs.Prelude.{ℕ, Float, List, map, length, ◌≡◌, ◌≤◌}
 use Rattle.number.specs.Arith.{Arith}
 use Rattle.number.specs.Lists.{at, nth}
+use Rattle.sizes.specs.Sizes.{side}
+use Rattle.saftvrmie_parameters.specs.declared.SaftVRMiePars.{SaftVRMiePars}
 use Rattle.saftvrmie_parameters.specs.Parameters.{pair_at}
 use Rattle.saftvrmie_dispersion.specs.Terms.{PairIn}
 use Rattle.saftvrmie_dispersion.specs.Answer.{pair_in, k_by}
 use Rattle.saftvrmie_energies.specs.Properties.{PropertiesIn}
-use Rattle.saftvrmie_energies.specs.declared.Properties.{Properties}
+use Rattle.saftvrmie_energies.specs.Dispersion.{StateIn}
+use Rattle.saftvrmie_energies.specs.Energies.{state_in}
+use Rattle.saftvrmie_energies.specs.declared.properties.Properties.{Properties}
+use Rattle.saftvrmie_energies.specs.declared.set.Set.{Set}
+use Rattle.saftvrmie_energies.specs.declared.set.State.{State}
 
 -- a lent list, each number entered by lit
 abbrev pub entries : (A : Arith) → List Float → ℕ → A.Num
@@ -21,3 +27,15 @@ read A of l = nth A (map of l)
 
 abbrev pub properties_by : {S N : Type 0} → (S → N) → Properties S → PropertiesIn N
 properties_by of q = record { segment_density = of q.segment_density; zeta_x = of q.zeta_x; zeta_x_bar = of q.zeta_x_bar; k = k_by of q.k }
+
+-- a set lent list by list
+abbrev pub set_of : Set → SaftVRMiePars
+set_of s = record { count = s.count; m = s.m.now; sigma = s.sigma.now; epsilon_k = s.epsilon_k.now; lr = s.lr.now; la = s.la.now; sheets = s.sheets.now }
+
+-- a state in a run's numbers
+abbrev pub state_of : (A : Arith) → State → StateIn A.Num
+state_of A s = state_in A.lit (set_of s.set) s.temperature s.fractions.now s.densities.now s.diameters.now
+
+-- what the operation has tested: lists as long as the count
+abbrev pub Right : State → Type 0
+Right s = (s.set.count ≤ side) × (length s.fractions.now ≡ s.set.count) × (length s.densities.now ≡ s.set.count) × (length s.diameters.now ≡ s.set.count)

@@ -57,6 +57,7 @@ fn zeta_added<D: DualNum>(rho: D, d: D, m: D::Plain, z: Zetas<D>) -> Zetas<D>
     }
 }
 
+// Here and in the energies below, counts and lists are asked for that an operation has let pass: it refuses others with 1 before it sums.
 pub fn zeta<D: DualNum>(n: usize, rho: &NumberList, table: &NumberList, m: &[f64; SIDE]) -> Zetas<D>
     requires { (0 < n) × (n ≤ side)
         × First n (D.has rho.now.values.now rho.now.slopes.now)

@@ -121,6 +121,7 @@ fn non_additive<D: DualNum>(
 }
 
 // Not wanted: +0, and nothing of it is worked. z is the zeta of these densities; xs is room.
+// The operation has refused other counts and lists with 1.
 pub fn wanted_part<D: DualNum>(
     n: usize,
     rho: &NumberList,

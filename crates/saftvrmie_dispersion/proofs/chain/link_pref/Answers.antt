@@ -13,5 +13,5 @@ returns g c w =
       c.pi.ensures w,
       m.mul_plain_law w _ _ _ c.mul-2.ensures,
       m.plain_lit_law w _ _ c.lit.ensures,
-      m.mul_plain_law w _ _ _ c.mul.ensures,
+      m.mul_law w _ _ _ c.mul.ensures,
     )

@@ -4,10 +4,14 @@ use Rattle.number.specs.Arith.{decimal}
 use Rattle.saftvrmie_dispersion.specs.Chain.{zeta_dual}
 use Rattle.saftvrmie_dispersion.proofs.chain.zeta_dual.Goals as goal
 
-pub returns-then-rho : goal.returns-then-rho
+pub returns-then-value : goal.returns-then-value
 unfolding zeta_dual decimal of_bits
-returns-then-rho c = rw (c.if-rho.true, c.mul.ensures, c.plain.ensures, c.rho_dual-rho_s.ensures)
+returns-then-value g c w =
+    let m = g.met.S.SlopeNum in
+    rw (← c.value.ensures w, c.if-value.true, m.mul_plain_law w _ _ _ c.mul.ensures, c.entered.ensures w, c.rho_dual-rho_s.ensures w)
 
 pub returns : goal.returns
 unfolding zeta_dual decimal of_bits
-returns c = rw (c.if-rho.false, c.mul-2.ensures, c.plain-2.ensures, c.rho_dual-rho_s.ensures)
+returns g c w =
+    let n = g.met.S.Re.DualNum in
+    rw (← c.value.ensures w, c.if-value.false, c.plain_mul.ensures w, n.div_law w _ _ _ c.div.ensures, c.rho_dual-rho_s.ensures w)

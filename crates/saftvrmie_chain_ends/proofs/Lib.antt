@@ -1,4 +1,0 @@
-pub mod Slope
-pub mod Lost
-pub mod Sums
-pub mod Powers

@@ -1,8 +1,0 @@
--- `saftvrmie_chain_ends::lost_slopes::is_lost` meets its contract. Assumes nothing.
-use Rattle.saftvrmie_chain_ends.specs.Slope.{lost_in}
-use lib.Ieee.{of_bits}
-use Rattle.saftvrmie_chain_ends.proofs.lost_slopes.is_lost.Goals as goal
-
-pub returns : goal.returns
-unfolding lost_in of_bits
-returns c = rw (c.moderate-2.ensures, c.moderate.ensures, c.stays-2.ensures, c.stays.ensures)

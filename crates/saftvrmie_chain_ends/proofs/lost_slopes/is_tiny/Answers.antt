@@ -1,7 +1,0 @@
--- `saftvrmie_chain_ends::lost_slopes::is_tiny` meets its contract. Assumes nothing.
-use Rattle.saftvrmie_chain_ends.specs.Slope.{tiny_slope}
-use Rattle.saftvrmie_chain_ends.proofs.lost_slopes.is_tiny.Goals as goal
-
-pub returns : goal.returns
-unfolding tiny_slope
-returns c = rw (c.tiny-2.ensures, c.tiny.ensures)

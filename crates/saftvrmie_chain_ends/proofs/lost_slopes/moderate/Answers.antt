@@ -1,6 +1,0 @@
--- `saftvrmie_chain_ends::lost_slopes::moderate` meets its contract. Assumes nothing.
-use Rattle.saftvrmie_chain_ends.proofs.Lost.{moderate_by}
-use Rattle.saftvrmie_chain_ends.proofs.lost_slopes.moderate.Goals as goal
-
-pub returns : goal.returns
-returns c = moderate_by _ _ c.well_formed.0.1 c.well_formed.1.0.1

@@ -1,0 +1,48 @@
+-- `saftvrmie_energies::energies::helmholtz_energy_density_disp` meets its contract. Assumes nothing.
+use lib.Ieee.{of_bits}
+use Rattle.number.specs.Arith.{decimal}
+use Rattle.number.specs.Ans.{◌>>=◌}
+use Rattle.number.specs.Answer.{answer_by}
+use Rattle.number.proofs.Walk.{via, handed_on}
+use Rattle.saftvrmie_dispersion.specs.Answer.{sums_by}
+use Rattle.saftvrmie_energies.specs.Reads.{properties_by}
+use Rattle.saftvrmie_energies.specs.Dispersion.{dispersion}
+use Rattle.saftvrmie_energies.proofs.energies.helmholtz_energy_density_disp.Goals as goal
+
+pub returns-in_err-q : goal.returns-in_err-q
+unfolding dispersion ◌>>=◌ decimal of_bits
+returns-in_err-q g c w = rw (handed_on _ c.from_residual.ensures, ← c.weighted-mean.ensures w, ← c.xs_of.ensures w, via (answer_by (properties_by (g.D.DualNum.of w))) (c.properties_of.ensures w) c.in_err-q.was)
+
+pub returns-in_err-a : goal.returns-in_err-a
+unfolding dispersion ◌>>=◌ decimal of_bits
+returns-in_err-a g c w =
+    rw (
+      handed_on _ c.from_residual-in_err-a.ensures,
+      ← c.weighted-mean.ensures w,
+      ← c.xs_of.ensures w,
+      via (answer_by (properties_by (g.D.DualNum.of w))) (c.properties_of.ensures w) c.in_ok-q.was,
+      ← c.k_hs-k_hs.ensures w,
+      ← c.fluid_of-fluid.ensures w,
+      ← c.bar_of-bar.ensures w,
+      via (answer_by (sums_by (g.D.DualNum.of w))) (c.disp_rows.ensures w) c.in_err-a.was,
+    )
+
+pub returns : goal.returns
+unfolding dispersion ◌>>=◌ decimal of_bits
+returns g c w =
+    let m = g.met.D.DualNum in
+    rw (
+      ← c.weighted-mean.ensures w,
+      ← c.xs_of.ensures w,
+      via (answer_by (properties_by (g.D.DualNum.of w))) (c.properties_of.ensures w) c.in_ok-q.was,
+      ← c.k_hs-k_hs.ensures w,
+      ← c.fluid_of-fluid.ensures w,
+      ← c.bar_of-bar.ensures w,
+      via (answer_by (sums_by (g.D.DualNum.of w))) (c.disp_rows.ensures w) c.in_ok-a.was,
+      c.after_ks.ensures w,
+      m.mul_law w _ _ _ c.mul-2.ensures,
+      m.mul_law w _ _ _ c.mul.ensures,
+      c.total-all.ensures w,
+      c.orders_sum-orders.ensures w,
+      c.inverse.ensures w,
+    )

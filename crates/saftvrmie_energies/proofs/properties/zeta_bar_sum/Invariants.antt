@@ -1,0 +1,16 @@
+-- `saftvrmie_energies::properties::zeta_bar_sum` meets its contract. Assumes nothing.
+use Prim.Native.Nat.{◌≤◌, ◌-◌}
+use mathlib.Core.Path.{◌≡◌}
+use mathlib.Core.Bool.{Bool}
+use Rattle.number.specs.Walk.{turns}
+use Rattle.number.specs.Arith.{zero64}
+use Rattle.saftvrmie_energies.specs.Reads.{pairs, read}
+use Rattle.saftvrmie_energies.specs.Properties.{s3_ij, zeta_row}
+use Rattle.saftvrmie_energies.proofs.properties.zeta_bar_sum.Given as goal
+
+abbrev pub invariant-loop-i : goal.invariant-loop-i
+invariant-loop-i g l =
+    (l.i ≤ l.n) × ((w : Bool) → let D = g.D.DualNum in let A = D.beside w in D.of w l.s ≡ turns l.i (zeta_row A l.n (read A (D.of w) l.xs) (s3_ij A (pairs A l.sheets))) (A.lit zero64))
+
+abbrev pub decreases-loop-i : goal.decreases-loop-i
+decreases-loop-i g l = l.n - l.i

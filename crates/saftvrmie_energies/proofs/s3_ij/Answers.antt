@@ -1,9 +1,0 @@
--- `saftvrmie_energies::s3_ij` meets its contract. Assumes nothing.
-use Rattle.saftvrmie_energies.specs.Properties.{s3_ij}
-use Rattle.saftvrmie_energies.proofs.s3_ij.Goals as goal
-
-pub returns : goal.returns
-unfolding s3_ij
-returns g c w =
-    let m = g.met.D.DualNum in
-    rw (m.plain_pow_law w _ _ 3 c.cube.ensures, m.plain_lit_law w _ _ c.lit.ensures)

@@ -1,0 +1,197 @@
+// `Properties::new` (saftvrmie/eos/dispersion.rs): sums over components and pairs, of any run.
+ghost use Rattle.std.specs.Prelude.{◌≡◌, Bool, ◌<◌, ◌≤◌, length, map};
+ghost use Rattle.number.specs.Answer.{answer_by};
+ghost use Rattle.number.specs.Walk.{turns};
+ghost use Rattle.sizes.specs.Sizes.{side};
+ghost use Rattle.mie_parameters.specs.Sums.{weighted};
+ghost use Rattle.saftvrmie_energies.specs.Properties.{total, xs_of, d_ij, d3_ij, s3_ij, zeta_row, zeta_sum, after_lower, properties};
+ghost use Rattle.saftvrmie_energies.specs.Reads.{entries, pairs, read, properties_by, state_of, Right};
+
+use crate::set::State;
+use number::{Arithmetic, Refusal};
+use plain_num::PlainNum;
+use saftvrmie_dispersion::KValues;
+use sizes::{SHEETS, SIDE};
+
+#[derive(Clone, Copy)]
+pub struct Properties<D> {
+    pub segment_density: D,
+    pub zeta_x: D,
+    pub zeta_x_bar: D,
+    pub k: KValues<D>,
+}
+
+pub fn total<D: PlainNum>(n: usize, v: &[f64]) -> D
+    requires { length v.now ≡ n }
+    ensures { (w : Bool) → D.of w result ≡ total (D.beside w) n (entries (D.beside w) v.now) }
+{
+    let mut s = D::entered(0.0);
+    for i in 0usize..n {
+        s = s + D::entered(v[i]);
+    }
+    s
+}
+
+pub fn weighted<D: PlainNum>(n: usize, v: &[f64], m: &[f64; SIDE]) -> D
+    requires { (n ≤ side) × (length v.now ≡ n) }
+    ensures { (w : Bool) → D.of w result ≡ weighted (D.beside w) n (entries (D.beside w) v.now) (entries (D.beside w) m.now) }
+{
+    let mut s = D::entered(0.0);
+    for i in 0usize..n {
+        s = s + D::entered(v[i]) * D::Plain::lit(m[i]);
+    }
+    s
+}
+
+pub fn xs_of<D: PlainNum>(n: usize, x: &[f64], m: &[f64; SIDE], mean: D) -> [D; SIDE]
+    requires { (n ≤ side) × (length x.now ≡ n) }
+    ensures { (w : Bool) → map (D.of w) result ≡ xs_of (D.beside w) n (entries (D.beside w) x.now) (entries (D.beside w) m.now) (D.of w mean) }
+{
+    let zero = D::entered(0.0);
+    let mut xs = [zero; SIDE];
+    for i in 0usize..n {
+        let p = D::entered(x[i]) * D::Plain::lit(m[i]) / mean;
+        xs[i] = p;
+    }
+    xs
+}
+
+// Entry i of a run's own list.
+pub fn component<D: PlainNum>(xs: &[D; SIDE], i: usize) -> D
+    requires { i < side }
+    ensures { (w : Bool) → D.of w result ≡ read (D.beside w) (D.of w) xs.now i }
+{
+    xs[i]
+}
+
+pub fn d_ij<D: PlainNum>(d: &[f64], i: usize, j: usize) -> D
+    requires { (i < length d.now) × (j < length d.now) }
+    ensures { (w : Bool) → D.of w result ≡ d_ij (D.beside w) (entries (D.beside w) d.now) i j }
+{
+    (D::entered(d[i]) + D::entered(d[j])) * D::Plain::lit(0.5)
+}
+
+fn d3_ij<D: PlainNum>(d: &[f64], i: usize, j: usize) -> D
+    requires { (i < length d.now) × (j < length d.now) }
+    ensures { (w : Bool) → D.of w result ≡ d3_ij (D.beside w) (entries (D.beside w) d.now) i j }
+{
+    d_ij::<D>(d, i, j).cube()
+}
+
+fn s3_ij<D: PlainNum>(s: &[f64; SHEETS], i: usize, j: usize) -> D::Plain
+    requires { (i < side) × (j < side) }
+    ensures { (w : Bool) → D.plain w result ≡ s3_ij (D.beside w) (pairs (D.beside w) s.now) i j }
+{
+    D::Plain::lit(s[SIDE * i + j]).cube()
+}
+
+// Row i of zeta_x's sum: d³ of the pairs.
+fn zeta_row<D: PlainNum>(n: usize, xs: &[D; SIDE], d: &[f64], i: usize, start: D) -> D
+    requires { (n ≤ side) × (i < n) × (length d.now ≡ n) }
+    ensures { (w : Bool) → D.of w result ≡ zeta_row (D.beside w) n (read (D.beside w) (D.of w) xs.now) (d3_ij (D.beside w) (entries (D.beside w) d.now)) i (D.of w start) }
+{
+    let xi = component(xs, i);
+    let two = D::Plain::lit(2.0);
+    let mut s = start + xi.square() * d3_ij::<D>(d, i, i);
+    for k in 0usize..n - (i + 1) {
+        let j = i + 1 + k;
+        s = s + xi * component(xs, j) * d3_ij::<D>(d, i, j) * two;
+    }
+    s
+}
+
+fn zeta_sum<D: PlainNum>(n: usize, xs: &[D; SIDE], d: &[f64]) -> D
+    requires { (n ≤ side) × (length d.now ≡ n) }
+    ensures { (w : Bool) → D.of w result ≡ zeta_sum (D.beside w) n (read (D.beside w) (D.of w) xs.now) (d3_ij (D.beside w) (entries (D.beside w) d.now)) }
+{
+    let mut s = D::entered(0.0);
+    for i in 0usize..n {
+        s = zeta_row(n, xs, d, i, s);
+    }
+    s
+}
+
+// Row i of zeta_x_bar's sum: sigma³ of the pairs.
+fn zeta_bar_row<D: PlainNum>(
+    n: usize,
+    xs: &[D; SIDE],
+    sheets: &[f64; SHEETS],
+    i: usize,
+    start: D,
+) -> D
+    requires { (n ≤ side) × (i < n) }
+    ensures { (w : Bool) → D.of w result ≡ zeta_row (D.beside w) n (read (D.beside w) (D.of w) xs.now) (s3_ij (D.beside w) (pairs (D.beside w) sheets.now)) i (D.of w start) }
+{
+    let xi = component(xs, i);
+    let two = D::Plain::lit(2.0);
+    let mut s = start + xi.square() * s3_ij::<D>(sheets, i, i);
+    for k in 0usize..n - (i + 1) {
+        let j = i + 1 + k;
+        s = s + xi * component(xs, j) * s3_ij::<D>(sheets, i, j) * two;
+    }
+    s
+}
+
+fn zeta_bar_sum<D: PlainNum>(n: usize, xs: &[D; SIDE], sheets: &[f64; SHEETS]) -> D
+    requires { n ≤ side }
+    ensures { (w : Bool) → D.of w result ≡ zeta_sum (D.beside w) n (read (D.beside w) (D.of w) xs.now) (s3_ij (D.beside w) (pairs (D.beside w) sheets.now)) }
+{
+    let mut s = D::entered(0.0);
+    for i in 0usize..n {
+        s = zeta_bar_row(n, xs, sheets, i, s);
+    }
+    s
+}
+
+// d_ij and d3_ij of the pairs (i, j) with j < i: worked, and nothing uses them.
+fn after_row<D: PlainNum>(d: &[f64], i: usize, start: D) -> D
+    requires { (i ≤ side) × (i < length d.now) }
+    ensures { (w : Bool) → D.of w result ≡ turns i (λ j r. (D.beside w).after (d3_ij (D.beside w) (entries (D.beside w) d.now) i j) r) (D.of w start) }
+{
+    let mut s = start;
+    for j in 0usize..i {
+        s = s.after(d3_ij::<D>(d, i, j));
+    }
+    s
+}
+
+fn after_lower<D: PlainNum>(n: usize, d: &[f64], x: D) -> D
+    requires { (n ≤ side) × (length d.now ≡ n) }
+    ensures { (w : Bool) → D.of w result ≡ after_lower (D.beside w) n (d3_ij (D.beside w) (entries (D.beside w) d.now)) (D.of w x) }
+{
+    let mut s = x;
+    for i in 0usize..n {
+        s = after_row(d, i, s);
+    }
+    s
+}
+
+pub fn properties_of<D: PlainNum>(s: &State, xs: &[D; SIDE]) -> Result<Properties<D>, Refusal>
+    requires { Right s.now }
+    ensures { (w : Bool) → let A = D.beside w in
+        let t = state_of A s.now in
+        answer_by (properties_by (D.of w)) result ≡ properties A (D.functions w) s.now.set.count (read A (D.of w) xs.now) t.density t.diameter t.m t.pair }
+{
+    let set = s.set;
+    let n = set.count;
+    let d = s.diameters;
+    let segment_density = weighted::<D>(n, s.densities, set.m);
+    let factor = segment_density * D::frac_pi_6();
+    let zeta_x = after_lower(n, d, zeta_sum(n, xs, d) * factor);
+    let zeta_x_bar = zeta_bar_sum(n, xs, set.sheets) * factor;
+    let k = saftvrmie_dispersion::k_values(zeta_x)?;
+    Ok(Properties {
+        segment_density,
+        zeta_x,
+        zeta_x_bar,
+        k,
+    })
+}
+
+// The number, where k0 to k3 were worked on the way: `Properties::new` works them, dispersion alone does not use them.
+pub fn after_ks<D: PlainNum>(k: KValues<D>, x: D) -> D
+    ensures { (w : Bool) → let A = D.beside w in
+        D.of w result ≡ A.after (D.of w k.k0) (A.after (D.of w k.k1) (A.after (D.of w k.k2) (A.after (D.of w k.k3) (D.of w x)))) }
+{
+    x.after(k.k3).after(k.k2).after(k.k1).after(k.k0)
+}

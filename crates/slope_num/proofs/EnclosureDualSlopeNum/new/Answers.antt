@@ -1,0 +1,8 @@
+-- `slope_num::EnclosureDualSlopeNum::new` meets its contract. Assumes nothing.
+use mathlib.Core.Path.{refl}
+use Rattle.enclosure_dual.specs.Value.{dual_of}
+use Rattle.slope_num.proofs.EnclosureDualSlopeNum.new.Goals as goal
+
+pub returns : goal.returns
+unfolding dual_of
+returns c = refl
