@@ -1,5 +1,9 @@
 -- Demand 3 on the made-up formula: whatever is handed in and whatever the elementary functions answer, the ends that are reported enclose the float run and the exact run. Assumes nothing.
-use mathlib.Core.Path.{◌≡◌}
+use Rattle.std.specs.Prelude.{Result, Ok, Err}
+use mathlib.Core.Path.{◌≡◌, refl}
+use Rattle.number.specs.Answer.{answer, answer_by}
+use Rattle.number.specs.declared.refusal.Refusal.{Refusal}
+use Rattle.enclosure.specs.declared.Enclosure.{Enclosure}
 use mathlib.Core.List.{List}
 use lib.ListN.{length}
 use lib.Ieee.{Float}
@@ -17,6 +21,11 @@ use Rattle.enclosure.proofs.Relations.{Value, values, value_point, contains, con
 use Rattle.enclosure.proofs.TwoEnds.{tested_encloses, alone_is}
 use Rattle.patterns.proofs.Relation.{sample_rel}
 use Rattle.patterns_ends.specs.Operations.{sample_float, sample_enclosure, sample_exact, sample_ends}
+
+-- the two-ended run's answer is read as it is
+pub alike : (a : Result Enclosure Refusal) → answer_by (λ x. x) a ≡ answer a
+alike (Ok x) = refl
+alike (Err r) = refl
 
 module _ (E : Answers) (xs : List Float) (y : Float) where
   sample_values : Both Value (sample_enclosure E xs y) (sample_float E xs y)
