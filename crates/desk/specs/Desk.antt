@@ -10,6 +10,7 @@ use Rattle.set_lists.specs.Sets.{quantum_set}
 use Rattle.round_robin.specs.Desk.{places, Shelf, Work, Told, idle, worked, finished, Served, Entered, serve, submit}
 use Rattle.desk_place.specs.Layout.{part, over, Lists, place_floats, place_bytes, waits_in}
 use Rattle.desk_place.specs.Place.{Query, enter, unit}
+use Rattle.desk.specs.declared.DeskQuery.{DeskQuery}
 use Rattle.desk.specs.declared.Served as Declared
 use Rattle.desk.specs.declared.Served.TheVariants as Desk
 
@@ -39,6 +40,9 @@ shelf =
       last = λ l. get_or l.bytes last_at 0;
       served = λ l k. record { floats = l.floats; bytes = set l.bytes last_at k };
     }
+
+abbrev pub query_of : DeskQuery → Query
+query_of q = record { lists = record { count = q.count; m = q.m.now; sheets = q.sheets.now; orders = q.orders.now }; temperature = q.temperature; fractions = q.fractions.now; densities = q.densities.now; wanted = q.non_additive }
 
 -- what the direct calls for table and energies give
 unfoldable pub directly : Query → Ans (EnergiesIn Float)

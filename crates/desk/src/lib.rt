@@ -3,13 +3,13 @@
 
 ghost use Rattle.std.specs.Prelude.{◌≡◌, true, not, cond, ◌+◌, ◌*◌, ◌<◌, ◌≤◌, length};
 ghost use Rattle.sizes.specs.Sizes.{side};
-ghost use Rattle.set_lists.specs.Sets.{QuantumLists, quantum_lengths};
+ghost use Rattle.set_lists.specs.Sets.{quantum_lengths};
 ghost use Rattle.mie_parameters.specs.Answer.{outcome, verdict, stored};
 ghost use Rattle.number.specs.Answer.{answer};
 ghost use Rattle.round_robin.specs.Desk.{places, seek, leaves};
 ghost use Rattle.desk_place.specs.Layout.{Lists, place_floats};
-ghost use Rattle.desk_place.specs.Place.{Query, enter, unit};
-ghost use Rattle.desk.specs.Desk.{occupied_in, shelf, quantum, place_of, placed, right_desk, state_lengths, door, begun, submitted, served_once, served_told, desk_answer, told_of, desk_of, place_told, entered_of, last_at};
+ghost use Rattle.desk_place.specs.Place.{enter, unit};
+ghost use Rattle.desk.specs.Desk.{query_of, occupied_in, shelf, quantum, place_of, placed, right_desk, state_lengths, door, begun, submitted, served_once, served_told, desk_answer, told_of, desk_of, place_told, entered_of, last_at};
 
 use desk_place::layout::{PLACE_BYTES, PLACE_FLOATS};
 use number::Refusal;
@@ -29,6 +29,19 @@ pub enum Served {
     Idle,
     Worked,
     Finished(usize, Result<QuantumEnergies, Refusal>),
+}
+
+// A query as it comes in.
+#[derive(Clone, Copy)]
+pub struct DeskQuery<'a> {
+    pub count: usize,
+    pub m: &'a [f64],
+    pub sheets: &'a [f64],
+    pub orders: &'a [u8],
+    pub temperature: f64,
+    pub fractions: &'a [f64],
+    pub densities: &'a [f64],
+    pub non_additive: bool,
 }
 
 fn right_desk(a: usize, b: usize) -> bool
@@ -80,7 +93,7 @@ pub fn begin(floats: &mut [f64], bytes: &mut [u8]) -> Result<(), Refusal>
         return Err(Refusal::Length);
     }
     let blank = [0u8; BYTES];
-    desk_place::lay_bytes(bytes, &blank);
+    desk_place::lay(bytes, &blank);
     bytes[LAST_AT] = 15;
     Ok(())
 }
@@ -92,111 +105,55 @@ fn right_state(n: usize, fractions: &[f64], densities: &[f64]) -> bool
 }
 
 // Whether a query may come in: all that is 1, then 4, then all that is 2.
-fn door(
-    count: usize,
-    m: &[f64],
-    sheets: &[f64],
-    orders: &[u8],
-    temperature: f64,
-    fractions: &[f64],
-    densities: &[f64],
-    non_additive: bool,
-) -> Result<(), Refusal>
-    ensures { let s : QuantumLists = record { count = count; m = m.now; sheets = sheets.now; orders = orders.now } in
-        let q : Query = record { lists = s; temperature = temperature; fractions = fractions.now; densities = densities.now; wanted = non_additive } in
-        outcome result true ≡ verdict (door q) }
+fn door(q: &DeskQuery) -> Result<(), Refusal>
+    ensures { outcome result true ≡ verdict (door (query_of q.now)) }
 {
-    let right = right_state(count, fractions, densities);
-    set_lists::quantum_answer(count, m, sheets, orders, right)?;
-    if !limits::state_within(count, temperature, fractions, densities) {
+    let n = q.count;
+    let right = right_state(n, q.fractions, q.densities);
+    set_lists::quantum_answer(n, q.m, q.sheets, q.orders, right)?;
+    if !limits::state_within(n, q.temperature, q.fractions, q.densities) {
         return Err(Refusal::Limit);
     }
     Ok(())
 }
 
 // A query into place k.
-fn enter(
-    floats: &mut [f64],
-    bytes: &mut [u8],
-    k: usize,
-    count: usize,
-    m: &[f64],
-    sheets: &[f64],
-    orders: &[u8],
-    temperature: f64,
-    fractions: &[f64],
-    densities: &[f64],
-    non_additive: bool,
-)
-    requires { (length floats.old ≡ place_floats * places) × (length bytes.old ≡ last_at + 1) × (k < places) × (quantum_lengths m.now sheets.now orders.now ≡ true) × (count ≤ side) × (length fractions.now ≡ count) × (length densities.now ≡ count) }
-    ensures { let s : QuantumLists = record { count = count; m = m.now; sheets = sheets.now; orders = orders.now } in
-        let q : Query = record { lists = s; temperature = temperature; fractions = fractions.now; densities = densities.now; wanted = non_additive } in
-        let l : Lists = record { floats = floats.entry.now; bytes = bytes.old } in
-        record { floats = floats.exit.now; bytes = bytes.new } ≡ placed l k (enter q (place_of l k)) }
+fn enter(floats: &mut [f64], bytes: &mut [u8], k: usize, q: &DeskQuery)
+    requires { let x = query_of q.now in
+        (length floats.old ≡ place_floats * places) × (length bytes.old ≡ last_at + 1) × (k < places) × (quantum_lengths x.lists.m x.lists.sheets x.lists.orders ≡ true) × (x.lists.count ≤ side) × (length x.fractions ≡ x.lists.count) × (length x.densities ≡ x.lists.count) }
+    ensures { let l : Lists = record { floats = floats.entry.now; bytes = bytes.old } in
+        record { floats = floats.exit.now; bytes = bytes.new } ≡ placed l k (enter (query_of q.now) (place_of l k)) }
 {
     let a = PLACE_FLOATS * k;
     let b = a + PLACE_FLOATS;
     desk_place::enter_floats(
         &mut floats[a..b],
-        m,
-        sheets,
-        temperature,
-        fractions,
-        densities,
+        q.m,
+        q.sheets,
+        q.temperature,
+        q.fractions,
+        q.densities,
     );
     let c = PLACE_BYTES * k;
     let d = c + PLACE_BYTES;
-    desk_place::enter_bytes(&mut bytes[c..d], count, orders, non_additive);
+    desk_place::enter_bytes(&mut bytes[c..d], q.count, q.orders, q.non_additive);
 }
 
 // A query takes the lowest free place and is told it. 1, 4, 2, then 17 where all are occupied.
-pub fn submit(
-    floats: &mut [f64],
-    bytes: &mut [u8],
-    count: usize,
-    m: &[f64],
-    sheets: &[f64],
-    orders: &[u8],
-    temperature: f64,
-    fractions: &[f64],
-    densities: &[f64],
-    non_additive: bool,
-) -> Result<usize, Refusal>
-    ensures { let s : QuantumLists = record { count = count; m = m.now; sheets = sheets.now; orders = orders.now } in
-        let q : Query = record { lists = s; temperature = temperature; fractions = fractions.now; densities = densities.now; wanted = non_additive } in
-        let l : Lists = record { floats = floats.entry.now; bytes = bytes.old } in
-        (answer result ≡ place_told (submitted l q)) × (record { floats = floats.exit.now; bytes = bytes.new } ≡ entered_of l (submitted l q)) }
+pub fn submit(floats: &mut [f64], bytes: &mut [u8], q: &DeskQuery) -> Result<usize, Refusal>
+    ensures { let l : Lists = record { floats = floats.entry.now; bytes = bytes.old } in
+        let a = submitted l (query_of q.now) in
+        (answer result ≡ place_told a) × (record { floats = floats.exit.now; bytes = bytes.new } ≡ entered_of l a) }
 {
     if !right_desk(floats.len(), bytes.len()) {
         return Err(Refusal::Length);
     }
-    door(
-        count,
-        m,
-        sheets,
-        orders,
-        temperature,
-        fractions,
-        densities,
-        non_additive,
-    )?;
+    door(q)?;
     let k = seek(bytes, false, 0);
     if k == PLACES {
         return Err(Refusal::Occupied);
     }
-    enter(
-        floats,
-        bytes,
-        k,
-        count,
-        m,
-        sheets,
-        orders,
-        temperature,
-        fractions,
-        densities,
-        non_additive,
-    );
+    enter(floats, bytes, k, q);
     Ok(k)
 }
 

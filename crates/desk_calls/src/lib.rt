@@ -11,7 +11,7 @@ ghost use Rattle.desk_place.specs.Place.{Query};
 ghost use Rattle.desk.specs.Desk.{begun, submitted};
 ghost use Rattle.desk_calls.specs.Calls.{Lent, handed, served_call};
 
-use desk::Served;
+use desk::{DeskQuery, Served};
 use number::Refusal;
 use saftvrqmie_energies::QuantumEnergies;
 
@@ -24,7 +24,7 @@ pub fn begin(floats: &mut [f64], bytes: &mut [u8]) -> u8
     mie_parameters::number(answer)
 }
 
-// A query takes the lowest free place and is told it. 1, 4, 2, then 17 where all are occupied.
+// A query takes the lowest free place and is told it. 1, 4, 2, then 17 where all are occupied. The parameters are those of the C call, which hands them on.
 pub fn submit(
     floats: &mut [f64],
     bytes: &mut [u8],
@@ -44,9 +44,7 @@ pub fn submit(
         let a = submitted l.desk q in
         (result ≡ status a) × (record { desk = record { floats = floats.exit.now; bytes = bytes.new }; place = place.new } ≡ stored l a) }
 {
-    let answer = desk::submit(
-        floats,
-        bytes,
+    let query = DeskQuery {
         count,
         m,
         sheets,
@@ -55,7 +53,8 @@ pub fn submit(
         fractions,
         densities,
         non_additive,
-    );
+    };
+    let answer = desk::submit(floats, bytes, &query);
     match answer {
         Err(r) => r.code(),
         Ok(k) => {

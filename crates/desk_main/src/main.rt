@@ -1,37 +1,28 @@
 // Works the calls of data/calls.bin at one desk, through the operations behind the C boundary. A record is eight words, least significant byte first; docs/VECTORS.md says which. Writes for each call its answer and what it tells.
 #![tactic(auto)]
 
-ghost use Rattle.std.specs.Prelude.{◌<◌};
-
 use desk::{BYTES, FLOATS};
 use number::bits_of;
-use records::{Records, part, word};
+use records::{Records, part};
 use sizes::{SHEET, SHEETS, SIDE};
 use std::array;
 use std::fs::File;
 use std::io::{self, Read};
 
-// A word of a record as a float.
-fn float_at(record: &[u8; 64], k: usize) -> f64
-    requires { k < 8 }
-{
-    number::of_bits(word(record, k))
-}
-
-// All pairs alike, but for one place of sigma; c is 4, the exponents 12 and 6.
-fn entry(record: &[u8; 64], k: usize) -> f64 {
+// All pairs alike, but for one place of sigma; c is 4, the exponents 12 and 6. f is the record's words as floats.
+fn entry(record: &[u8; 64], f: &[f64; 8], k: usize) -> f64 {
     match k / SHEET {
         0 => {
             if k == usize::from(record[6]) {
-                return float_at(record, 7);
+                return f[7];
             }
-            float_at(record, 4)
+            f[4]
         }
-        1 => float_at(record, 5),
+        1 => f[5],
         2 => 4.0,
         3 => 12.0,
         4 => 6.0,
-        _ => float_at(record, 6),
+        _ => f[6],
     }
 }
 
@@ -47,11 +38,12 @@ fn submit(
     floats: &mut [f64],
     bytes: &mut [u8],
 ) -> io::Result<()> {
-    let sheets: [f64; SHEETS] = array::from_fn(|k| entry(record, k));
+    let f: [f64; 8] = records::floats(record);
+    let sheets: [f64; SHEETS] = array::from_fn(|k| entry(record, &f, k));
     let orders = [record[5]; SHEET];
     let m = [1.0; SIDE];
-    let fractions = [float_at(record, 2); SIDE];
-    let densities = [float_at(record, 3); SIDE];
+    let fractions = [f[2]; SIDE];
+    let densities = [f[3]; SIDE];
     let mut place = 99;
     let answer = desk_calls::submit(
         floats,
@@ -60,7 +52,7 @@ fn submit(
         &m,
         &sheets,
         &orders,
-        float_at(record, 1),
+        f[1],
         part(&fractions, 0, usize::from(record[2])),
         part(&densities, 0, usize::from(record[3])),
         record[4] != 0,

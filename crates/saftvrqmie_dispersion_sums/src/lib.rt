@@ -350,6 +350,7 @@ fn third<D: DualNum>(
 }
 
 // n_s is summed anew, as in the Rust. xs and alphas are room: a run of any numbers has no array of its own.
+// The operation has refused other counts and lists with 1.
 pub fn helmholtz_energy_density<D: DualNum>(
     s: &State<D>,
     m: &[f64; SIDE],

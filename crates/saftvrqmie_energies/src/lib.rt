@@ -45,6 +45,7 @@ pub fn right_lengths(n: usize, x: &[f64], rho: &[f64], table: &[f64]) -> bool
 }
 
 // The three contributions of a state, in any run; a part that is not wanted is +0, and nothing of it is worked. xs and alphas are room. 6.
+// The operation has refused other counts and lists with 1.
 pub fn contributions<D: DualNum>(
     s: &State<D>,
     m: &[f64; SIDE],
@@ -77,7 +78,7 @@ pub fn contributions<D: DualNum>(
     })
 }
 
-// Hard sphere, dispersion and, if wanted, non-additive, over a set's parts. 1, 2, 6, 7.
+// Hard sphere, dispersion and, if wanted, non-additive, over a set's parts, as the boundary reads them: a set made of them would be copied. 1, 2, 6, 7.
 pub fn energies_of(
     n: usize,
     m: &[f64; SIDE],

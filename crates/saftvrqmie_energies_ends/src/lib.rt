@@ -56,7 +56,7 @@ fn all_sound(h: Enclosure, d: Enclosure, a: Enclosure) -> bool
     x.sound & y.sound & z.sound
 }
 
-// The enclosures of hard sphere, dispersion and, if wanted, non-additive, over a set's parts. 1, 2, 6, 7.
+// The enclosures of hard sphere, dispersion and, if wanted, non-additive, over a set's parts, as the boundary reads them: a set made of them would be copied. 1, 2, 6, 7.
 pub fn enclosures_of(
     n: usize,
     m: &[f64; SIDE],

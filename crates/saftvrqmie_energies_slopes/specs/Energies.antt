@@ -1,27 +1,27 @@
 -- The quantum energies with slopes (document 02, Slip 1), from a set, and a temperature, fractions, densities and a table that carry slopes: 'each contribution coming back as value and slope'.
-use Rattle.std.specs.Prelude.{Float, Bool, ◌&&◌, List, Err, Ok, Result}
+use Rattle.std.specs.Prelude.{Float, Bool, ◌&&◌, List, Result}
 use Rattle.number.specs.declared.refusal.Refusal.{Refusal}
-use Rattle.number.specs.Answer.{code}
+use Rattle.number.specs.Answer.{answer_by}
 use Rattle.std.specs.Float.Ieee.Scale.{finite}
-use Rattle.number.specs.Ans.{Ans, held, refused, ◌>>=◌, demand}
+use Rattle.number.specs.Ans.{Ans, held, ◌>>=◌, demand}
 use Rattle.number.specs.Functions.{Answers}
+use Rattle.dual.specs.declared.Dual.{Dual}
 use Rattle.dual.specs.Dual.{DualOf}
 use Rattle.dual.specs.Value.{dual_of}
 use Rattle.slopes.specs.Mixed.{Mixed, sloped, as_dual, mixed_one}
 use Rattle.slopes.specs.Rules.{mixed_functions}
 use Rattle.saftvrqmie_parameters.specs.declared.SaftVRQMiePars.{SaftVRQMiePars}
 use Rattle.saftvrqmie_hard_sphere.specs.State.{points}
-use Rattle.saftvrqmie_energies.specs.Energies.{EnergiesIn, contributions}
+use Rattle.saftvrqmie_energies.specs.Energies.{EnergiesIn, each_by, contributions}
 use Rattle.saftvrqmie_energies_slopes.specs.State.{sloped_at, sloped_sheets}
-use Rattle.saftvrqmie_energies_slopes.specs.declared.QuantumEnergiesSlopes.{QuantumEnergiesSlopes}
+use Rattle.saftvrqmie_energies.specs.declared.Energies.{Energies}
 
-abbrev pub energies_slopes_in : QuantumEnergiesSlopes → EnergiesIn (DualOf Float)
-energies_slopes_in e = record { hard_sphere = dual_of e.hard_sphere; dispersion = dual_of e.dispersion; non_additive = dual_of e.non_additive }
+abbrev pub energies_slopes_in : Energies Dual → EnergiesIn (DualOf Float)
+energies_slopes_in = each_by dual_of
 
 -- document 01's number or values of each case of `(Result QuantumEnergiesSlopes Refusal)`
-abbrev pub energies_slopes_answer : Result QuantumEnergiesSlopes Refusal → Ans (EnergiesIn (DualOf Float))
-energies_slopes_answer (Ok e) = held (energies_slopes_in e)
-energies_slopes_answer (Err r) = refused (code r)
+abbrev pub energies_slopes_answer : Result (Energies Dual) Refusal → Ans (EnergiesIn (DualOf Float))
+energies_slopes_answer = answer_by energies_slopes_in
 
 -- each contribution as a D: a part that is not wanted is +0 with slope +0
 abbrev pub as_duals : EnergiesIn Mixed → EnergiesIn (DualOf Float)

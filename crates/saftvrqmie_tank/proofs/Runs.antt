@@ -11,11 +11,12 @@ use Rattle.number.specs.Lists.{at}
 use Rattle.number.specs.Walk.{walk}
 use Rattle.number.proofs.Rel.{Rel, Both, both_held, both_refused, then_both, walk_rel, cond_rel, calls_rel}
 use Rattle.number.proofs.Walk.{then_held, held_inj}
+use Rattle.elementary.specs.Port.{port}
 use Rattle.limits.specs.Limits.{state_within}
 use Rattle.saftvrqmie_parameters.specs.declared.SaftVRQMiePars.{SaftVRQMiePars}
-use Rattle.saftvrqmie_energies.specs.Energies.{EnergiesIn, state_lengths, energies_finite, energies_from}
+use Rattle.saftvrqmie_energies.specs.Energies.{EnergiesIn, state_lengths, energies_finite, contributions_of, energies_from, energies_by, energies}
 use Rattle.saftvrqmie_energies.proofs.Relation.{EnergiesR, contributions_of_rel}
-use Rattle.saftvrqmie_tank.specs.Tank.{TankLists, Layer, layer_at, layers_within, tank_lengths, layer_within, piled, layer_piled, tank_sum, tank_run, layer_from, layers_from, tank_from, runs_by}
+use Rattle.saftvrqmie_tank.specs.Tank.{TankLists, Layer, layer_at, layers_within, tank_lengths, layer_within, piled, layer_piled, tank_sum, tank_run, layer_from, layers_from, tank_from, runs_by, layer_run, table_of, layer_of, layers_of, behind, layer_answer, layers_answer}
 
 -- ---- one answer beside itself
 pub same : {S : Type 0} (a : Ans S) → Both (λ (x y : S). x ≡ y) a a
@@ -79,7 +80,7 @@ module _ (s : SaftVRQMiePars) where
       let d = then_held (demand 7 (energies_finite c.0)) _ v c.2 in
       subst (λ (u : EnergiesIn Float). run ≡ held u) (held_inj _ v d.2) c.1
 
-  layer_passes : (y : Layer) (tabled : Ans (List Float)) (run : List Float → Ans (EnergiesIn Float)) (v : EnergiesIn Float) → layer_from s y tabled run ≡ held v → (tabled >>= run) ≡ held v
+  pub layer_passes : (y : Layer) (tabled : Ans (List Float)) (run : List Float → Ans (EnergiesIn Float)) (v : EnergiesIn Float) → layer_from s y tabled run ≡ held v → (tabled >>= run) ≡ held v
   unfolding layer_from ◌>>=◌
   layer_passes y tabled run v h =
       let a = then_held (demand 2 (layer_within s.count y)) _ v h in
@@ -96,3 +97,31 @@ module _ (s : SaftVRQMiePars) where
         let d = then_held (demand 7 (energies_finite c.0)) _ v c.2 in
         let e = subst (λ (u : EnergiesIn Float). layers_from s q tables wanted run ≡ held u) (held_inj _ v d.2) c.1 in
         sum_passes floats q wanted _ _ v (λ l w p. layer_passes (layer_at s.count q l) (tables l) (run l) w p) e
+
+-- ---- the float run behind the float operation is that operation
+behind_itself : {S : Type 0} (a run : Ans S) → ((v : S) → a ≡ held v → run ≡ held v) → (a >>= λ _. run) ≡ a
+unfolding ◌>>=◌
+behind_itself (held v) run h = h v refl
+behind_itself (refused n) run h = refl
+
+pub float_run : (s : SaftVRQMiePars) (t : Float) (x rho table : List Float) (wanted : Bool) → behind (energies s t x rho table wanted) (contributions_of floats (calls floats port) s t x rho table wanted) ≡ energies s t x rho table wanted
+unfolding energies_by
+float_run s t x rho table wanted = behind_itself _ _ (energies_passes s t x rho table (contributions_of floats (calls floats port) s t x rho table wanted))
+
+layer_same : (s : SaftVRQMiePars) (y : Layer) (wanted : Bool) → layer_answer floats s y wanted ≡ layer_of s y wanted
+unfolding layer_answer
+layer_same s y wanted = behind_itself _ _ (layer_passes s y (table_of s y) (layer_run floats (calls floats port) s y wanted))
+
+then_same : {S T : Type 0} (a : Ans S) (f g : S → Ans T) → ((v : S) → f v ≡ g v) → (a >>= f) ≡ (a >>= g)
+unfolding ◌>>=◌
+then_same (held v) f g h = h v
+then_same (refused n) f g h = refl
+
+walk_same : {S : Type 0} (n : ℕ) (f g : ℕ → S → Ans S) (s : S) → ((l : ℕ) (x : S) → f l x ≡ g l x) → walk n f s ≡ walk n g s
+unfolding walk
+walk_same zero f g s h = refl
+walk_same (suc n) f g s h = rw (walk_same n f g s h) (then_same (walk n g s) (f n) (g n) (h n))
+
+pub layers_same : (s : SaftVRQMiePars) (q : TankLists) (wanted : Bool) → layers_answer floats s q wanted ≡ layers_of s q wanted
+unfolding tank_sum
+layers_same s q wanted = walk_same q.layers _ _ _ (λ l x. rw (layer_same s (layer_at s.count q l) wanted) refl)

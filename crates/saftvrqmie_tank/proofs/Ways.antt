@@ -15,6 +15,8 @@ use borrow.Author.Tests.{eqb-true, leb-true}
 use Rattle.number.specs.Answer.{code}
 use Rattle.number.specs.Ans.{Ans, held, refused, ◌>>=◌, demand}
 use Rattle.number.specs.Arith.{Arith}
+use Rattle.number.specs.Functions.{calls}
+use Rattle.elementary.specs.Port.{port}
 use Rattle.number.specs.Lists.{at}
 use Rattle.number.specs.Walk.{walk}
 use Rattle.number.proofs.Walk.{walk_next, walk_stop}
@@ -24,8 +26,8 @@ use Rattle.mie_parameters.proofs.Laws.{and_left, and_right, count_high, held_at,
 use Rattle.mie_parameters.specs.Answer.{outcome, verdict, stored}
 use Rattle.saftvrqmie_parameters.specs.declared.SaftVRQMiePars.{SaftVRQMiePars}
 use Rattle.saftvrqmie.specs.Table.{Lent, blank, temperature_table, pairs_of}
-use Rattle.saftvrqmie_energies.specs.Energies.{EnergiesIn, energies_finite, energies_by, energies}
-use Rattle.saftvrqmie_tank.specs.Tank.{TankLists, Layer, most_layers, layer_at, layers_within, tank_lengths, layer_within, layer_piled, bottom, tank_sum, layer_from, table_of, layer_of, layers_of, tank_from, tank}
+use Rattle.saftvrqmie_energies.specs.Energies.{EnergiesIn, contributions_of, energies_finite, energies_by, energies}
+use Rattle.saftvrqmie_tank.specs.Tank.{TankLists, Layer, most_layers, layer_at, layers_within, tank_lengths, layer_within, layer_piled, bottom, tank_sum, layer_from, table_of, layer_of, layers_of, tank_from, tank, behind, layer_answer}
 
 -- ---- lengths and places
 pub product_small : (n k : ℕ) → n ≤ side → k ≤ most_layers → n * k ≤ side * most_layers
@@ -105,43 +107,46 @@ pub verdict_refused : {S : Type 0} (a : Ans S) (r : Result (Unit {0}) Refusal) (
 verdict_refused a r k p e = was_not a (code k) (refused_at r true (verdict a) k p e)
 
 -- ---- a layer
-module _ (s : SaftVRQMiePars) (y : Layer) (wanted : Bool) where
-  pub layer_2 : layer_within s.count y ≡ false → refused 2 ≡ layer_of s y wanted
-  unfolding layer_from demand ◌>>=◌
+module _ (A : Arith) (s : SaftVRQMiePars) (y : Layer) (wanted : Bool) where
+  pub layer_2 : layer_within s.count y ≡ false → refused 2 ≡ layer_answer A s y wanted
+  unfolding layer_answer layer_from demand ◌>>=◌
   layer_2 p = rw p
 
   module _ (p : layer_within s.count y ≡ true) where
-    abbrev pub worked : Ans Lent
+    abbrev worked : Ans Lent
     worked = temperature_table (pairs_of s.count s.sheets s.orders) y.temperature blank
 
-    pub table_reads_no_m : temperature_table s y.temperature blank ≡ worked
+    table_reads_no_m : temperature_table s y.temperature blank ≡ worked
     unfolding temperature_table
     table_reads_no_m = refl
 
-    pub layer_table : (a : Ans (EnergiesIn Float)) (k : ℕ) → worked ≡ refused k → a ≡ refused k → a ≡ layer_of s y wanted
-    unfolding layer_from table_of demand ◌>>=◌
+    pub layer_table : (a : Ans (EnergiesIn A.Num)) (k : ℕ) → worked ≡ refused k → a ≡ refused k → a ≡ layer_answer A s y wanted
+    unfolding layer_answer layer_from table_of demand ◌>>=◌
     layer_table a k q r = rw (p, table_reads_no_m, q, r)
 
-    pub layer_energies : (a : Ans (EnergiesIn Float)) (w : Lent) (table : List Float) → worked ≡ held w → table ≡ w.values → a ≡ energies s y.temperature y.fractions y.densities table wanted → a ≡ layer_of s y wanted
-    unfolding layer_from table_of energies_by demand ◌>>=◌
+    pub layer_energies : (a : Ans (EnergiesIn A.Num)) (w : Lent) (table : List Float) → worked ≡ held w → table ≡ w.values → a ≡ behind (energies s y.temperature y.fractions y.densities table wanted) (contributions_of A (calls A port) s y.temperature y.fractions y.densities table wanted) → a ≡ layer_answer A s y wanted
+    unfolding layer_answer layer_from table_of energies_by demand ◌>>=◌
     layer_energies a w table q e r = rw (p, table_reads_no_m, q, ← e) r
 
 -- what layer l answers
 abbrev pub answers_of : SaftVRQMiePars → TankLists → Bool → ℕ → Ans (EnergiesIn Float)
 answers_of s q wanted l = layer_of s (layer_at s.count q l) wanted
 
+abbrev pub answers_in : (A : Arith) → SaftVRQMiePars → TankLists → Bool → ℕ → Ans (EnergiesIn A.Num)
+answers_in A s q wanted l = layer_answer A s (layer_at s.count q l) wanted
+
 abbrev part : ℕ → ℕ → List Float → List Float
 part n l d = take (n * l + n - n * l) (drop (n * l) d)
 
-abbrev pub lent_layer : ℕ → TankLists → ℕ → Layer
+abbrev lent_layer : ℕ → TankLists → ℕ → Layer
 lent_layer n q l = record { temperature = at q.temperatures l; fractions = part n l q.fractions; densities = part n l q.densities; volume = at q.volumes l }
 
-pub layer_is : (n : ℕ) (q : TankLists) (l : ℕ) → lent_layer n q l ≡ layer_at n q l
+layer_is : (n : ℕ) (q : TankLists) (l : ℕ) → lent_layer n q l ≡ layer_at n q l
 unfolding layer_at
 layer_is n q l = rw (part_is n l q.fractions, part_is n l q.densities)
 
-pub answer_at : (s : SaftVRQMiePars) (q : TankLists) (wanted : Bool) (l : ℕ) (a : Ans (EnergiesIn Float)) → a ≡ layer_of s (lent_layer s.count q l) wanted → a ≡ answers_of s q wanted l
-answer_at s q wanted l a h = h ∙ ap (λ (y : Layer). layer_of s y wanted) (layer_is s.count q l)
+pub answer_at : (A : Arith) (s : SaftVRQMiePars) (q : TankLists) (wanted : Bool) (l : ℕ) (a : Ans (EnergiesIn A.Num)) → a ≡ layer_answer A s (lent_layer s.count q l) wanted → a ≡ answers_in A s q wanted l
+answer_at A s q wanted l a h = h ∙ ap (λ (y : Layer). layer_answer A s y wanted) (layer_is s.count q l)
 
 -- ---- the layers, in any run
 module _ (A : Arith) (q : TankLists) (wanted : Bool) (answers : ℕ → Ans (EnergiesIn A.Num)) where

@@ -11,6 +11,7 @@ use Rattle.limits.specs.Limits.{count_within, state_within}
 use Rattle.saftvrqmie_parameters.specs.declared.SaftVRQMiePars.{SaftVRQMiePars}
 use Rattle.saftvrqmie.specs.Table.{blank, temperature_table}
 use Rattle.saftvrqmie_energies.specs.Energies.{EnergiesIn, contributions_of, energies_finite, energies_from}
+use Rattle.saftvrqmie_tank.specs.declared.Layers.{Layers}
 
 -- 'Take 1 to 32 layers'
 abbrev pub most_layers : ℕ
@@ -23,6 +24,16 @@ pub record TankLists : Type 0 where
   pub fractions : List Float
   pub densities : List Float
   pub volumes : List Float
+
+abbrev pub lists_of : Layers → TankLists
+lists_of q =
+    record {
+      layers = q.layers;
+      temperatures = q.temperatures.now;
+      fractions = q.fractions.now;
+      densities = q.densities.now;
+      volumes = q.volumes.now;
+    }
 
 -- 'each with its temperature, densities, fractions and volume'
 pub record Layer : Type 0 where
@@ -137,3 +148,13 @@ layers_of s q wanted = layers_from s q (tables_of s q) wanted (runs_by floats po
 
 abbrev pub tank : SaftVRQMiePars → TankLists → Bool → Ans (EnergiesIn Float)
 tank s q wanted = tank_from s q (tables_of s q) wanted (runs_by floats port s q wanted)
+
+-- ---- for the contracts of helpers alone: any run behind the float operation, whose refusals go first
+abbrev pub behind : {N : Type 0} → Ans (EnergiesIn Float) → Ans (EnergiesIn N) → Ans (EnergiesIn N)
+behind float run = float >>= λ _. run
+
+unfoldable pub layer_answer : (A : Arith) → SaftVRQMiePars → Layer → Bool → Ans (EnergiesIn A.Num)
+layer_answer A s y wanted = behind (layer_of s y wanted) (table_of s y >>= layer_run A (calls A port) s y wanted)
+
+abbrev pub layers_answer : (A : Arith) → SaftVRQMiePars → TankLists → Bool → Ans (EnergiesIn A.Num)
+layers_answer A s q wanted = tank_sum A q wanted (λ l. layer_answer A s (layer_at s.count q l) wanted)

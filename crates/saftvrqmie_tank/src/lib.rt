@@ -1,21 +1,105 @@
-// Slip 10: the energies of a tank in layers, over one quantum set.
+// Slip 10: the energies of a tank in layers, over one quantum set; the walk over its layers, of the float and of the two-ended run.
 #![tactic(auto)]
 
-ghost use Rattle.std.specs.Prelude.{◌≡◌, true, cond, ◌≤◌, length};
-ghost use Rattle.number.specs.Arith.{floats, zero64};
+ghost use Rattle.std.specs.Prelude.{◌≡◌, true, cond, ◌≤◌, length, Bool};
+ghost use Rattle.number.specs.Answer.{answer_by};
+ghost use Rattle.number.specs.Arith.{zero64};
 ghost use Rattle.number.specs.Functions.{calls};
 ghost use Rattle.elementary.specs.Port.{port};
-ghost use Rattle.saftvrqmie_parameters.specs.declared.SaftVRQMiePars.{SaftVRQMiePars};
-ghost use Rattle.saftvrqmie_energies.specs.Energies.{energies_in, energies_answer, energies_finite};
-ghost use Rattle.saftvrqmie_tank.specs.Tank.{TankLists, Layer, most_layers, layers_within, tank_lengths, volume_within, layer_within, piled, layer_piled, layer_of, layers_of, tank};
+ghost use Rattle.saftvrqmie_energies.specs.Energies.{each_by, energies_answer, energies_finite, contributions_of, energies};
+ghost use Rattle.saftvrqmie_tank.specs.Tank.{Layer, most_layers, lists_of, layers_within, tank_lengths, volume_within, layer_within, piled, layer_piled, behind, layer_answer, layers_answer, tank};
 
+use enclosure::Enclosure;
 use number::Refusal;
-use saftvrqmie_energies::QuantumEnergies;
-use saftvrqmie_parameters::{OrderRecord, SaftVRQMiePars};
-use sizes::{COUNTS, SHEET, SHEETS, SIDE, TABLE};
+use plain_num::PlainNum;
+use saftvrqmie_energies::{Energies, QuantumEnergies};
+use saftvrqmie_parameters::SaftVRQMiePars;
+use sizes::{COUNTS, TABLE};
 
 // The most layers of a tank.
 pub const LAYERS: usize = 32;
+
+// How many layers, and their lists, from the bottom up: a temperature and a volume each, a fraction and a density for each component.
+#[derive(Clone, Copy)]
+pub struct Layers<'a> {
+    pub layers: usize,
+    pub temperatures: &'a [f64],
+    pub fractions: &'a [f64],
+    pub densities: &'a [f64],
+    pub volumes: &'a [f64],
+}
+
+// A run that works a layer's energies from its table. 1, 2, 6, 7 of the float run.
+pub trait LayerRun: PlainNum {
+    fn energies(
+        set: &SaftVRQMiePars,
+        temperature: f64,
+        fractions: &[f64],
+        densities: &[f64],
+        table: &[f64],
+        non_additive: bool,
+    ) -> Result<Energies<Self>, Refusal>
+        ensures { let s = set.now in
+            let float = energies s temperature fractions.now densities.now table.now non_additive in
+            let A = Self.beside true in
+            answer_by (each_by (Self.of true)) result ≡ behind float (contributions_of A (calls A port) s temperature fractions.now densities.now table.now non_additive) };
+}
+
+impl LayerRun for f64 {
+    fn energies(
+        set: &SaftVRQMiePars,
+        temperature: f64,
+        fractions: &[f64],
+        densities: &[f64],
+        table: &[f64],
+        non_additive: bool,
+    ) -> Result<Energies<f64>, Refusal> {
+        let e = saftvrqmie_energies::energies_of(
+            set.count,
+            &set.m,
+            &set.sheets,
+            set.orders,
+            temperature,
+            fractions,
+            densities,
+            table,
+            non_additive,
+        )?;
+        Ok(Energies {
+            hard_sphere: e.hard_sphere,
+            dispersion: e.dispersion,
+            non_additive: e.non_additive,
+        })
+    }
+}
+
+impl LayerRun for Enclosure {
+    fn energies(
+        set: &SaftVRQMiePars,
+        temperature: f64,
+        fractions: &[f64],
+        densities: &[f64],
+        table: &[f64],
+        non_additive: bool,
+    ) -> Result<Energies<Enclosure>, Refusal> {
+        let e = saftvrqmie_energies_ends::enclosures_of(
+            set.count,
+            &set.m,
+            &set.sheets,
+            set.orders,
+            temperature,
+            fractions,
+            densities,
+            table,
+            non_additive,
+        )?;
+        Ok(Energies {
+            hard_sphere: e.hard_sphere,
+            dispersion: e.dispersion,
+            non_additive: e.non_additive,
+        })
+    }
+}
 
 // 14.
 pub fn layers_within(layers: usize) -> bool
@@ -25,33 +109,18 @@ pub fn layers_within(layers: usize) -> bool
 }
 
 // 1: the count, and the length of each list.
-pub fn tank_lengths(
-    n: usize,
-    layers: usize,
-    temperatures: &[f64],
-    fractions: &[f64],
-    densities: &[f64],
-    volumes: &[f64],
-) -> bool
-    requires { layers ≤ most_layers }
-    ensures { let q : TankLists =
-        record {
-          layers = layers;
-          temperatures = temperatures.now;
-          fractions = fractions.now;
-          densities = densities.now;
-          volumes = volumes.now;
-        } in
-        result ≡ tank_lengths n q }
+pub fn tank_lengths(n: usize, q: &Layers) -> bool
+    requires { q.now.layers ≤ most_layers }
+    ensures { result ≡ tank_lengths n (lists_of q.now) }
 {
     if !limits::count_within(n) {
         return false;
     }
-    let places = n * layers;
-    (temperatures.len() == layers)
-        & (fractions.len() == places)
-        & (densities.len() == places)
-        & (volumes.len() == layers)
+    let places = n * q.layers;
+    (q.temperatures.len() == q.layers)
+        & (q.fractions.len() == places)
+        & (q.densities.len() == places)
+        & (q.volumes.len() == q.layers)
 }
 
 fn volume_within(v: f64) -> bool
@@ -70,66 +139,62 @@ pub fn layer_within(n: usize, t: f64, x: &[f64], rho: &[f64], volume: f64) -> bo
 }
 
 // A layer's table and energies. 2 before all else of it, the table's 6 and 7, the energies' 6 and 7.
-fn layer_of(
-    n: usize,
-    m: &[f64; SIDE],
-    sheets: &[f64; SHEETS],
-    orders: [OrderRecord; SHEET],
+fn layer_of<D: LayerRun>(
+    set: &SaftVRQMiePars,
     temperature: f64,
     fractions: &[f64],
     densities: &[f64],
     volume: f64,
     non_additive: bool,
-) -> Result<QuantumEnergies, Refusal>
-    requires { (length fractions.now ≡ n) × (length densities.now ≡ n) }
-    ensures { let set : SaftVRQMiePars = record { count = n; m = m.now; sheets = sheets.now; orders = orders } in
-        let y : Layer = record { temperature = temperature; fractions = fractions.now; densities = densities.now; volume = volume } in
-        energies_answer result ≡ layer_of set y non_additive }
+) -> Result<Energies<D>, Refusal>
+    requires { (length fractions.now ≡ set.now.count) × (length densities.now ≡ set.now.count) }
+    ensures { let y : Layer = record { temperature = temperature; fractions = fractions.now; densities = densities.now; volume = volume } in
+        answer_by (each_by (D.of true)) result ≡ layer_answer (D.beside true) set.now y non_additive }
 {
+    let n = set.count;
     if !layer_within(n, temperature, fractions, densities, volume) {
         return Err(Refusal::Limit);
     }
     let mut table = [0.0; TABLE];
     let mut counts = [0u8; COUNTS];
-    saftvrqmie::table_of(n, sheets, orders, temperature, &mut table, &mut counts)?;
-    saftvrqmie_energies::energies_of(
+    saftvrqmie::table_of(
         n,
-        m,
-        sheets,
-        orders,
+        &set.sheets,
+        set.orders,
         temperature,
-        fractions,
-        densities,
-        &table,
-        non_additive,
-    )
+        &mut table,
+        &mut counts,
+    )?;
+    D::energies(set, temperature, fractions, densities, &table, non_additive)
 }
 
-fn piled(volume: f64, temperature: f64, energy: f64, below: f64) -> f64
-    ensures { result ≡ piled floats volume temperature energy below }
+fn piled<D: PlainNum>(volume: f64, temperature: f64, energy: D, below: D) -> D
+    ensures { (w : Bool) → D.of w result ≡ piled (D.beside w) volume temperature (D.of w energy) (D.of w below) }
 {
-    below + energy * volume * temperature
+    let v = D::entered(volume);
+    let t = D::entered(temperature);
+    below + energy * v * t
 }
 
 // Not wanted: +0, and nothing of it is worked.
-fn wanted_pile(wanted: bool, volume: f64, temperature: f64, energy: f64, below: f64) -> f64
-    ensures { result ≡ cond wanted (piled floats volume temperature energy below) zero64 }
+fn wanted_pile<D: PlainNum>(wanted: bool, volume: f64, temperature: f64, energy: D, below: D) -> D
+    ensures { (w : Bool) → D.of w result ≡ cond wanted (piled (D.beside w) volume temperature (D.of w energy) (D.of w below)) ((D.beside w).lit zero64) }
 {
     if !wanted {
-        return 0.0;
+        return D::entered(0.0);
     }
     piled(volume, temperature, energy, below)
 }
 
 // A layer's energies on those of the layers below it.
-fn layer_piled(
+fn layer_piled<D: PlainNum>(
     wanted: bool,
     volume: f64,
     temperature: f64,
-    e: QuantumEnergies,
-    below: QuantumEnergies,
-) -> QuantumEnergies
-    ensures { energies_in result ≡ layer_piled floats wanted volume temperature (energies_in e) (energies_in below) }
+    e: Energies<D>,
+    below: Energies<D>,
+) -> Energies<D>
+    ensures { (w : Bool) → each_by (D.of w) result ≡ layer_piled (D.beside w) wanted volume temperature (each_by (D.of w) e) (each_by (D.of w) below) }
 {
     let h = piled(volume, temperature, e.hard_sphere, below.hard_sphere);
     let d = piled(volume, temperature, e.dispersion, below.dispersion);
@@ -140,154 +205,71 @@ fn layer_piled(
         e.non_additive,
         below.non_additive,
     );
-    QuantumEnergies {
+    Energies {
         hard_sphere: h,
         dispersion: d,
         non_additive: a,
     }
 }
 
-// From the bottom up, from +0. 2, 6, 7 of the first layer that is refused.
-fn layers_of(
-    n: usize,
-    m: &[f64; SIDE],
-    sheets: &[f64; SHEETS],
-    orders: [OrderRecord; SHEET],
-    layers: usize,
-    temperatures: &[f64],
-    fractions: &[f64],
-    densities: &[f64],
-    volumes: &[f64],
+// From the bottom up, from +0. 2, 6, 7 of the first layer that is refused. The layer count and the lists were tested with 14 and 1.
+pub fn layers_of<D: LayerRun>(
+    set: &SaftVRQMiePars,
+    q: &Layers,
     non_additive: bool,
-) -> Result<QuantumEnergies, Refusal>
-    requires { let q : TankLists = record { layers = layers; temperatures = temperatures.now; fractions = fractions.now; densities = densities.now; volumes = volumes.now } in
-        (layers ≤ most_layers) × (tank_lengths n q ≡ true) }
-    ensures { let set : SaftVRQMiePars = record { count = n; m = m.now; sheets = sheets.now; orders = orders } in
-        let q : TankLists =
-        record {
-          layers = layers;
-          temperatures = temperatures.now;
-          fractions = fractions.now;
-          densities = densities.now;
-          volumes = volumes.now;
-        } in
-        energies_answer result ≡ layers_of set q non_additive }
+) -> Result<Energies<D>, Refusal>
+    requires { (q.now.layers ≤ most_layers) × (tank_lengths set.now.count (lists_of q.now) ≡ true) }
+    ensures { answer_by (each_by (D.of true)) result ≡ layers_answer (D.beside true) set.now (lists_of q.now) non_additive }
 {
-    let mut below = QuantumEnergies {
-        hard_sphere: 0.0,
-        dispersion: 0.0,
-        non_additive: 0.0,
+    let n = set.count;
+    let zero = D::entered(0.0);
+    let mut below = Energies {
+        hard_sphere: zero,
+        dispersion: zero,
+        non_additive: zero,
     };
-    for l in 0usize..layers {
+    for l in 0usize..q.layers {
         let from = n * l;
         let to = from + n;
-        let t = temperatures[l];
-        let v = volumes[l];
-        let e = layer_of(
-            n,
-            m,
-            sheets,
-            orders,
-            t,
-            &fractions[from..to],
-            &densities[from..to],
-            v,
-            non_additive,
-        )?;
+        let t = q.temperatures[l];
+        let v = q.volumes[l];
+        let x = &q.fractions[from..to];
+        let rho = &q.densities[from..to];
+        let e = layer_of::<D>(set, t, x, rho, v, non_additive)?;
         let next = layer_piled(non_additive, v, t, e, below);
         below = next;
     }
     Ok(below)
 }
 
-fn all_finite(e: QuantumEnergies) -> bool
-    ensures { result ≡ energies_finite (energies_in e) }
+// Of the float run's values, which the two-ended run has too.
+pub fn all_finite(hard_sphere: f64, dispersion: f64, non_additive: f64) -> bool
+    ensures { result ≡ energies_finite (record { hard_sphere = hard_sphere; dispersion = dispersion; non_additive = non_additive }) }
 {
-    number::is_finite(e.hard_sphere)
-        & number::is_finite(e.dispersion)
-        & number::is_finite(e.non_additive)
+    number::is_finite(hard_sphere) & number::is_finite(dispersion) & number::is_finite(non_additive)
 }
 
-// The tank's hard sphere, dispersion and, if wanted, non-additive, over a set's parts. 14, 1, then layer by layer 2, 6, 7, then 7 of the tank.
-pub fn tank_of(
-    n: usize,
-    m: &[f64; SIDE],
-    sheets: &[f64; SHEETS],
-    orders: [OrderRecord; SHEET],
-    layers: usize,
-    temperatures: &[f64],
-    fractions: &[f64],
-    densities: &[f64],
-    volumes: &[f64],
+// The tank's hard sphere, dispersion and, if wanted, non-additive. 14, 1, then layer by layer 2, 6, 7, then 7 of the tank.
+pub fn tank(
+    set: &SaftVRQMiePars,
+    q: &Layers,
     non_additive: bool,
 ) -> Result<QuantumEnergies, Refusal>
-    ensures { let set : SaftVRQMiePars = record { count = n; m = m.now; sheets = sheets.now; orders = orders } in
-        let q : TankLists =
-        record {
-          layers = layers;
-          temperatures = temperatures.now;
-          fractions = fractions.now;
-          densities = densities.now;
-          volumes = volumes.now;
-        } in
-        energies_answer result ≡ tank set q non_additive }
+    ensures { energies_answer result ≡ tank set.now (lists_of q.now) non_additive }
 {
-    if !layers_within(layers) {
+    if !layers_within(q.layers) {
         return Err(Refusal::Layers);
     }
-    if !tank_lengths(n, layers, temperatures, fractions, densities, volumes) {
+    if !tank_lengths(set.count, q) {
         return Err(Refusal::Length);
     }
-    let e = layers_of(
-        n,
-        m,
-        sheets,
-        orders,
-        layers,
-        temperatures,
-        fractions,
-        densities,
-        volumes,
-        non_additive,
-    )?;
-    if !all_finite(e) {
+    let e = layers_of::<f64>(set, q, non_additive)?;
+    if !all_finite(e.hard_sphere, e.dispersion, e.non_additive) {
         return Err(Refusal::NotFinite);
     }
-    Ok(e)
-}
-
-pub fn tank(
-    set: SaftVRQMiePars,
-    layers: usize,
-    temperatures: &[f64],
-    fractions: &[f64],
-    densities: &[f64],
-    volumes: &[f64],
-    non_additive: bool,
-) -> Result<QuantumEnergies, Refusal>
-    ensures { let q : TankLists =
-        record {
-          layers = layers;
-          temperatures = temperatures.now;
-          fractions = fractions.now;
-          densities = densities.now;
-          volumes = volumes.now;
-        } in
-        energies_answer result ≡ tank set q non_additive }
-{
-    let m = set.m;
-    let sheets = set.sheets;
-    let orders = set.orders;
-    tank_of(
-        set.count,
-        &m,
-        &sheets,
-        orders,
-        layers,
-        temperatures,
-        fractions,
-        densities,
-        volumes,
-        non_additive,
-    )
+    Ok(QuantumEnergies {
+        hard_sphere: e.hard_sphere,
+        dispersion: e.dispersion,
+        non_additive: e.non_additive,
+    })
 }

@@ -1,6 +1,6 @@
 -- Slip 10: the two ends of a tank's energies: the tank's refusals in their order, then 8, then the ends of each.
 use Rattle.std.specs.Prelude.{ℕ, Float, List, Bool}
-use Rattle.number.specs.Ans.{Ans, ◌>>=◌, demand}
+use Rattle.number.specs.Ans.{Ans}
 use Rattle.number.specs.Arith.{floats}
 use Rattle.number.specs.Functions.{Answers}
 use Rattle.elementary.specs.Port.{port}
@@ -9,8 +9,8 @@ use Rattle.enclosure.specs.declared.Ends.{Ends}
 use Rattle.enclosure.specs.Enclosure.{enclosures}
 use Rattle.saftvrqmie_parameters.specs.declared.SaftVRQMiePars.{SaftVRQMiePars}
 use Rattle.saftvrqmie_energies.specs.Energies.{EnergiesIn}
-use Rattle.saftvrqmie_energies_ends.specs.Operation.{each_ends_of, energies_enclosed}
-use Rattle.saftvrqmie_tank.specs.Tank.{TankLists, Layer, layer_at, layer_within, tank_sum, tank_run, tank_from, table_of, tables_of, runs_by}
+use Rattle.saftvrqmie_energies_ends.specs.Operation.{each_ends_of}
+use Rattle.saftvrqmie_tank.specs.Tank.{TankLists, tank_run, tank_from, tables_of, runs_by}
 
 -- 'Ends for the tank follow the outward rules over the layers' ends'; 'for the tank's ends, 8 in a layer or in the tank comes after all of these': an enclosure that is not sound leaves no sum sound
 abbrev pub tank_ends_from : SaftVRQMiePars → TankLists → (ℕ → Ans (List Float)) → Bool → (ℕ → List Float → Ans (EnergiesIn Float)) → (ℕ → List Float → Ans (EnergiesIn Enclosure)) → Ans (EnergiesIn Ends)
@@ -22,13 +22,3 @@ tank_ends_by E s q tables wanted = tank_ends_from s q tables wanted (runs_by flo
 
 abbrev pub tank_ends : SaftVRQMiePars → TankLists → Bool → Ans (EnergiesIn Ends)
 tank_ends s q wanted = tank_ends_by port s q (tables_of s q) wanted
-
--- for the contracts of helpers alone: a layer's refusals, then its enclosures, sound or not; and their sum
-unfoldable pub layer_enclosed : SaftVRQMiePars → Layer → Bool → Ans (EnergiesIn Enclosure)
-layer_enclosed s y wanted =
-    demand 2 (layer_within s.count y) >>= λ _.
-    table_of s y >>= λ table.
-    energies_enclosed port s y.temperature y.fractions y.densities table wanted
-
-abbrev pub layers_enclosed : SaftVRQMiePars → TankLists → Bool → Ans (EnergiesIn Enclosure)
-layers_enclosed s q wanted = tank_sum enclosures q wanted (λ l. layer_enclosed s (layer_at s.count q l) wanted)

@@ -3,15 +3,13 @@
 
 ghost use Rattle.std.specs.Prelude.{◌≡◌};
 ghost use Rattle.number.specs.Answer.{answer};
-ghost use Rattle.saftvrqmie_parameters.specs.declared.SaftVRQMiePars.{SaftVRQMiePars};
 ghost use Rattle.saftvrqmie_energies.specs.Energies.{energies_in};
 ghost use Rattle.saftvrqmie_total.specs.Total.{contributions_total, total};
 
 use number::Refusal;
 use rounded_sum::RoundedSum;
 use saftvrqmie_energies::QuantumEnergies;
-use saftvrqmie_parameters::{OrderRecord, SaftVRQMiePars};
-use sizes::{SHEET, SHEETS, SIDE};
+use saftvrqmie_parameters::SaftVRQMiePars;
 
 #[derive(Clone, Copy)]
 pub struct QuantumTotal {
@@ -41,26 +39,22 @@ pub fn contributions_total(e: QuantumEnergies, non_additive: bool) -> Result<Qua
     Ok(QuantumTotal { first, last })
 }
 
-// Over a set's parts. 1, 2, 6, 7.
-pub fn total_of(
-    n: usize,
-    m: &[f64; SIDE],
-    sheets: &[f64; SHEETS],
-    orders: [OrderRecord; SHEET],
+// 1, 2, 6, 7.
+pub fn total(
+    set: &SaftVRQMiePars,
     temperature: f64,
     fractions: &[f64],
     densities: &[f64],
     table: &[f64],
     non_additive: bool,
 ) -> Result<QuantumTotal, Refusal>
-    ensures { let set : SaftVRQMiePars = record { count = n; m = m.now; sheets = sheets.now; orders = orders } in
-        answer result ≡ total set temperature fractions.now densities.now table.now non_additive }
+    ensures { answer result ≡ total set.now temperature fractions.now densities.now table.now non_additive }
 {
     let e = saftvrqmie_energies::energies_of(
-        n,
-        m,
-        sheets,
-        orders,
+        set.count,
+        &set.m,
+        &set.sheets,
+        set.orders,
         temperature,
         fractions,
         densities,
@@ -68,30 +62,4 @@ pub fn total_of(
         non_additive,
     )?;
     contributions_total(e, non_additive)
-}
-
-pub fn total(
-    set: SaftVRQMiePars,
-    temperature: f64,
-    fractions: &[f64],
-    densities: &[f64],
-    table: &[f64],
-    non_additive: bool,
-) -> Result<QuantumTotal, Refusal>
-    ensures { answer result ≡ total set temperature fractions.now densities.now table.now non_additive }
-{
-    let m = set.m;
-    let sheets = set.sheets;
-    let orders = set.orders;
-    total_of(
-        set.count,
-        &m,
-        &sheets,
-        orders,
-        temperature,
-        fractions,
-        densities,
-        table,
-        non_additive,
-    )
 }

@@ -9,6 +9,7 @@ ghost use Rattle.saftvrqmie_energies_slopes.specs.Energies.{energies_slopes_in};
 ghost use Rattle.slopes_calls.specs.Calls.{slopes_written, vrq_energies_slopes};
 
 use dual::Dual;
+use dual_num::NumberList;
 use saftvrqmie_energies_slopes::QuantumEnergiesSlopes;
 
 fn write_slopes(e: QuantumEnergiesSlopes, out: &mut [f64])
@@ -26,6 +27,7 @@ fn write_slopes(e: QuantumEnergiesSlopes, out: &mut [f64])
     out[5] = a.eps;
 }
 
+// The parameters are those of the C call, which hands them on.
 // Value and slope of each contribution by turns. 1, 4, then 2, 7 for a supplied slope, the table's 6 and 7, the energies' 6 and 7.
 pub fn vrq_energies_slopes(
     count: usize,
@@ -55,6 +57,14 @@ pub fn vrq_energies_slopes(
         re: temperature,
         eps: temperature_slope,
     };
+    let x = NumberList {
+        values: fractions,
+        slopes: fraction_slopes,
+    };
+    let rho = NumberList {
+        values: densities,
+        slopes: density_slopes,
+    };
     let right = slopes_lists::sloped_lengths(
         count,
         t,
@@ -67,21 +77,8 @@ pub fn vrq_energies_slopes(
     let Ok(()) = read else {
         return mie_parameters::number(read);
     };
-    let places = set_lists::places(m, 0);
-    let flat = set_lists::flat(sheets);
-    let records = set_lists::order_records(orders);
-    let worked = saftvrqmie_slopes::energies_slopes_of(
-        count,
-        &places,
-        &flat,
-        records,
-        t,
-        fractions,
-        fraction_slopes,
-        densities,
-        density_slopes,
-        non_additive,
-    );
+    let set = set_lists::quantum_set(count, m, sheets, orders);
+    let worked = saftvrqmie_slopes::energies_slopes(&set, t, &x, &rho, non_additive);
     match worked {
         Err(r) => r.code(),
         Ok(e) => {

@@ -20,6 +20,17 @@ unfolding demand
 demand_true n true z p = refl
 demand_true n false z p = let y : ◌≡◌ {A = Bool} true false = cc in absurd (mathlib.Core.Bool.true≢false y)
 
+-- the set, test by test
+module _ (s : QuantumLists) (q : TankLists) (right : Bool) where
+  pub set_14 : layers_within q.layers ≡ false → refused 14 ≡ tank_set s q right
+  unfolding demand ◌>>=◌
+  set_14 p = rw p
+
+  module _ (p : layers_within q.layers ≡ true) where
+    pub set_is : (a : Ans SaftVRQMiePars) → quantum_set (tank_right s.count q right) s ≡ a → a ≡ tank_set s q right
+    unfolding demand ◌>>=◌
+    set_is a h = rw (p, h)
+
 module _ (s : QuantumLists) (q : TankLists) (wanted right : Bool) where
   -- what is held was lent a list of the right length
   set_right : (p : SaftVRQMiePars) → tank_set s q right ≡ held p → right ≡ true
@@ -39,30 +50,19 @@ module _ (s : QuantumLists) (q : TankLists) (wanted right : Bool) where
   unfolding listed_tank_ends
   ends_right e h = let a = then_held (tank_set s q right) _ e h in set_right a.0 a.1
 
-  pub tank_14 : layers_within q.layers ≡ false → refused 14 ≡ listed_tank s q wanted right
-  unfolding listed_tank demand ◌>>=◌
-  tank_14 p = rw p
+  -- what comes of it
+  pub tank_refused : (k : ℕ) → tank_set s q right ≡ refused k → refused k ≡ listed_tank s q wanted right
+  unfolding listed_tank ◌>>=◌
+  tank_refused k h = rw h
 
-  pub ends_14 : layers_within q.layers ≡ false → refused 14 ≡ listed_tank_ends s q wanted right
-  unfolding listed_tank_ends demand ◌>>=◌
-  ends_14 p = rw p
+  pub tank_held : (p : SaftVRQMiePars) → tank_set s q right ≡ held p → tank p q wanted ≡ listed_tank s q wanted right
+  unfolding listed_tank ◌>>=◌
+  tank_held p h = rw h
 
-  module _ (p : layers_within q.layers ≡ true) where
-    abbrev read : Ans SaftVRQMiePars
-    read = quantum_set (tank_right s.count q right) s
+  pub ends_refused : (k : ℕ) → tank_set s q right ≡ refused k → refused k ≡ listed_tank_ends s q wanted right
+  unfolding listed_tank_ends ◌>>=◌
+  ends_refused k h = rw h
 
-    pub tank_set_refused : (a : Ans (EnergiesIn Float)) (k : ℕ) → read ≡ refused k → a ≡ refused k → a ≡ listed_tank s q wanted right
-    unfolding listed_tank demand ◌>>=◌
-    tank_set_refused a k h e = rw (p, h, e)
-
-    pub tank_held : (a : Ans (EnergiesIn Float)) (y : SaftVRQMiePars) → read ≡ held y → a ≡ tank y q wanted → a ≡ listed_tank s q wanted right
-    unfolding listed_tank demand ◌>>=◌
-    tank_held a y h e = rw (p, h) e
-
-    pub ends_set : (a : Ans (EnergiesIn Ends)) (k : ℕ) → read ≡ refused k → a ≡ refused k → a ≡ listed_tank_ends s q wanted right
-    unfolding listed_tank_ends demand ◌>>=◌
-    ends_set a k h e = rw (p, h, e)
-
-    pub ends_held : (a : Ans (EnergiesIn Ends)) (y : SaftVRQMiePars) → read ≡ held y → a ≡ tank_ends y q wanted → a ≡ listed_tank_ends s q wanted right
-    unfolding listed_tank_ends demand ◌>>=◌
-    ends_held a y h e = rw (p, h) e
+  pub ends_held : (p : SaftVRQMiePars) → tank_set s q right ≡ held p → tank_ends p q wanted ≡ listed_tank_ends s q wanted right
+  unfolding listed_tank_ends ◌>>=◌
+  ends_held p h = rw h

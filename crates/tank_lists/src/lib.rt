@@ -2,41 +2,49 @@
 #![tactic(auto)]
 
 ghost use Rattle.std.specs.Prelude.{◌≡◌, ◌≤◌};
+ghost use Rattle.number.specs.Answer.{answer};
 ghost use Rattle.saftvrqmie_energies.specs.Energies.{energies_answer};
 ghost use Rattle.saftvrqmie_energies_ends.specs.Operation.{energies_ends_answer};
-ghost use Rattle.saftvrqmie_tank.specs.Tank.{TankLists, most_layers};
+ghost use Rattle.saftvrqmie_tank.specs.Tank.{TankLists, most_layers, lists_of};
 ghost use Rattle.set_lists.specs.Sets.{QuantumLists};
-ghost use Rattle.tank_lists.specs.Lists.{tank_right, listed_tank, listed_tank_ends};
+ghost use Rattle.tank_lists.specs.Lists.{tank_right, tank_set, listed_tank, listed_tank_ends};
 
 use number::Refusal;
 use saftvrqmie_energies::QuantumEnergies;
 use saftvrqmie_energies_ends::EnergiesEnds;
+use saftvrqmie_parameters::SaftVRQMiePars;
+use saftvrqmie_tank::Layers;
 
 // 1 of the tank's lists, and of the list that the answer is written into.
-fn tank_right(
-    n: usize,
-    layers: usize,
-    temperatures: &[f64],
-    fractions: &[f64],
-    densities: &[f64],
-    volumes: &[f64],
-    right: bool,
-) -> bool
-    requires { layers ≤ most_layers }
-    ensures { let q : TankLists =
-        record {
-          layers = layers;
-          temperatures = temperatures.now;
-          fractions = fractions.now;
-          densities = densities.now;
-          volumes = volumes.now;
-        } in
-        result ≡ tank_right n q right }
+fn tank_right(n: usize, q: &Layers, right: bool) -> bool
+    requires { q.now.layers ≤ most_layers }
+    ensures { result ≡ tank_right n (lists_of q.now) right }
 {
-    right & saftvrqmie_tank::tank_lengths(n, layers, temperatures, fractions, densities, volumes)
+    right & saftvrqmie_tank::tank_lengths(n, q)
+}
+
+// The tank's set. 14, 1, 4.
+fn tank_set(
+    count: usize,
+    m: &[f64],
+    sheets: &[f64],
+    orders: &[u8],
+    q: &Layers,
+    right: bool,
+) -> Result<SaftVRQMiePars, Refusal>
+    ensures { let s : QuantumLists = record { count = count; m = m.now; sheets = sheets.now; orders = orders.now } in
+        answer result ≡ tank_set s (lists_of q.now) right }
+{
+    if !saftvrqmie_tank::layers_within(q.layers) {
+        return Err(Refusal::Layers);
+    }
+    let right = tank_right(count, q, right);
+    set_lists::quantum_answer(count, m, sheets, orders, right)?;
+    Ok(set_lists::quantum_set(count, m, sheets, orders))
 }
 
 // `right`: whether the list that the answer is written into has its length. 14, 1, 4, then layer by layer 2, 6, 7, then 7 of the tank.
+// The parameters are those of the C call, which hands them on.
 pub fn listed_tank(
     count: usize,
     m: &[f64],
@@ -61,34 +69,15 @@ pub fn listed_tank(
         } in
         energies_answer result ≡ listed_tank s q non_additive right }
 {
-    if !saftvrqmie_tank::layers_within(layers) {
-        return Err(Refusal::Layers);
-    }
-    let right = tank_right(
-        count,
+    let q = Layers {
         layers,
         temperatures,
         fractions,
         densities,
         volumes,
-        right,
-    );
-    set_lists::quantum_answer(count, m, sheets, orders, right)?;
-    let places = set_lists::places(m, 0);
-    let flat = set_lists::flat(sheets);
-    let records = set_lists::order_records(orders);
-    saftvrqmie_tank::tank_of(
-        count,
-        &places,
-        &flat,
-        records,
-        layers,
-        temperatures,
-        fractions,
-        densities,
-        volumes,
-        non_additive,
-    )
+    };
+    let set = tank_set(count, m, sheets, orders, &q, right)?;
+    saftvrqmie_tank::tank(&set, &q, non_additive)
 }
 
 // The same for the tank's ends. 14, 1, 4, then layer by layer 2, 6, 7, then 7 of the tank, then 8.
@@ -116,32 +105,13 @@ pub fn listed_tank_ends(
         } in
         energies_ends_answer result ≡ listed_tank_ends s q non_additive right }
 {
-    if !saftvrqmie_tank::layers_within(layers) {
-        return Err(Refusal::Layers);
-    }
-    let right = tank_right(
-        count,
+    let q = Layers {
         layers,
         temperatures,
         fractions,
         densities,
         volumes,
-        right,
-    );
-    set_lists::quantum_answer(count, m, sheets, orders, right)?;
-    let places = set_lists::places(m, 0);
-    let flat = set_lists::flat(sheets);
-    let records = set_lists::order_records(orders);
-    saftvrqmie_tank_ends::tank_ends_of(
-        count,
-        &places,
-        &flat,
-        records,
-        layers,
-        temperatures,
-        fractions,
-        densities,
-        volumes,
-        non_additive,
-    )
+    };
+    let set = tank_set(count, m, sheets, orders, &q, right)?;
+    saftvrqmie_tank_ends::tank_ends(&set, &q, non_additive)
 }

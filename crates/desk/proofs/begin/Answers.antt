@@ -11,11 +11,11 @@ use Rattle.desk.proofs.begin.Goals as goal
 pub returns-then-not-right_desk : goal.returns-then-not-right_desk
 returns-then-not-right_desk c = begun_1 (record { floats = c.args.floats.now; bytes = c.args.bytes.now }) (told c.right_desk.ensures c.if-not-right_desk.true)
 
-pub lay_bytes-requires : goal.lay_bytes-requires
-lay_bytes-requires c = let r = (desk_right (record { floats = c.args.floats.now; bytes = c.args.bytes.now }) (told c.right_desk.ensures c.if-not-right_desk.false)).bytes in let z : ℕ = 0 in let k : length zeros ≡ 2369 = length-replicate 2369 z in omega (arith, r, k)
+pub lay-requires : goal.lay-requires
+lay-requires c = let r = (desk_right (record { floats = c.args.floats.now; bytes = c.args.bytes.now }) (told c.right_desk.ensures c.if-not-right_desk.false)).bytes in let z : ℕ = 0 in let k : length zeros ≡ 2369 = length-replicate 2369 z in omega (arith, r, k)
 
 pub bounds-bytes-2368 : goal.bounds-bytes-2368
 bounds-bytes-2368 c = let r = (desk_right (record { floats = c.args.floats.now; bytes = c.args.bytes.now }) (told c.right_desk.ensures c.if-not-right_desk.false)).bytes in omega (arith, r)
 
 pub returns : goal.returns
-returns c = begun_is (record { floats = c.args.floats.now; bytes = c.args.bytes.now }) _ _ (told c.right_desk.ensures c.if-not-right_desk.false) refl (blank_laid c.args.bytes.now _ (desk_right (record { floats = c.args.floats.now; bytes = c.args.bytes.now }) (told c.right_desk.ensures c.if-not-right_desk.false)).bytes c.lay_bytes.ensures)
+returns c = begun_is (record { floats = c.args.floats.now; bytes = c.args.bytes.now }) _ _ (told c.right_desk.ensures c.if-not-right_desk.false) refl (blank_laid c.args.bytes.now _ (desk_right (record { floats = c.args.floats.now; bytes = c.args.bytes.now }) (told c.right_desk.ensures c.if-not-right_desk.false)).bytes c.lay.ensures)

@@ -2,6 +2,7 @@
 use Rattle.desk.proofs.Ways.{floats_long, bytes_long, enter_here}
 use native.Mathlib.Omega.{arith}
 use Rattle.set_lists.proofs.Sets.{lengths}
+use Rattle.desk.specs.Desk.{query_of}
 use Rattle.desk.proofs.enter.Goals as goal
 
 pub enter_floats-requires : goal.enter_floats-requires
@@ -11,4 +12,4 @@ pub enter_bytes-requires : goal.enter_bytes-requires
 enter_bytes-requires c = (bytes_long (record { floats = c.args.floats.now; bytes = c.args.bytes.now }) c.args.k (record { floats = c.requires.0; bytes = c.requires.1 }) c.requires.2, (lengths _ _ _ c.requires.3).records, c.requires.4)
 
 pub returns : goal.returns
-returns c = enter_here (record { floats = c.args.floats.now; bytes = c.args.bytes.now }) c.args.k (record { floats = c.requires.0; bytes = c.requires.1 }) c.requires.2 (record { lists = record { count = c.args.count; m = c.args.m.now; sheets = c.args.sheets.now; orders = c.args.orders.now }; temperature = c.args.temperature; fractions = c.args.fractions.now; densities = c.args.densities.now; wanted = c.args.non_additive }) _ _ (lengths _ _ _ c.requires.3) c.requires.4 c.requires.5 c.requires.6 c.enter_floats.ensures c.enter_bytes.ensures
+returns c = enter_here (record { floats = c.args.floats.now; bytes = c.args.bytes.now }) c.args.k (record { floats = c.requires.0; bytes = c.requires.1 }) c.requires.2 (query_of c.args.q.now) _ _ (lengths _ _ _ c.requires.3) c.requires.4 c.requires.5 c.requires.6 c.enter_floats.ensures c.enter_bytes.ensures

@@ -5,23 +5,23 @@ use Rattle.desk.proofs.Shelf.{desk_right}
 use native.Mathlib.Omega.{arith}
 use Rattle.mie_parameters.proofs.Laws.{count_high}
 use mathlib.Core.Bool.{not}
-use Rattle.desk.specs.Desk.{occupied_in}
+use Rattle.desk.specs.Desk.{query_of, occupied_in}
 use Rattle.desk.proofs.submit.Goals as goal
 
 pub returns-then-not-right_desk : goal.returns-then-not-right_desk
-returns-then-not-right_desk c = submit_1 (record { floats = c.args.floats.now; bytes = c.args.bytes.now }) (record { lists = record { count = c.args.count; m = c.args.m.now; sheets = c.args.sheets.now; orders = c.args.orders.now }; temperature = c.args.temperature; fractions = c.args.fractions.now; densities = c.args.densities.now; wanted = c.args.non_additive }) (told c.right_desk.ensures c.if-not-right_desk.true)
+returns-then-not-right_desk c = submit_1 (record { floats = c.args.floats.now; bytes = c.args.bytes.now }) (query_of c.args.q.now) (told c.right_desk.ensures c.if-not-right_desk.true)
 
 pub returns-in_err-door : goal.returns-in_err-door
-returns-in_err-door c = rw (handed_on _ c.from_residual.ensures) (submit_door (record { floats = c.args.floats.now; bytes = c.args.bytes.now }) (record { lists = record { count = c.args.count; m = c.args.m.now; sheets = c.args.sheets.now; orders = c.args.orders.now }; temperature = c.args.temperature; fractions = c.args.fractions.now; densities = c.args.densities.now; wanted = c.args.non_additive }) (told c.right_desk.ensures c.if-not-right_desk.false) _ c.door.ensures c.in_err-door.was)
+returns-in_err-door c = rw (handed_on _ c.from_residual.ensures) (submit_door (record { floats = c.args.floats.now; bytes = c.args.bytes.now }) (query_of c.args.q.now) (told c.right_desk.ensures c.if-not-right_desk.false) _ c.door.ensures c.in_err-door.was)
 
 pub seek-k-requires : goal.seek-k-requires
 seek-k-requires c = ((desk_right (record { floats = c.args.floats.now; bytes = c.args.bytes.now }) (told c.right_desk.ensures c.if-not-right_desk.false)).bytes, omega arith)
 
 pub returns-then-k-eq-PLACES : goal.returns-then-k-eq-PLACES
-returns-then-k-eq-PLACES c = submit_17 (record { floats = c.args.floats.now; bytes = c.args.bytes.now }) (record { lists = record { count = c.args.count; m = c.args.m.now; sheets = c.args.sheets.now; orders = c.args.orders.now }; temperature = c.args.temperature; fractions = c.args.fractions.now; densities = c.args.densities.now; wanted = c.args.non_additive }) (told c.right_desk.ensures c.if-not-right_desk.false) _ c.door.ensures c.in_ok-door.was _ c.seek-k.ensures c.if-k-eq-PLACES.true
+returns-then-k-eq-PLACES c = submit_17 (record { floats = c.args.floats.now; bytes = c.args.bytes.now }) (query_of c.args.q.now) (told c.right_desk.ensures c.if-not-right_desk.false) _ c.door.ensures c.in_ok-door.was _ c.seek-k.ensures c.if-k-eq-PLACES.true
 
 pub enter-requires : goal.enter-requires
-enter-requires c = let d = (let_in (record { lists = record { count = c.args.count; m = c.args.m.now; sheets = c.args.sheets.now; orders = c.args.orders.now }; temperature = c.args.temperature; fractions = c.args.fractions.now; densities = c.args.densities.now; wanted = c.args.non_additive }) _ c.door.ensures c.in_ok-door.was) in ((desk_right (record { floats = c.args.floats.now; bytes = c.args.bytes.now }) (told c.right_desk.ensures c.if-not-right_desk.false)).floats, (desk_right (record { floats = c.args.floats.now; bytes = c.args.bytes.now }) (told c.right_desk.ensures c.if-not-right_desk.false)).bytes, found_small (λ k. not (occupied_in c.args.bytes.now k)) 0 _ (omega arith) c.seek-k.ensures c.if-k-eq-PLACES.false, d.read, count_high _ d.count, d.fractions, d.densities)
+enter-requires c = let d = (let_in (query_of c.args.q.now) _ c.door.ensures c.in_ok-door.was) in ((desk_right (record { floats = c.args.floats.now; bytes = c.args.bytes.now }) (told c.right_desk.ensures c.if-not-right_desk.false)).floats, (desk_right (record { floats = c.args.floats.now; bytes = c.args.bytes.now }) (told c.right_desk.ensures c.if-not-right_desk.false)).bytes, found_small (λ k. not (occupied_in c.args.bytes.now k)) 0 _ (omega arith) c.seek-k.ensures c.if-k-eq-PLACES.false, d.read, count_high _ d.count, d.fractions, d.densities)
 
 pub returns : goal.returns
-returns c = submit_at (record { floats = c.args.floats.now; bytes = c.args.bytes.now }) (record { lists = record { count = c.args.count; m = c.args.m.now; sheets = c.args.sheets.now; orders = c.args.orders.now }; temperature = c.args.temperature; fractions = c.args.fractions.now; densities = c.args.densities.now; wanted = c.args.non_additive }) (told c.right_desk.ensures c.if-not-right_desk.false) _ c.door.ensures c.in_ok-door.was _ c.seek-k.ensures _ c.if-k-eq-PLACES.false c.enter.ensures
+returns c = submit_at (record { floats = c.args.floats.now; bytes = c.args.bytes.now }) (query_of c.args.q.now) (told c.right_desk.ensures c.if-not-right_desk.false) _ c.door.ensures c.in_ok-door.was _ c.seek-k.ensures _ c.if-k-eq-PLACES.false c.enter.ensures

@@ -5,7 +5,7 @@ use mathlib.Core.Path.{refl}
 use Rattle.number.specs.Answer.{answer_by}
 use Rattle.number.proofs.Walk.{via, walk_none, walk_next, walk_stop, walk_end, handed_on}
 use Rattle.saftvrqmie_dispersion_sums.specs.Dispersion.{alpha_row}
-use Rattle.saftvrqmie_hard_sphere.proofs.Lists.{map_set}
+use Rattle.std.proofs.lemmas.List.{map-set}
 use Rattle.saftvrqmie_dispersion_sums.proofs.Turns.{alpha_held, alpha_outside}
 use Rattle.saftvrqmie_dispersion_sums.proofs.alpha_row.Goals as goal
 
@@ -21,7 +21,7 @@ returns-in_err-a g c =
 pub loop-k-preserved : goal.loop-k-preserved
 loop-k-preserved g c =
     let D = g.D.DualNum in
-    (c.loop-k.invariant.0, search rules, walk_next _ _ _ _ _ c.loop-k.invariant.2 (rw (map_set, map_set) (alpha_held (D.beside true) _ _ _ _ _ _ _ _ _ refl refl refl refl _ (via (answer_by (D.of true)) c.alpha_at.ensures c.in_ok-a.was))))
+    (c.loop-k.invariant.0, search rules, walk_next _ _ _ _ _ c.loop-k.invariant.2 (rw (map-set, map-set) (alpha_held (D.beside true) _ _ _ _ _ _ _ _ _ refl refl refl refl _ (via (answer_by (D.of true)) c.alpha_at.ensures c.in_ok-a.was))))
 
 pub returns : goal.returns
 unfolding alpha_row

@@ -9,7 +9,8 @@ use Rattle.number.specs.Lists.{nth}
 use Rattle.number.proofs.Walk.{turns_none, turns_next, turns_end}
 use Rattle.sizes.specs.Sizes.{side}
 use Rattle.mie_parameters.specs.Places.{in_places}
-use Rattle.saftvrqmie_hard_sphere.proofs.Lists.{map_set, map_length, filled}
+use Rattle.std.proofs.lemmas.List.{length-map, map-set}
+use Rattle.saftvrqmie_hard_sphere.proofs.Lists.{filled}
 use Rattle.saftvrqmie_dispersion_sums.specs.Dispersion.{segment_fractions}
 use Rattle.saftvrqmie_dispersion_sums.proofs.segment_fractions.Goals as goal
 
@@ -19,7 +20,7 @@ loop-i-init g c = (search rules, search rules, turns_none _ _)
 pub loop-i-preserved : goal.loop-i-preserved
 loop-i-preserved g c =
     let m = g.met.D.DualNum in
-    (search rules, c.loop-i.invariant.1, turns_next _ _ _ _ _ c.loop-i.invariant.2 (rw (map_set, m.mul_law true _ _ _ c.mul-p.ensures, m.mul_plain_law true _ _ _ c.mul.ensures, m.plain_lit_law true _ _ c.lit.ensures, c.entry.ensures true)))
+    (search rules, c.loop-i.invariant.1, turns_next _ _ _ _ _ c.loop-i.invariant.2 (rw (map-set, m.mul_law true _ _ _ c.mul-p.ensures, m.mul_plain_law true _ _ _ c.mul.ensures, m.plain_lit_law true _ _ c.lit.ensures, c.entry.ensures true)))
 
 pub returns : goal.returns
 unfolding segment_fractions in_places
@@ -27,5 +28,5 @@ returns g c i p =
     let A = g.D.DualNum.beside true in
     rw (← c.inv_x_s_sum-inv.ensures) (
     ap (λ l. nth A l i) (turns_end _ _ _ _ _ c.loop-i.invariant.0 c.loop-i-test.false c.loop-i.invariant.2)
-    ∙ filled _ _ _ _ (map (g.D.DualNum.of true) c.args.xs.now) p (rw (map_length (g.D.DualNum.of true) c.args.xs.now, c.loop-i.invariant.1) c.requires.1)
+    ∙ filled _ _ _ _ (map (g.D.DualNum.of true) c.args.xs.now) p (rw (length-map c.args.xs.now (g.D.DualNum.of true), c.loop-i.invariant.1) c.requires.1)
     ∙ sym (filled _ _ _ _ (replicate side (A.lit zero64)) p c.requires.1))

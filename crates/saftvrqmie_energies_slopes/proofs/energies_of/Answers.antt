@@ -20,17 +20,17 @@ contributions-requires c =
     let u : length c.args.table_slopes.now ≡ 4 * sheet = search rules in
     (search rules, (search rules, (c.requires.0, c.requires.1, λ e p. (rw t p, rw u p), λ i p. (rw c.requires.2 p, rw c.requires.3 p), λ i p. (rw c.requires.4 p, rw c.requires.5 p))))
 
-pub returns-in_err-c : goal.returns-in_err-c
+pub returns-in_err-e : goal.returns-in_err-e
 unfolding contributions_slope sloped_at
-returns-in_err-c c =
-    rw (handed_on _ c.from_residual.ensures) (stops (record { count = c.args.n; m = c.args.m.now; sheets = c.args.sheets.now; orders = c.args.orders }) (dual_of c.args.temperature) c.args.x.now c.args.x_slopes.now c.args.rho.now c.args.rho_slopes.now c.args.table.now c.args.table_slopes.now c.args.non_additive _ (via (answer_by (each_by (λ x. sloped (dual_of x)))) c.contributions.ensures c.in_err-c.was))
+returns-in_err-e c =
+    rw (handed_on _ c.from_residual.ensures) (stops c.args.set.now (dual_of c.args.temperature) c.args.x.now.values.now c.args.x.now.slopes.now c.args.rho.now.values.now c.args.rho.now.slopes.now c.args.table.now c.args.table_slopes.now c.args.non_additive _ (via (answer_by (each_by (λ x. sloped (dual_of x)))) c.contributions.ensures c.in_err-e.was))
 
 pub returns-then-not-all_finite : goal.returns-then-not-all_finite
 unfolding contributions_slope sloped_at
 returns-then-not-all_finite c =
-    refuses_7 (record { count = c.args.n; m = c.args.m.now; sheets = c.args.sheets.now; orders = c.args.orders }) (dual_of c.args.temperature) c.args.x.now c.args.x_slopes.now c.args.rho.now c.args.rho_slopes.now c.args.table.now c.args.table_slopes.now c.args.non_additive _ (via (answer_by (each_by (λ x. sloped (dual_of x)))) c.contributions.ensures c.in_ok-c.was) (told c.all_finite.ensures c.if-not-all_finite.true)
+    refuses_7 c.args.set.now (dual_of c.args.temperature) c.args.x.now.values.now c.args.x.now.slopes.now c.args.rho.now.values.now c.args.rho.now.slopes.now c.args.table.now c.args.table_slopes.now c.args.non_additive _ (via (answer_by (each_by (λ x. sloped (dual_of x)))) c.contributions.ensures c.in_ok-e.was) (told c.all_finite.ensures c.if-not-all_finite.true)
 
 pub returns : goal.returns
 unfolding contributions_slope sloped_at
 returns c =
-    holds (record { count = c.args.n; m = c.args.m.now; sheets = c.args.sheets.now; orders = c.args.orders }) (dual_of c.args.temperature) c.args.x.now c.args.x_slopes.now c.args.rho.now c.args.rho_slopes.now c.args.table.now c.args.table_slopes.now c.args.non_additive _ (via (answer_by (each_by (λ x. sloped (dual_of x)))) c.contributions.ensures c.in_ok-c.was) (told c.all_finite.ensures c.if-not-all_finite.false)
+    holds c.args.set.now (dual_of c.args.temperature) c.args.x.now.values.now c.args.x.now.slopes.now c.args.rho.now.values.now c.args.rho.now.slopes.now c.args.table.now c.args.table_slopes.now c.args.non_additive _ (via (answer_by (each_by (λ x. sloped (dual_of x)))) c.contributions.ensures c.in_ok-e.was) (told c.all_finite.ensures c.if-not-all_finite.false)

@@ -5,10 +5,10 @@ use mathlib.Core.Path.{refl}
 use Rattle.saftvrqmie_tank.proofs.layer_of.Goals as goal
 
 pub returns-then-not-layer_within : goal.returns-then-not-layer_within
-returns-then-not-layer_within c = layer_2 _ _ _ (told c.layer_within.ensures c.if-not-layer_within.true)
+returns-then-not-layer_within g c = layer_2 _ _ _ _ (told c.layer_within.ensures c.if-not-layer_within.true)
 
 pub returns-in_err-table_of : goal.returns-in_err-table_of
-returns-in_err-table_of c = rw (handed_on _ c.from_residual.ensures) (layer_table _ _ _ (told c.layer_within.ensures c.if-not-layer_within.false) _ _ (verdict_refused _ _ _ c.table_of.ensures.0 c.in_err-table_of.was) refl)
+returns-in_err-table_of g c = rw (handed_on _ c.from_residual.ensures) (layer_table _ _ _ _ (told c.layer_within.ensures c.if-not-layer_within.false) _ _ (verdict_refused _ _ _ c.table_of.ensures.0 c.in_err-table_of.was) refl)
 
 pub returns : goal.returns
-returns c = layer_energies _ _ _ (told c.layer_within.ensures c.if-not-layer_within.false) _ _ _ (verdict_held _ _ _ c.table_of.ensures.0 c.in_ok-table_of.was) c.table_of.ensures.1 c.energies_of.ensures
+returns g c = layer_energies _ _ _ _ (told c.layer_within.ensures c.if-not-layer_within.false) _ _ _ (verdict_held _ _ _ c.table_of.ensures.0 c.in_ok-table_of.was) c.table_of.ensures.1 c.energies.ensures

@@ -4,4 +4,4 @@ use Rattle.saftvrqmie_tank.proofs.layer_piled.Goals as goal
 
 pub returns : goal.returns
 unfolding layer_piled
-returns c = rw (c.wanted_pile-a.ensures, c.piled-d.ensures, c.piled-h.ensures)
+returns g c w = rw (c.wanted_pile-a.ensures w, c.piled-d.ensures w, c.piled-h.ensures w)

@@ -11,7 +11,7 @@ unfolding tank_lengths
 returns-then-not-count_within c = rw (told c.count_within.ensures c.if-not-count_within.true)
 
 pub overflow_mul-places : goal.overflow_mul-places
-overflow_mul-places c = omega (arith, product_small c.args.n c.args.layers (count_high _ (told c.count_within.ensures c.if-not-count_within.false)) c.requires)
+overflow_mul-places c = omega (arith, product_small c.args.n c.args.q.now.layers (count_high _ (told c.count_within.ensures c.if-not-count_within.false)) c.requires)
 
 pub returns : goal.returns
 unfolding tank_lengths

@@ -3,7 +3,7 @@ use borrow.Author.Tests.{not-true, not-false}
 use Rattle.saftvrqmie_tank.proofs.wanted_pile.Goals as goal
 
 pub returns-then-not-wanted : goal.returns-then-not-wanted
-returns-then-not-wanted c = rw (not-true c.args.wanted c.if-not-wanted.true-raw)
+returns-then-not-wanted g c w = rw (not-true c.args.wanted c.if-not-wanted.true-raw) (c.entered.ensures w)
 
 pub returns : goal.returns
-returns c = rw (not-false c.args.wanted c.if-not-wanted.false-raw) c.piled.ensures
+returns g c w = rw (not-false c.args.wanted c.if-not-wanted.false-raw) (c.piled.ensures w)
