@@ -9,9 +9,11 @@ use mathlib.Core.Path.{◌≡◌, refl, sym, ◌∙◌, subst}
 use mathlib.Core.Bool.{Bool, true, false, cond}
 use mathlib.Core.List.{List, [], ◌∷◌, ◌++◌}
 use mathlib.Core.Logic.{⊎_elim}
-use borrow.Author.Tests.{ne_eqb}
 use Rattle.card.specs.Fields.{joined}
-use Rattle.card.specs.Card.{Form, form_of, float, pair_value, component, size, layout, value_count}
+use Rattle.card.specs.Card.{Form, form_of, float, pair_value, component, size, layout, value_count, kind_of, number_of}
+use Rattle.card.specs.declared.Field.{Field}
+use Rattle.card.specs.declared.Kind.{Kind}
+use Rattle.card.specs.declared.Kind.TheVariants.{Quantum, Mie}
 
 pub joined_length : {S : Type 0} (n m : ℕ) (f : ℕ → List S) → ((i : ℕ) → length (f i) ≡ m) → length (joined n f) ≡ n * m
 unfolding joined
@@ -63,6 +65,27 @@ module _ (f : Form) (kind n : ℕ) where
       rw (← parts, get_or-append-add (joined n (λ _. component kind)) (replicate (n * (n - 1)) (pair_value f)) e float)
       (get_or-replicate (n * (n - 1)) e (pair_value f) float h)
 
+-- ---- a number for a kind: the kind of it has the number's fields
+number_any : {S : Type 0} (k : ℕ) (x y : S) → cond (eqb (number_of (kind_of k)) 0) x y ≡ cond (eqb k 0) x y
+number_any {S} k x y = either (eqb k 0)
+  where
+    either : (b : Bool) → cond (eqb (number_of (cond b Quantum Mie)) 0) x y ≡ cond b x y
+    either true = refl
+    either false = refl
+
+pub count_any : (k n : ℕ) → value_count (number_of (kind_of k)) n ≡ value_count k n
+count_any k n = rw (number_any {S = ℕ} k 6 5) refl
+
+pub layout_any : (f : Form) (k n : ℕ) → layout f (number_of (kind_of k)) n ≡ layout f k n
+unfolding layout component
+layout_any f k n = rw (number_any {S = List Field} k (float ∷ float ∷ float ∷ float ∷ float ∷ record { width = 2; spared = false } ∷ []) (float ∷ float ∷ float ∷ float ∷ float ∷ [])) refl
+
+-- of the kind of 0 or 1 the number is that again
+pub number_same : (kind : Kind) (k : ℕ) → kind ≡ kind_of k → k ≤ 1 → number_of kind ≡ k
+number_same kind zero e h = rw e refl
+number_same kind (suc zero) e h = rw e refl
+number_same kind (suc (suc k)) e h = absurd (omega arith)
+
 -- ---- field k as the code finds it
 module _ (newer : Bool) (n k : ℕ) where
   form_spared : (form_of newer).spared ≡ newer
@@ -94,14 +117,11 @@ module _ (newer : Bool) (n k : ℕ) where
       fifth (suc (suc (suc (suc zero)))) b = refl
       fifth (suc (suc (suc (suc (suc e))))) b = absurd (omega arith)
 
-  pub mie_field : (kind : ℕ) → (kind ≡ 0 → ⊥) → k < 5 * n → float ≡ get_or (layout (form_of newer) kind n) k float
+  pub mie_field : (kind : ℕ) → kind ≡ 1 → k < 5 * n → float ≡ get_or (layout (form_of newer) kind n) k float
   unfolding component
   mie_field kind z h =
       let d : k / 5 * 5 + k % 5 ≡ k = omega arith in
-      let t = ne_eqb kind 0 z in
-      let s : size kind ≡ 5 = rw t in
-      let c = layout_component (form_of newer) kind n (k / 5) (k % 5) (omega arith) (rw s (omega arith)) in
-      sym (rw d at (rw t at c ∙ fifth (k % 5)))
+      sym (rw z (rw d at (layout_component (form_of newer) 1 n (k / 5) (k % 5) (omega arith) (omega arith) ∙ fifth (k % 5))))
     where
       fifth : (e : ℕ) → get_or (float ∷ float ∷ float ∷ float ∷ float ∷ []) e float ≡ float
       fifth zero = refl

@@ -13,8 +13,10 @@ use borrow.Author.Tests.{leb-true}
 use Rattle.number.specs.Ans.{held, refused, ◌>>=◌, demand}
 use Rattle.bit_fields.specs.Bits.{bits_of}
 use Rattle.card.specs.Fields.{read_plain, read_field, read_fields}
-use Rattle.card.specs.Card.{Form, form_of, heading, layout, value_count, known, filling, read_card, field_answer, end_answer, reach_of, card_answer}
+use Rattle.card.specs.Card.{Form, form_of, heading, layout, value_count, known, filling, read_card, field_answer, end_answer, reach_of, card_answer, kind_of, number_of}
+use Rattle.card.specs.declared.Kind.{Kind}
 use Rattle.card.specs.declared.FieldValue.{FieldValue}
+use Rattle.card.proofs.Fields.{number_same}
 
 pub and_left : (a b : Bool) → (a && b) ≡ true → a ≡ true
 and_left true b p = refl
@@ -47,6 +49,10 @@ knows f model count p =
       most = leb-true count f.most (and_right (a && b && c) d p);
     }
 
+-- the kind that is read from a known model
+pub known_kind : (f : Form) (model count : ℕ) (kind : Kind) → known f model count ≡ true → kind ≡ kind_of (model - f.first) → number_of kind ≡ model - f.first
+known_kind f model count kind p e = let k = knows f model count p in number_same kind (model - f.first) e (omega (arith, k.last))
+
 pub twelve : (newer : Bool) (n : ℕ) → n ≤ (form_of newer).most → n ≤ 12
 twelve true n h = h
 twelve false n h = omega arith
@@ -78,8 +84,8 @@ module _ (f : Form) (card : List ℕ) (first : Result FieldValue Refusal) (p : f
       unfolding read_card demand ◌>>=◌
       not_known t = rw (headed, t)
 
-      module _ (t : known f model.value count.value ≡ true) (kind : ℕ) (k : kind ≡ model.value - f.first) (values : List ℕ) (third : Result ℕ Refusal)
-          (r : end_answer card (value_count kind count.value) values third ≡ read_fields (layout f kind count.value) (drop count.end (bits_of card))) where
+      module _ (t : known f model.value count.value ≡ true) (kind : Kind) (k : number_of kind ≡ model.value - f.first) (values : List ℕ) (third : Result ℕ Refusal)
+          (r : end_answer card (value_count (number_of kind) count.value) values third ≡ read_fields (layout f (number_of kind) count.value) (drop count.end (bits_of card))) where
         pub values_refused : (e : Refusal) → third ≡ Err e → refused (code e) ≡ read_card f card
         unfolding read_card demand ◌>>=◌
         values_refused e c =

@@ -3,6 +3,8 @@ use Rattle.std.specs.Prelude.{ℕ, ◌+◌, ◌*◌, ◌-◌, eqb, leb, ltb, len
 use Rattle.number.specs.declared.refusal.Refusal.{Refusal}
 use Rattle.number.specs.Answer.{code}
 use Rattle.card.specs.declared.Heading.{Heading}
+use Rattle.card.specs.declared.Kind.{Kind}
+use Rattle.card.specs.declared.Kind.TheVariants.{Quantum, Mie}
 use Rattle.card.specs.declared.FieldValue.{FieldValue}
 use Rattle.number.specs.Ans.{Ans, held, refused, ◌>>=◌, demand}
 use Rattle.bit_fields.specs.Bits.{numeral, bits_of}
@@ -92,6 +94,15 @@ read_card f l =
 
 -- ---- the slips' number or values of each case of the answers: positions in the bits of a card l, numbers in an array
 
+-- 'model (0 quantum, 1 VR Mie)'
+abbrev pub number_of : Kind → ℕ
+number_of Quantum = 0
+number_of Mie = 1
+
+-- the kind of which a number's fields are
+abbrev pub kind_of : ℕ → Kind
+kind_of n = cond (eqb n 0) Quantum Mie
+
 abbrev pub field_answer : List ℕ → Result FieldValue Refusal → Ans Read
 field_answer l (Ok v) = held (record { value = v.value; rest = drop v.end (bits_of l) })
 field_answer l (Err r) = refused (code r)
@@ -110,5 +121,5 @@ reach_of (Ok e) = e
 reach_of (Err r) = 0
 
 abbrev pub card_answer : List ℕ → Result Heading Refusal → Ans Card
-card_answer values (Ok c) = held (record { kind = c.kind; count = c.count; values = take (value_count c.kind c.count) values })
+card_answer values (Ok c) = held (record { kind = number_of c.kind; count = c.count; values = take (value_count (number_of c.kind) c.count) values })
 card_answer values (Err r) = refused (code r)

@@ -4,7 +4,7 @@
 ghost use Rattle.std.specs.Prelude.{◌≡◌, ◌+◌, ◌*◌, ◌-◌, ◌^◌, ◌<◌, ◌≤◌, length, get_or, drop};
 ghost use Rattle.bit_fields.specs.Bits.{bits_of};
 ghost use Rattle.card.specs.Fields.{read_plain, read_spared, read_field, read_fields};
-ghost use Rattle.card.specs.Card.{form_of, float, layout, value_count, read_card, field_answer, end_of, end_answer, reach_of, card_answer, known, filling};
+ghost use Rattle.card.specs.Card.{form_of, float, kind_of, number_of, layout, value_count, read_card, field_answer, end_of, end_answer, reach_of, card_answer, known, filling};
 
 use number::Refusal;
 
@@ -17,7 +17,7 @@ pub const NEWER_MOST: usize = 12;
 // The most numbers behind a heading: twelve components of the quantum model, six each, and two for each pair.
 pub const VALUES: usize = 204;
 
-// How a field is stored.
+// How a field is stored: its width, and whether a bit first says that it is 0. A yes or no, as is `newer` of the functions below, the form of card: the exported functions have each form under its own name.
 #[derive(Clone, Copy)]
 pub struct Field {
     pub width: usize,
@@ -30,10 +30,30 @@ pub struct FieldValue {
     pub end: usize,
 }
 
-// A card's kind (0 quantum, 1 SAFT-VR Mie) and count.
+// A card's kind: the model that its fluid is of. The definitions count the kinds; `number_of` is that number.
+#[derive(Clone, Copy)]
+pub enum Kind {
+    /// SAFT-VRQ Mie.
+    Quantum = 0,
+    /// SAFT-VR Mie.
+    Mie = 1,
+}
+
+// Any number stands for a kind, 0 for quantum and every other for SAFT-VR Mie: who has a number k hands `Kind::from(k)`, whose fields are those of k (`layout_any`, `count_any` in proofs/Fields).
+impl From<usize> for Kind {
+    ghost from_gives = { λ n r. r ≡ kind_of n };
+
+    fn from(n: usize) -> Kind {
+        match n {
+            0 => Kind::Quantum,
+            _ => Kind::Mie,
+        }
+    }
+}
+
 #[derive(Clone, Copy)]
 pub struct Heading {
-    pub kind: usize,
+    pub kind: Kind,
     pub count: usize,
 }
 
@@ -79,29 +99,32 @@ fn read_field(card: &[u8], at: usize, field: Field) -> Result<FieldValue, Refusa
 }
 
 // Field k behind a heading. Readers and writers have tested the count and go no further than the last field.
-pub fn field_at(kind: usize, count: usize, newer: bool, k: usize) -> Field
-    requires { (count ≤ 12) × (k < value_count kind count) }
-    ensures { (result ≡ get_or (layout (form_of newer) kind count) k float) × (0 < result.width) × (result.width ≤ 64) }
+pub fn field_at(kind: Kind, count: usize, newer: bool, k: usize) -> Field
+    requires { (count ≤ 12) × (k < value_count (number_of kind) count) }
+    ensures { (result ≡ get_or (layout (form_of newer) (number_of kind) count) k float) × (0 < result.width) × (result.width ≤ 64) }
 {
-    if kind == 0 {
-        if k < 6 * count {
-            if k % 6 == 5 {
+    match kind {
+        Kind::Quantum => {
+            if k < 6 * count {
+                if k % 6 == 5 {
+                    return Field {
+                        width: 2,
+                        spared: false,
+                    };
+                }
                 return Field {
-                    width: 2,
+                    width: 64,
                     spared: false,
                 };
             }
-            return Field {
-                width: 64,
-                spared: false,
-            };
         }
-    } else {
-        if k < 5 * count {
-            return Field {
-                width: 64,
-                spared: false,
-            };
+        Kind::Mie => {
+            if k < 5 * count {
+                return Field {
+                    width: 64,
+                    spared: false,
+                };
+            }
         }
     }
     Field {
@@ -111,28 +134,29 @@ pub fn field_at(kind: usize, count: usize, newer: bool, k: usize) -> Field
 }
 
 // How many numbers a card has behind its heading, of a count within the limits: a heading outside them was refused with 10, so that no product wraps.
-pub fn value_count(kind: usize, count: usize) -> usize
+pub fn value_count(kind: Kind, count: usize) -> usize
     requires { (1 ≤ count) × (count ≤ 12) }
-    ensures { result ≡ value_count kind count }
+    ensures { result ≡ value_count (number_of kind) count }
 {
-    if kind == 0 {
-        return count * 6 + count * (count - 1);
-    }
-    count * 5 + count * (count - 1)
+    let size = match kind {
+        Kind::Quantum => 6,
+        Kind::Mie => 5,
+    };
+    count * size + count * (count - 1)
 }
 
 // The numbers behind a heading, whose count is within the card's limits.
 fn read_values(
     card: &[u8],
     at: usize,
-    kind: usize,
+    kind: Kind,
     count: usize,
     newer: bool,
     values: &mut [u64],
 ) -> Result<usize, Refusal>
     requires { (at ≤ 6) × (1 ≤ count) × (count ≤ 12) × (length values.old ≡ 204) }
     ensures { let l = card.now in
-        (end_answer l (value_count kind count) values.new result ≡ read_fields (layout (form_of newer) kind count) (drop at (bits_of l)))
+        (end_answer l (value_count (number_of kind) count) values.new result ≡ read_fields (layout (form_of newer) (number_of kind) count) (drop at (bits_of l)))
         × (reach_of result < 2 ^ 16) × (length values.new ≡ 204) }
 {
     let total = value_count(kind, count);
@@ -171,14 +195,12 @@ fn filling(card: &[u8], end: usize) -> bool
 }
 
 // The kind of a known model.
-fn kind_of(newer: bool, model: u64) -> usize
+fn kind_of(newer: bool, model: u64) -> Kind
     requires { (form_of newer).first ≤ model }
-    ensures { result ≡ model - (form_of newer).first }
+    ensures { result ≡ kind_of (model - (form_of newer).first) }
 {
-    if newer {
-        return model as usize - 2;
-    }
-    model as usize
+    let first = if newer { 2 } else { 0 };
+    Kind::from(model as usize - first)
 }
 
 // A card's heading, its numbers in a list that is lent; of a card that is refused the list holds what was read before. The list is the caller's own array of 204 places, never one that a user lends.

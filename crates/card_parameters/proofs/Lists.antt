@@ -21,9 +21,9 @@ module _ (values : List ℕ) (n : ℕ) where
   unfolding quantum_lists
   quantum_is m sigma epsilon_k lr la mass fh k_ij l_ij p₁ p₂ p₃ p₄ p₅ p₆ p₇ p₈ p₉ = rw (p₁, p₂, p₃, p₄, p₅, p₆, p₇, p₈, p₉)
 
-  pub mie_is : (kind : ℕ) (m sigma epsilon_k lr la k_ij gamma_ij : List Float)
+  pub mie_is : (m sigma epsilon_k lr la k_ij gamma_ij : List Float)
       → m ≡ column values 5 n 0 → sigma ≡ column values 5 n 1 → epsilon_k ≡ column values 5 n 2 → lr ≡ column values 5 n 3 → la ≡ column values 5 n 4
       → k_ij ≡ pair_list values (n * 5) n 0 → gamma_ij ≡ pair_list values (n * 5) n 1
-      → ◌≡◌ {A = Mie.Lists} (record { count = n; m = m; sigma = sigma; epsilon_k = epsilon_k; lr = lr; la = la; k_ij = k_ij; gamma_ij = gamma_ij }) (mie_lists (record { kind = kind; count = n; values = values }))
+      → ◌≡◌ {A = Mie.Lists} (record { count = n; m = m; sigma = sigma; epsilon_k = epsilon_k; lr = lr; la = la; k_ij = k_ij; gamma_ij = gamma_ij }) (mie_lists (record { kind = 1; count = n; values = values }))
   unfolding mie_lists
-  mie_is kind m sigma epsilon_k lr la k_ij gamma_ij p₁ p₂ p₃ p₄ p₅ p₆ p₇ = rw (p₁, p₂, p₃, p₄, p₅, p₆, p₇)
+  mie_is m sigma epsilon_k lr la k_ij gamma_ij p₁ p₂ p₃ p₄ p₅ p₆ p₇ = rw (p₁, p₂, p₃, p₄, p₅, p₆, p₇)

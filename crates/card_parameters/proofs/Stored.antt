@@ -7,7 +7,6 @@ use lib.Ieee.{Float}
 use lib.Dec.{eqb}
 use lib.ListN.{length, take, drop}
 use lib.Seq.{length-take-le}
-use borrow.Author.Tests.{ne_eqb}
 use mathlib.Core.Path.{◌≡◌, refl, sym, ◌∙◌}
 use mathlib.Core.Bool.{true, false, cond}
 use mathlib.Core.List.{List}
@@ -20,7 +19,7 @@ use Rattle.saftvrmie_parameters.specs.Parameters as Mie
 use Rattle.saftvrmie_parameters.specs.declared.SaftVRMiePars.{SaftVRMiePars}
 use Rattle.set_lists.specs.Written.{QuantumLent, MieLent, set_written, mie_written}
 use Rattle.stages.proofs.Given.{verdict_held, verdict_refused}
-use Rattle.card.specs.Card.{Card, Form, value_count, read_card, card_answer}
+use Rattle.card.specs.Card.{Card, Form, number_of, value_count, read_card, card_answer}
 use Rattle.card.specs.declared.Heading.{Heading}
 use Rattle.card.proofs.Good.{counted}
 use Rattle.card.proofs.Whole.{and_left, and_right}
@@ -82,18 +81,18 @@ module _ (f : Form) (card : List ℕ) (l : CardLent) where
     card_refused values r p e = rw (t, ← p, e)
 
     module _ (values : List ℕ) (r : Result Heading Refusal) (head : Heading) (p : card_answer values r ≡ read_card f card) (e : r ≡ Ok head) where
-      reads : read_card f card ≡ held (record { kind = head.kind; count = head.count; values = take (value_count head.kind head.count) values })
+      reads : read_card f card ≡ held (record { kind = number_of head.kind; count = head.count; values = take (value_count (number_of head.kind) head.count) values })
       reads = sym (rw e at p)
 
       pub within : (1 ≤ head.count) × (head.count ≤ f.most)
-      within = let c = counted f card (record { kind = head.kind; count = head.count; values = take (value_count head.kind head.count) values }) reads in (c.some, c.most)
+      within = let c = counted f card (record { kind = number_of head.kind; count = head.count; values = take (value_count (number_of head.kind) head.count) values }) reads in (c.some, c.most)
 
-      module _ (part : List ℕ) (d : part ≡ take (value_count head.kind head.count) values) where
-        goes : card_parameters f card l ≡ card_stored (record { kind = head.kind; count = head.count; values = part }) l
+      module _ (part : List ℕ) (d : part ≡ take (value_count (number_of head.kind) head.count) values) where
+        goes : card_parameters f card l ≡ card_stored (record { kind = number_of head.kind; count = head.count; values = part }) l
         unfolding card_parameters demand ◌>>=◌
         goes = rw (t, reads, d)
 
-        module _ (z : head.kind ≡ 0) (a : Result (Unit {0}) Refusal) (h : outcome a true ≡ verdict (quantum_stored (record { kind = 0; count = head.count; values = part }) (record { m = l.m; sheets = l.sheets; orders = l.orders }))) where
+        module _ (z : number_of head.kind ≡ 0) (a : Result (Unit {0}) Refusal) (h : outcome a true ≡ verdict (quantum_stored (record { kind = 0; count = head.count; values = part }) (record { m = l.m; sheets = l.sheets; orders = l.orders }))) where
           pub quantum_stops : {n : Refusal} → a ≡ Err n → card_parameters f card l ≡ refused (code n)
           unfolding card_stored ◌>>=◌
           quantum_stops b = goes ∙ rw (z, verdict_refused _ a h b)
@@ -110,20 +109,20 @@ module _ (f : Form) (card : List ℕ) (l : CardLent) where
               (bind_held (quantum_stored (record { kind = 0; count = head.count; values = part }) (record { m = l.m; sheets = l.sheets; orders = l.orders })) (record { m = l.m; sheets = l.sheets; orders = l.orders })
               (λ (v : QuantumLent). record { model = 0; count = head.count; m = v.m; lists = l.lists; sheets = v.sheets; orders = v.orders }) (verdict_held _ _ a h b))
 
-        module _ (z : head.kind ≡ 0 → ⊥) (a : Result (Unit {0}) Refusal) (h : outcome a true ≡ verdict (mie_stored (record { kind = head.kind; count = head.count; values = part }) (record { lists = l.lists; sheets = l.sheets }))) where
+        module _ (z : number_of head.kind ≡ 1) (a : Result (Unit {0}) Refusal) (h : outcome a true ≡ verdict (mie_stored (record { kind = 1; count = head.count; values = part }) (record { lists = l.lists; sheets = l.sheets }))) where
           pub mie_stops : {n : Refusal} → a ≡ Err n → card_parameters f card l ≡ refused (code n)
           unfolding card_stored ◌>>=◌
-          mie_stops b = goes ∙ rw (ne_eqb head.kind 0 z, verdict_refused _ a h b)
+          mie_stops b = goes ∙ rw (z, verdict_refused _ a h b)
 
           pub mie_goes : (lists sheets : List Float) {u : Unit {0}} → a ≡ Ok u
-              → lists ≡ (stored (record { lists = l.lists; sheets = l.sheets }) (mie_stored (record { kind = head.kind; count = head.count; values = part }) (record { lists = l.lists; sheets = l.sheets }))).lists
-              → sheets ≡ (stored (record { lists = l.lists; sheets = l.sheets }) (mie_stored (record { kind = head.kind; count = head.count; values = part }) (record { lists = l.lists; sheets = l.sheets }))).sheets
+              → lists ≡ (stored (record { lists = l.lists; sheets = l.sheets }) (mie_stored (record { kind = 1; count = head.count; values = part }) (record { lists = l.lists; sheets = l.sheets }))).lists
+              → sheets ≡ (stored (record { lists = l.lists; sheets = l.sheets }) (mie_stored (record { kind = 1; count = head.count; values = part }) (record { lists = l.lists; sheets = l.sheets }))).sheets
               → card_parameters f card l ≡ held (record { model = 1; count = head.count; m = l.m; lists = lists; sheets = sheets; orders = l.orders })
           unfolding card_stored stored ◌>>=◌
           mie_goes lists sheets b x y =
               goes
-              ∙ rw (ne_eqb head.kind 0 z, x, y)
-              (bind_held (mie_stored (record { kind = head.kind; count = head.count; values = part }) (record { lists = l.lists; sheets = l.sheets })) (record { lists = l.lists; sheets = l.sheets })
+              ∙ rw (z, x, y)
+              (bind_held (mie_stored (record { kind = 1; count = head.count; values = part }) (record { lists = l.lists; sheets = l.sheets })) (record { lists = l.lists; sheets = l.sheets })
               (λ (v : MieLent). record { model = 1; count = head.count; m = l.m; lists = v.lists; sheets = v.sheets; orders = l.orders }) (verdict_held _ _ a h b))
 
 -- a refused part has changed nothing

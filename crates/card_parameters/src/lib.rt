@@ -13,7 +13,7 @@ ghost use Rattle.card.specs.Card.{Card, form_of};
 ghost use Rattle.card_lists.specs.Lists.{quantum_lists, mie_lists};
 ghost use Rattle.card_parameters.specs.Parameters.{CardLent, card_lengths, quantum_stored, mie_stored, card_parameters};
 
-use card::VALUES;
+use card::{Kind, VALUES};
 use number::Refusal;
 use saftvrmie_parameters::SaftVRMiePars;
 use saftvrqmie_parameters::SaftVRQMiePars;
@@ -50,9 +50,9 @@ fn quantum_set(values: &[u64], n: usize) -> Result<SaftVRQMiePars, Refusal>
 }
 
 // The set of SAFT-VR Mie likewise.
-fn mie_set(values: &[u64], kind: usize, n: usize) -> Result<SaftVRMiePars, Refusal>
+fn mie_set(values: &[u64], n: usize) -> Result<SaftVRMiePars, Refusal>
     requires { (n ≤ side) × (length values.now ≡ n * 5 + n * (n - 1)) }
-    ensures { let c : Card = record { kind = kind; count = n; values = values.now } in
+    ensures { let c : Card = record { kind = 1; count = n; values = values.now } in
         answer result ≡ Mie.saft_vr_mie_pars (mie_lists c) }
 {
     let square = n * n;
@@ -98,18 +98,17 @@ fn quantum_stored(
 // A set of SAFT-VR Mie likewise.
 fn mie_stored(
     values: &[u64],
-    kind: usize,
     n: usize,
     lists: &mut [f64],
     sheets: &mut [f64],
 ) -> Result<(), Refusal>
     requires { (n ≤ side) × (length values.now ≡ n * 5 + n * (n - 1)) × (mie_lengths lists.old sheets.old ≡ true) }
-    ensures { let c : Card = record { kind = kind; count = n; values = values.now } in
+    ensures { let c : Card = record { kind = 1; count = n; values = values.now } in
         let l : MieLent = record { lists = lists.entry.now; sheets = sheets.old } in
         let q = mie_stored c l in
         (outcome result true ≡ verdict q) × (lists.exit.now ≡ (stored l q).lists) × (sheets.new ≡ (stored l q).sheets) }
 {
-    let set = mie_set(values, kind, n)?;
+    let set = mie_set(values, n)?;
     set_lists::write_mie(set, lists, sheets);
     Ok(())
 }
@@ -149,17 +148,13 @@ pub fn parameters(
     }
     let mut values = [0; VALUES];
     let head = card::read(card, newer, &mut values)?;
-    let kind = head.kind;
     let n = head.count;
-    let total = card::value_count(kind, n);
-    if kind == 0 {
-        quantum_stored(&values[0..total], n, m, sheets, orders)?;
-        *model = 0;
-        *count = n;
-        return Ok(());
+    let total = card::value_count(head.kind, n);
+    match head.kind {
+        Kind::Quantum => quantum_stored(&values[0..total], n, m, sheets, orders)?,
+        Kind::Mie => mie_stored(&values[0..total], n, lists, sheets)?,
     }
-    mie_stored(&values[0..total], kind, n, lists, sheets)?;
-    *model = 1;
+    *model = head.kind as u8;
     *count = n;
     Ok(())
 }

@@ -18,7 +18,7 @@ use Rattle.bit_fields.specs.Bits.{digits, bits_of, over}
 use Rattle.bit_fields.proofs.Digits.{digits_length, numeral_below}
 use Rattle.bit_fields.proofs.Bytes.{Bytes, bits_length, bits_drop}
 use Rattle.bit_fields.proofs.Written.{over_over}
-use Rattle.card.specs.Card.{Card, Form, form_of, layout, value_count, read_card, card_answer}
+use Rattle.card.specs.Card.{Card, Form, form_of, number_of, layout, value_count, read_card, card_answer}
 use Rattle.card.specs.declared.Heading.{Heading}
 use Rattle.card.proofs.Good.{Counted, counted}
 use Rattle.card.proofs.Reading.{value_small}
@@ -161,20 +161,20 @@ module _ (f g : Form) (bytes : List ℕ) (l : CardRoom) (values : List ℕ) (ans
 
   module _ (h : Heading) (e : answer ≡ Ok h) where
     abbrev said : Card
-    said = record { kind = h.kind; count = h.count; values = take (value_count h.kind h.count) values }
+    said = record { kind = number_of h.kind; count = h.count; values = take (value_count (number_of h.kind) h.count) values }
 
     read_is : read_card f bytes ≡ held said
     read_is = sym (rw e at p)
 
-    pub counts : Counted f (record { kind = h.kind; count = h.count; values = take (value_count h.kind h.count) values })
+    pub counts : Counted f (record { kind = number_of h.kind; count = h.count; values = take (value_count (number_of h.kind) h.count) values })
     counts = counted f bytes said read_is
 
     pub moved_many : g.most < h.count → refused 16 ≡ card_moved f g bytes l
     unfolding card_moved demand ◌>>=◌
     moved_many b = rw (read_is, lt-leb h.count g.most b)
 
-    pub moved_goes : (total : ℕ) → h.count ≤ g.most → total ≡ value_count h.kind h.count
-        → card_moved f g bytes l ≡ card_stored (card_bytes g (record { kind = h.kind; count = h.count; values = take (total - 0) (drop 0 values) })) l
+    pub moved_goes : (total : ℕ) → h.count ≤ g.most → total ≡ value_count (number_of h.kind) h.count
+        → card_moved f g bytes l ≡ card_stored (card_bytes g (record { kind = number_of h.kind; count = h.count; values = take (total - 0) (drop 0 values) })) l
     unfolding card_moved demand ◌>>=◌
     moved_goes total b t =
         let z : total - 0 ≡ total = omega arith in

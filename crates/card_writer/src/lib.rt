@@ -4,10 +4,10 @@
 ghost use Rattle.std.specs.Prelude.{true, ◌≡◌, not, ◌++◌, ◌+◌, ◌*◌, ◌^◌, ◌<◌, ◌≤◌, length, drop};
 ghost use Rattle.bit_fields.specs.Bits.{bits_of, over};
 ghost use Rattle.mie_parameters.specs.Answer.{outcome, verdict, stored};
-ghost use Rattle.card.specs.Card.{Card, form_of, layout, most_components, value_count};
+ghost use Rattle.card.specs.Card.{Card, form_of, number_of, layout, most_components, value_count};
 ghost use Rattle.card_writer.specs.Writing.{write_field, write_fields, card_bits, byte_count, card_bytes, CardRoom, card_stored, card_moved};
 
-use card::{Field, MOST, VALUES};
+use card::{Field, Kind, MOST, VALUES};
 use number::Refusal;
 
 // How many bits a number takes.
@@ -25,15 +25,14 @@ fn field_length(field: Field, value: u64) -> usize
 }
 
 // How many bits a card takes, whose count is within the limits.
-fn card_length(kind: usize, count: usize, newer: bool, values: &[u64]) -> usize
-    requires { (1 ≤ count) × (count ≤ most_components) × (length values.now ≡ value_count kind count) }
-    ensures { (result ≡ 6 + length (write_fields (layout (form_of newer) kind count) values.now)) × (result < 2 ^ 16) }
+fn card_length(kind: Kind, count: usize, newer: bool, values: &[u64]) -> usize
+    requires { (1 ≤ count) × (count ≤ most_components) × (length values.now ≡ value_count (number_of kind) count) }
+    ensures { (result ≡ 6 + length (write_fields (layout (form_of newer) (number_of kind) count) values.now)) × (result < 2 ^ 16) }
 {
-    let total = card::value_count(kind, count);
     let mut bits = 6;
-    for k in 0usize..total {
+    for (k, value) in values.iter().enumerate() {
         let field = card::field_at(kind, count, newer, k);
-        bits = bits + field_length(field, values[k]);
+        bits = bits + field_length(field, *value);
     }
     bits
 }
@@ -57,23 +56,21 @@ fn write_field(card: &mut [u8], at: usize, field: Field, value: u64) -> usize
 }
 
 // The numbers behind a heading, of a card that is long enough.
-fn write_values(card: &mut [u8], kind: usize, count: usize, newer: bool, values: &[u64])
-    requires { (1 ≤ count) × (count ≤ most_components) × (length values.now ≡ value_count kind count)
-        × (6 + length (write_fields (layout (form_of newer) kind count) values.now) ≤ 8 * length card.old) }
-    ensures { bits_of card.new ≡ over 6 (write_fields (layout (form_of newer) kind count) values.now) (bits_of card.old) }
+fn write_values(card: &mut [u8], kind: Kind, count: usize, newer: bool, values: &[u64])
+    requires { (1 ≤ count) × (count ≤ most_components) × (length values.now ≡ value_count (number_of kind) count)
+        × (6 + length (write_fields (layout (form_of newer) (number_of kind) count) values.now) ≤ 8 * length card.old) }
+    ensures { bits_of card.new ≡ over 6 (write_fields (layout (form_of newer) (number_of kind) count) values.now) (bits_of card.old) }
 {
-    let total = card::value_count(kind, count);
     let mut end = 6;
-    for k in 0usize..total {
+    for (k, value) in values.iter().enumerate() {
         let field = card::field_at(kind, count, newer, k);
-        end = write_field(card, end, field, values[k]);
+        end = write_field(card, end, field, *value);
     }
 }
 
 // The model's number of a kind of card.
-fn model_of(kind: usize, newer: bool) -> u64
-    requires { kind ≤ 1 }
-    ensures { result ≡ (form_of newer).first + kind }
+fn model_of(kind: Kind, newer: bool) -> u64
+    ensures { result ≡ (form_of newer).first + number_of kind }
 {
     if newer {
         return 2 + kind as u64;
@@ -81,17 +78,17 @@ fn model_of(kind: usize, newer: bool) -> u64
     kind as u64
 }
 
-// A card of a known kind and count into a lent list, and its length; 12.
+// A card of a known count into a lent list, and its length; 12.
 pub fn store(
-    kind: usize,
+    kind: Kind,
     count: usize,
     newer: bool,
     values: &[u64],
     card: &mut [u8],
     told: &mut usize,
 ) -> Result<(), Refusal>
-    requires { (kind ≤ 1) × (1 ≤ count) × (count ≤ most_components) × (length values.now ≡ value_count kind count) }
-    ensures { let c : Card = record { kind = kind; count = count; values = values.now } in
+    requires { (1 ≤ count) × (count ≤ most_components) × (length values.now ≡ value_count (number_of kind) count) }
+    ensures { let c : Card = record { kind = number_of kind; count = count; values = values.now } in
         let l : CardRoom = record { card = card.entry.now; length = told.old } in
         let q = card_stored (card_bytes (form_of newer) c) l in
         (outcome result true ≡ verdict q) × (card.exit.now ≡ (stored l q).card) × (told.new ≡ (stored l q).length) }

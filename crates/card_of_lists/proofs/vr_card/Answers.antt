@@ -46,7 +46,7 @@ slice_bounds-store-end c =
 pub store-requires : goal.store-requires
 store-requires c =
     let h = vr_lengths (lists_of c.args.l.now) (record { card = c.args.card.now; length = c.args.told.now }) _ (passed_on _ _ _ _ c.saft_vr_mie_pars.ensures c.err.ensures.value c.passed.ensures) c.in_ok-passed.was in
-    (search rules, h.some, h.most, part_many _ _ _ (search rules) (total_small 1 c.args.l.now.count _ h.most c.value_count-total.ensures) c.value_count-total.ensures)
+    (h.some, h.most, part_many _ _ _ (search rules) (total_small 1 c.args.l.now.count _ h.most c.value_count-total.ensures) c.value_count-total.ensures)
 
 pub returns : goal.returns
 returns c =

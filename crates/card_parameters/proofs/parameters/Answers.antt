@@ -2,9 +2,8 @@
 use native.Mathlib.Omega.{arith}
 use mathlib.Core.Path.{refl, ap, ◌∙◌}
 use Rattle.card_parameters.specs.Parameters.{CardLent}
-use Rattle.card.specs.Card.{form_of}
+use Rattle.card.specs.Card.{form_of, number_of}
 use Rattle.number.proofs.Walk.{told, handed_on}
-use borrow.Author.Tests.{ne_eqb}
 use Rattle.set_lists.specs.Written.{QuantumLent, MieLent}
 use Rattle.card.proofs.Whole.{twelve}
 use Rattle.card.proofs.Reading.{total_small}
@@ -21,25 +20,25 @@ pub value_count-total-requires : goal.value_count-total-requires
 value_count-total-requires c = ((within (form_of c.args.newer) c.args.card.now (record { model = c.args.model.now; count = c.args.count.now; m = c.args.m.now; lists = c.args.lists.now; sheets = c.args.sheets.now; orders = c.args.orders.now }) (told c.card_lengths.ensures c.if-not-card_lengths.false) _ _ _ c.read.ensures.0 c.in_ok-head.was).0, twelve c.args.newer _ (within (form_of c.args.newer) c.args.card.now (record { model = c.args.model.now; count = c.args.count.now; m = c.args.m.now; lists = c.args.lists.now; sheets = c.args.sheets.now; orders = c.args.orders.now }) (told c.card_lengths.ensures c.if-not-card_lengths.false) _ _ _ c.read.ensures.0 c.in_ok-head.was).1)
 
 pub slice_bounds-quantum_stored-end : goal.slice_bounds-quantum_stored-end
-slice_bounds-quantum_stored-end c = omega (arith, total_small c.in_ok-head.head.kind c.in_ok-head.head.count c.value_count-total.result (twelve c.args.newer _ (within (form_of c.args.newer) c.args.card.now (record { model = c.args.model.now; count = c.args.count.now; m = c.args.m.now; lists = c.args.lists.now; sheets = c.args.sheets.now; orders = c.args.orders.now }) (told c.card_lengths.ensures c.if-not-card_lengths.false) _ _ _ c.read.ensures.0 c.in_ok-head.was).1) c.value_count-total.ensures, c.read.ensures.1)
+slice_bounds-quantum_stored-end c = omega (arith, total_small (number_of c.in_ok-head.head.kind) c.in_ok-head.head.count c.value_count-total.result (twelve c.args.newer _ (within (form_of c.args.newer) c.args.card.now (record { model = c.args.model.now; count = c.args.count.now; m = c.args.m.now; lists = c.args.lists.now; sheets = c.args.sheets.now; orders = c.args.orders.now }) (told c.card_lengths.ensures c.if-not-card_lengths.false) _ _ _ c.read.ensures.0 c.in_ok-head.was).1) c.value_count-total.ensures, c.read.ensures.1)
 
 pub quantum_stored-requires : goal.quantum_stored-requires
-quantum_stored-requires c = (twelve c.args.newer _ (within (form_of c.args.newer) c.args.card.now (record { model = c.args.model.now; count = c.args.count.now; m = c.args.m.now; lists = c.args.lists.now; sheets = c.args.sheets.now; orders = c.args.orders.now }) (told c.card_lengths.ensures c.if-not-card_lengths.false) _ _ _ c.read.ensures.0 c.in_ok-head.was).1, part_length c.in_ok-head.head.kind c.in_ok-head.head.count c.value_count-total.result 6 _ c.value_count-total.ensures (omega (arith, total_small c.in_ok-head.head.kind c.in_ok-head.head.count c.value_count-total.result (twelve c.args.newer _ (within (form_of c.args.newer) c.args.card.now (record { model = c.args.model.now; count = c.args.count.now; m = c.args.m.now; lists = c.args.lists.now; sheets = c.args.sheets.now; orders = c.args.orders.now }) (told c.card_lengths.ensures c.if-not-card_lengths.false) _ _ _ c.read.ensures.0 c.in_ok-head.was).1) c.value_count-total.ensures, c.read.ensures.1)) (rw c.if-kind-eq0.true refl), quantum_right _ _ _ _ (told c.card_lengths.ensures c.if-not-card_lengths.false))
+quantum_stored-requires c = (twelve c.args.newer _ (within (form_of c.args.newer) c.args.card.now (record { model = c.args.model.now; count = c.args.count.now; m = c.args.m.now; lists = c.args.lists.now; sheets = c.args.sheets.now; orders = c.args.orders.now }) (told c.card_lengths.ensures c.if-not-card_lengths.false) _ _ _ c.read.ensures.0 c.in_ok-head.was).1, part_length (number_of c.in_ok-head.head.kind) c.in_ok-head.head.count c.value_count-total.result 6 _ c.value_count-total.ensures (omega (arith, total_small (number_of c.in_ok-head.head.kind) c.in_ok-head.head.count c.value_count-total.result (twelve c.args.newer _ (within (form_of c.args.newer) c.args.card.now (record { model = c.args.model.now; count = c.args.count.now; m = c.args.m.now; lists = c.args.lists.now; sheets = c.args.sheets.now; orders = c.args.orders.now }) (told c.card_lengths.ensures c.if-not-card_lengths.false) _ _ _ c.read.ensures.0 c.in_ok-head.was).1) c.value_count-total.ensures, c.read.ensures.1)) (rw c.in-Quantum.is refl), quantum_right _ _ _ _ (told c.card_lengths.ensures c.if-not-card_lengths.false))
 
-pub returns-in_err-quantum_stored : goal.returns-in_err-quantum_stored
-returns-in_err-quantum_stored c = let q = quantum_stops (form_of c.args.newer) c.args.card.now (record { model = c.args.model.now; count = c.args.count.now; m = c.args.m.now; lists = c.args.lists.now; sheets = c.args.sheets.now; orders = c.args.orders.now }) (told c.card_lengths.ensures c.if-not-card_lengths.false) _ _ _ c.read.ensures.0 c.in_ok-head.was _ (whole_part c.value_count-total.result _ _ c.value_count-total.ensures) c.if-kind-eq0.true _ c.quantum_stored.ensures.0 c.in_err-quantum_stored.was in rw (handed_on _ c.from_residual-in_err-quantum_stored.ensures) (stored_verdict _ _ q, ap (λ (l : CardLent). l.model) (kept (record { model = c.args.model.now; count = c.args.count.now; m = c.args.m.now; lists = c.args.lists.now; sheets = c.args.sheets.now; orders = c.args.orders.now }) _ _ q), ap (λ (l : CardLent). l.count) (kept (record { model = c.args.model.now; count = c.args.count.now; m = c.args.m.now; lists = c.args.lists.now; sheets = c.args.sheets.now; orders = c.args.orders.now }) _ _ q), c.quantum_stored.ensures.1 ∙ ap (λ (l : QuantumLent). l.m) (unchanged _ _ _ c.quantum_stored.ensures.0 c.in_err-quantum_stored.was) ∙ ap (λ (l : CardLent). l.m) (kept (record { model = c.args.model.now; count = c.args.count.now; m = c.args.m.now; lists = c.args.lists.now; sheets = c.args.sheets.now; orders = c.args.orders.now }) _ _ q), ap (λ (l : CardLent). l.lists) (kept (record { model = c.args.model.now; count = c.args.count.now; m = c.args.m.now; lists = c.args.lists.now; sheets = c.args.sheets.now; orders = c.args.orders.now }) _ _ q), c.quantum_stored.ensures.2 ∙ ap (λ (l : QuantumLent). l.sheets) (unchanged _ _ _ c.quantum_stored.ensures.0 c.in_err-quantum_stored.was) ∙ ap (λ (l : CardLent). l.sheets) (kept (record { model = c.args.model.now; count = c.args.count.now; m = c.args.m.now; lists = c.args.lists.now; sheets = c.args.sheets.now; orders = c.args.orders.now }) _ _ q), c.quantum_stored.ensures.3 ∙ ap (λ (l : QuantumLent). l.orders) (unchanged _ _ _ c.quantum_stored.ensures.0 c.in_err-quantum_stored.was) ∙ ap (λ (l : CardLent). l.orders) (kept (record { model = c.args.model.now; count = c.args.count.now; m = c.args.m.now; lists = c.args.lists.now; sheets = c.args.sheets.now; orders = c.args.orders.now }) _ _ q))
+pub returns-in_err-quantum_stored-in-Quantum : goal.returns-in_err-quantum_stored-in-Quantum
+returns-in_err-quantum_stored-in-Quantum c = let q = quantum_stops (form_of c.args.newer) c.args.card.now (record { model = c.args.model.now; count = c.args.count.now; m = c.args.m.now; lists = c.args.lists.now; sheets = c.args.sheets.now; orders = c.args.orders.now }) (told c.card_lengths.ensures c.if-not-card_lengths.false) _ _ _ c.read.ensures.0 c.in_ok-head.was _ (whole_part c.value_count-total.result _ _ c.value_count-total.ensures) (rw c.in-Quantum.is refl) _ c.quantum_stored.ensures.0 c.in_err-quantum_stored-in-Quantum.was in rw (handed_on _ c.from_residual-in_err-quantum_stored-in-Quantum.ensures) (stored_verdict _ _ q, ap (λ (l : CardLent). l.model) (kept (record { model = c.args.model.now; count = c.args.count.now; m = c.args.m.now; lists = c.args.lists.now; sheets = c.args.sheets.now; orders = c.args.orders.now }) _ _ q), ap (λ (l : CardLent). l.count) (kept (record { model = c.args.model.now; count = c.args.count.now; m = c.args.m.now; lists = c.args.lists.now; sheets = c.args.sheets.now; orders = c.args.orders.now }) _ _ q), c.quantum_stored.ensures.1 ∙ ap (λ (l : QuantumLent). l.m) (unchanged _ _ _ c.quantum_stored.ensures.0 c.in_err-quantum_stored-in-Quantum.was) ∙ ap (λ (l : CardLent). l.m) (kept (record { model = c.args.model.now; count = c.args.count.now; m = c.args.m.now; lists = c.args.lists.now; sheets = c.args.sheets.now; orders = c.args.orders.now }) _ _ q), ap (λ (l : CardLent). l.lists) (kept (record { model = c.args.model.now; count = c.args.count.now; m = c.args.m.now; lists = c.args.lists.now; sheets = c.args.sheets.now; orders = c.args.orders.now }) _ _ q), c.quantum_stored.ensures.2 ∙ ap (λ (l : QuantumLent). l.sheets) (unchanged _ _ _ c.quantum_stored.ensures.0 c.in_err-quantum_stored-in-Quantum.was) ∙ ap (λ (l : CardLent). l.sheets) (kept (record { model = c.args.model.now; count = c.args.count.now; m = c.args.m.now; lists = c.args.lists.now; sheets = c.args.sheets.now; orders = c.args.orders.now }) _ _ q), c.quantum_stored.ensures.3 ∙ ap (λ (l : QuantumLent). l.orders) (unchanged _ _ _ c.quantum_stored.ensures.0 c.in_err-quantum_stored-in-Quantum.was) ∙ ap (λ (l : CardLent). l.orders) (kept (record { model = c.args.model.now; count = c.args.count.now; m = c.args.m.now; lists = c.args.lists.now; sheets = c.args.sheets.now; orders = c.args.orders.now }) _ _ q))
 
-pub returns-then-kind-eq0 : goal.returns-then-kind-eq0
-returns-then-kind-eq0 c = let q = quantum_goes (form_of c.args.newer) c.args.card.now (record { model = c.args.model.now; count = c.args.count.now; m = c.args.m.now; lists = c.args.lists.now; sheets = c.args.sheets.now; orders = c.args.orders.now }) (told c.card_lengths.ensures c.if-not-card_lengths.false) _ _ _ c.read.ensures.0 c.in_ok-head.was _ (whole_part c.value_count-total.result _ _ c.value_count-total.ensures) c.if-kind-eq0.true _ c.quantum_stored.ensures.0 _ _ _ c.in_ok-quantum_stored.was c.quantum_stored.ensures.1 c.quantum_stored.ensures.2 c.quantum_stored.ensures.3 in (held_verdict _ _ q, ap (λ (l : CardLent). l.model) (held_stored (record { model = c.args.model.now; count = c.args.count.now; m = c.args.m.now; lists = c.args.lists.now; sheets = c.args.sheets.now; orders = c.args.orders.now }) _ _ q), ap (λ (l : CardLent). l.count) (held_stored (record { model = c.args.model.now; count = c.args.count.now; m = c.args.m.now; lists = c.args.lists.now; sheets = c.args.sheets.now; orders = c.args.orders.now }) _ _ q), ap (λ (l : CardLent). l.m) (held_stored (record { model = c.args.model.now; count = c.args.count.now; m = c.args.m.now; lists = c.args.lists.now; sheets = c.args.sheets.now; orders = c.args.orders.now }) _ _ q), ap (λ (l : CardLent). l.lists) (held_stored (record { model = c.args.model.now; count = c.args.count.now; m = c.args.m.now; lists = c.args.lists.now; sheets = c.args.sheets.now; orders = c.args.orders.now }) _ _ q), ap (λ (l : CardLent). l.sheets) (held_stored (record { model = c.args.model.now; count = c.args.count.now; m = c.args.m.now; lists = c.args.lists.now; sheets = c.args.sheets.now; orders = c.args.orders.now }) _ _ q), ap (λ (l : CardLent). l.orders) (held_stored (record { model = c.args.model.now; count = c.args.count.now; m = c.args.m.now; lists = c.args.lists.now; sheets = c.args.sheets.now; orders = c.args.orders.now }) _ _ q))
+pub returns-in_ok-quantum_stored-in-Quantum : goal.returns-in_ok-quantum_stored-in-Quantum
+returns-in_ok-quantum_stored-in-Quantum c = let q = quantum_goes (form_of c.args.newer) c.args.card.now (record { model = c.args.model.now; count = c.args.count.now; m = c.args.m.now; lists = c.args.lists.now; sheets = c.args.sheets.now; orders = c.args.orders.now }) (told c.card_lengths.ensures c.if-not-card_lengths.false) _ _ _ c.read.ensures.0 c.in_ok-head.was _ (whole_part c.value_count-total.result _ _ c.value_count-total.ensures) (rw c.in-Quantum.is refl) _ c.quantum_stored.ensures.0 _ _ _ c.in_ok-quantum_stored-in-Quantum.was c.quantum_stored.ensures.1 c.quantum_stored.ensures.2 c.quantum_stored.ensures.3 in (held_verdict _ _ q, rw c.in-Quantum.is (ap (λ (l : CardLent). l.model) (held_stored (record { model = c.args.model.now; count = c.args.count.now; m = c.args.m.now; lists = c.args.lists.now; sheets = c.args.sheets.now; orders = c.args.orders.now }) _ _ q)), ap (λ (l : CardLent). l.count) (held_stored (record { model = c.args.model.now; count = c.args.count.now; m = c.args.m.now; lists = c.args.lists.now; sheets = c.args.sheets.now; orders = c.args.orders.now }) _ _ q), ap (λ (l : CardLent). l.m) (held_stored (record { model = c.args.model.now; count = c.args.count.now; m = c.args.m.now; lists = c.args.lists.now; sheets = c.args.sheets.now; orders = c.args.orders.now }) _ _ q), ap (λ (l : CardLent). l.lists) (held_stored (record { model = c.args.model.now; count = c.args.count.now; m = c.args.m.now; lists = c.args.lists.now; sheets = c.args.sheets.now; orders = c.args.orders.now }) _ _ q), ap (λ (l : CardLent). l.sheets) (held_stored (record { model = c.args.model.now; count = c.args.count.now; m = c.args.m.now; lists = c.args.lists.now; sheets = c.args.sheets.now; orders = c.args.orders.now }) _ _ q), ap (λ (l : CardLent). l.orders) (held_stored (record { model = c.args.model.now; count = c.args.count.now; m = c.args.m.now; lists = c.args.lists.now; sheets = c.args.sheets.now; orders = c.args.orders.now }) _ _ q))
 
 pub slice_bounds-mie_stored-end : goal.slice_bounds-mie_stored-end
-slice_bounds-mie_stored-end c = omega (arith, total_small c.in_ok-head.head.kind c.in_ok-head.head.count c.value_count-total.result (twelve c.args.newer _ (within (form_of c.args.newer) c.args.card.now (record { model = c.args.model.now; count = c.args.count.now; m = c.args.m.now; lists = c.args.lists.now; sheets = c.args.sheets.now; orders = c.args.orders.now }) (told c.card_lengths.ensures c.if-not-card_lengths.false) _ _ _ c.read.ensures.0 c.in_ok-head.was).1) c.value_count-total.ensures, c.read.ensures.1)
+slice_bounds-mie_stored-end c = omega (arith, total_small (number_of c.in_ok-head.head.kind) c.in_ok-head.head.count c.value_count-total.result (twelve c.args.newer _ (within (form_of c.args.newer) c.args.card.now (record { model = c.args.model.now; count = c.args.count.now; m = c.args.m.now; lists = c.args.lists.now; sheets = c.args.sheets.now; orders = c.args.orders.now }) (told c.card_lengths.ensures c.if-not-card_lengths.false) _ _ _ c.read.ensures.0 c.in_ok-head.was).1) c.value_count-total.ensures, c.read.ensures.1)
 
 pub mie_stored-requires : goal.mie_stored-requires
-mie_stored-requires c = (twelve c.args.newer _ (within (form_of c.args.newer) c.args.card.now (record { model = c.args.model.now; count = c.args.count.now; m = c.args.m.now; lists = c.args.lists.now; sheets = c.args.sheets.now; orders = c.args.orders.now }) (told c.card_lengths.ensures c.if-not-card_lengths.false) _ _ _ c.read.ensures.0 c.in_ok-head.was).1, part_length c.in_ok-head.head.kind c.in_ok-head.head.count c.value_count-total.result 5 _ c.value_count-total.ensures (omega (arith, total_small c.in_ok-head.head.kind c.in_ok-head.head.count c.value_count-total.result (twelve c.args.newer _ (within (form_of c.args.newer) c.args.card.now (record { model = c.args.model.now; count = c.args.count.now; m = c.args.m.now; lists = c.args.lists.now; sheets = c.args.sheets.now; orders = c.args.orders.now }) (told c.card_lengths.ensures c.if-not-card_lengths.false) _ _ _ c.read.ensures.0 c.in_ok-head.was).1) c.value_count-total.ensures, c.read.ensures.1)) (rw (ne_eqb _ _ c.if-kind-eq0.false) refl), mie_right _ _ _ _ (told c.card_lengths.ensures c.if-not-card_lengths.false))
+mie_stored-requires c = (twelve c.args.newer _ (within (form_of c.args.newer) c.args.card.now (record { model = c.args.model.now; count = c.args.count.now; m = c.args.m.now; lists = c.args.lists.now; sheets = c.args.sheets.now; orders = c.args.orders.now }) (told c.card_lengths.ensures c.if-not-card_lengths.false) _ _ _ c.read.ensures.0 c.in_ok-head.was).1, part_length (number_of c.in_ok-head.head.kind) c.in_ok-head.head.count c.value_count-total.result 5 _ c.value_count-total.ensures (omega (arith, total_small (number_of c.in_ok-head.head.kind) c.in_ok-head.head.count c.value_count-total.result (twelve c.args.newer _ (within (form_of c.args.newer) c.args.card.now (record { model = c.args.model.now; count = c.args.count.now; m = c.args.m.now; lists = c.args.lists.now; sheets = c.args.sheets.now; orders = c.args.orders.now }) (told c.card_lengths.ensures c.if-not-card_lengths.false) _ _ _ c.read.ensures.0 c.in_ok-head.was).1) c.value_count-total.ensures, c.read.ensures.1)) (rw c.in-Mie.is refl), mie_right _ _ _ _ (told c.card_lengths.ensures c.if-not-card_lengths.false))
 
-pub returns-in_err-mie_stored : goal.returns-in_err-mie_stored
-returns-in_err-mie_stored c = let q = mie_stops (form_of c.args.newer) c.args.card.now (record { model = c.args.model.now; count = c.args.count.now; m = c.args.m.now; lists = c.args.lists.now; sheets = c.args.sheets.now; orders = c.args.orders.now }) (told c.card_lengths.ensures c.if-not-card_lengths.false) _ _ _ c.read.ensures.0 c.in_ok-head.was _ (whole_part c.value_count-total.result _ _ c.value_count-total.ensures) c.if-kind-eq0.false _ c.mie_stored.ensures.0 c.in_err-mie_stored.was in rw (handed_on _ c.from_residual-in_err-mie_stored.ensures) (stored_verdict _ _ q, ap (λ (l : CardLent). l.model) (kept (record { model = c.args.model.now; count = c.args.count.now; m = c.args.m.now; lists = c.args.lists.now; sheets = c.args.sheets.now; orders = c.args.orders.now }) _ _ q), ap (λ (l : CardLent). l.count) (kept (record { model = c.args.model.now; count = c.args.count.now; m = c.args.m.now; lists = c.args.lists.now; sheets = c.args.sheets.now; orders = c.args.orders.now }) _ _ q), ap (λ (l : CardLent). l.m) (kept (record { model = c.args.model.now; count = c.args.count.now; m = c.args.m.now; lists = c.args.lists.now; sheets = c.args.sheets.now; orders = c.args.orders.now }) _ _ q), c.mie_stored.ensures.1 ∙ ap (λ (l : MieLent). l.lists) (unchanged _ _ _ c.mie_stored.ensures.0 c.in_err-mie_stored.was) ∙ ap (λ (l : CardLent). l.lists) (kept (record { model = c.args.model.now; count = c.args.count.now; m = c.args.m.now; lists = c.args.lists.now; sheets = c.args.sheets.now; orders = c.args.orders.now }) _ _ q), c.mie_stored.ensures.2 ∙ ap (λ (l : MieLent). l.sheets) (unchanged _ _ _ c.mie_stored.ensures.0 c.in_err-mie_stored.was) ∙ ap (λ (l : CardLent). l.sheets) (kept (record { model = c.args.model.now; count = c.args.count.now; m = c.args.m.now; lists = c.args.lists.now; sheets = c.args.sheets.now; orders = c.args.orders.now }) _ _ q), ap (λ (l : CardLent). l.orders) (kept (record { model = c.args.model.now; count = c.args.count.now; m = c.args.m.now; lists = c.args.lists.now; sheets = c.args.sheets.now; orders = c.args.orders.now }) _ _ q))
+pub returns-in_err-mie_stored-in-Mie : goal.returns-in_err-mie_stored-in-Mie
+returns-in_err-mie_stored-in-Mie c = let q = mie_stops (form_of c.args.newer) c.args.card.now (record { model = c.args.model.now; count = c.args.count.now; m = c.args.m.now; lists = c.args.lists.now; sheets = c.args.sheets.now; orders = c.args.orders.now }) (told c.card_lengths.ensures c.if-not-card_lengths.false) _ _ _ c.read.ensures.0 c.in_ok-head.was _ (whole_part c.value_count-total.result _ _ c.value_count-total.ensures) (rw c.in-Mie.is refl) _ c.mie_stored.ensures.0 c.in_err-mie_stored-in-Mie.was in rw (handed_on _ c.from_residual-in_err-mie_stored-in-Mie.ensures) (stored_verdict _ _ q, ap (λ (l : CardLent). l.model) (kept (record { model = c.args.model.now; count = c.args.count.now; m = c.args.m.now; lists = c.args.lists.now; sheets = c.args.sheets.now; orders = c.args.orders.now }) _ _ q), ap (λ (l : CardLent). l.count) (kept (record { model = c.args.model.now; count = c.args.count.now; m = c.args.m.now; lists = c.args.lists.now; sheets = c.args.sheets.now; orders = c.args.orders.now }) _ _ q), ap (λ (l : CardLent). l.m) (kept (record { model = c.args.model.now; count = c.args.count.now; m = c.args.m.now; lists = c.args.lists.now; sheets = c.args.sheets.now; orders = c.args.orders.now }) _ _ q), c.mie_stored.ensures.1 ∙ ap (λ (l : MieLent). l.lists) (unchanged _ _ _ c.mie_stored.ensures.0 c.in_err-mie_stored-in-Mie.was) ∙ ap (λ (l : CardLent). l.lists) (kept (record { model = c.args.model.now; count = c.args.count.now; m = c.args.m.now; lists = c.args.lists.now; sheets = c.args.sheets.now; orders = c.args.orders.now }) _ _ q), c.mie_stored.ensures.2 ∙ ap (λ (l : MieLent). l.sheets) (unchanged _ _ _ c.mie_stored.ensures.0 c.in_err-mie_stored-in-Mie.was) ∙ ap (λ (l : CardLent). l.sheets) (kept (record { model = c.args.model.now; count = c.args.count.now; m = c.args.m.now; lists = c.args.lists.now; sheets = c.args.sheets.now; orders = c.args.orders.now }) _ _ q), ap (λ (l : CardLent). l.orders) (kept (record { model = c.args.model.now; count = c.args.count.now; m = c.args.m.now; lists = c.args.lists.now; sheets = c.args.sheets.now; orders = c.args.orders.now }) _ _ q))
 
-pub returns : goal.returns
-returns c = let q = mie_goes (form_of c.args.newer) c.args.card.now (record { model = c.args.model.now; count = c.args.count.now; m = c.args.m.now; lists = c.args.lists.now; sheets = c.args.sheets.now; orders = c.args.orders.now }) (told c.card_lengths.ensures c.if-not-card_lengths.false) _ _ _ c.read.ensures.0 c.in_ok-head.was _ (whole_part c.value_count-total.result _ _ c.value_count-total.ensures) c.if-kind-eq0.false _ c.mie_stored.ensures.0 _ _ c.in_ok-mie_stored.was c.mie_stored.ensures.1 c.mie_stored.ensures.2 in (held_verdict _ _ q, ap (λ (l : CardLent). l.model) (held_stored (record { model = c.args.model.now; count = c.args.count.now; m = c.args.m.now; lists = c.args.lists.now; sheets = c.args.sheets.now; orders = c.args.orders.now }) _ _ q), ap (λ (l : CardLent). l.count) (held_stored (record { model = c.args.model.now; count = c.args.count.now; m = c.args.m.now; lists = c.args.lists.now; sheets = c.args.sheets.now; orders = c.args.orders.now }) _ _ q), ap (λ (l : CardLent). l.m) (held_stored (record { model = c.args.model.now; count = c.args.count.now; m = c.args.m.now; lists = c.args.lists.now; sheets = c.args.sheets.now; orders = c.args.orders.now }) _ _ q), ap (λ (l : CardLent). l.lists) (held_stored (record { model = c.args.model.now; count = c.args.count.now; m = c.args.m.now; lists = c.args.lists.now; sheets = c.args.sheets.now; orders = c.args.orders.now }) _ _ q), ap (λ (l : CardLent). l.sheets) (held_stored (record { model = c.args.model.now; count = c.args.count.now; m = c.args.m.now; lists = c.args.lists.now; sheets = c.args.sheets.now; orders = c.args.orders.now }) _ _ q), ap (λ (l : CardLent). l.orders) (held_stored (record { model = c.args.model.now; count = c.args.count.now; m = c.args.m.now; lists = c.args.lists.now; sheets = c.args.sheets.now; orders = c.args.orders.now }) _ _ q))
+pub returns-in_ok-mie_stored-in-Mie : goal.returns-in_ok-mie_stored-in-Mie
+returns-in_ok-mie_stored-in-Mie c = let q = mie_goes (form_of c.args.newer) c.args.card.now (record { model = c.args.model.now; count = c.args.count.now; m = c.args.m.now; lists = c.args.lists.now; sheets = c.args.sheets.now; orders = c.args.orders.now }) (told c.card_lengths.ensures c.if-not-card_lengths.false) _ _ _ c.read.ensures.0 c.in_ok-head.was _ (whole_part c.value_count-total.result _ _ c.value_count-total.ensures) (rw c.in-Mie.is refl) _ c.mie_stored.ensures.0 _ _ c.in_ok-mie_stored-in-Mie.was c.mie_stored.ensures.1 c.mie_stored.ensures.2 in (held_verdict _ _ q, rw c.in-Mie.is (ap (λ (l : CardLent). l.model) (held_stored (record { model = c.args.model.now; count = c.args.count.now; m = c.args.m.now; lists = c.args.lists.now; sheets = c.args.sheets.now; orders = c.args.orders.now }) _ _ q)), ap (λ (l : CardLent). l.count) (held_stored (record { model = c.args.model.now; count = c.args.count.now; m = c.args.m.now; lists = c.args.lists.now; sheets = c.args.sheets.now; orders = c.args.orders.now }) _ _ q), ap (λ (l : CardLent). l.m) (held_stored (record { model = c.args.model.now; count = c.args.count.now; m = c.args.m.now; lists = c.args.lists.now; sheets = c.args.sheets.now; orders = c.args.orders.now }) _ _ q), ap (λ (l : CardLent). l.lists) (held_stored (record { model = c.args.model.now; count = c.args.count.now; m = c.args.m.now; lists = c.args.lists.now; sheets = c.args.sheets.now; orders = c.args.orders.now }) _ _ q), ap (λ (l : CardLent). l.sheets) (held_stored (record { model = c.args.model.now; count = c.args.count.now; m = c.args.m.now; lists = c.args.lists.now; sheets = c.args.sheets.now; orders = c.args.orders.now }) _ _ q), ap (λ (l : CardLent). l.orders) (held_stored (record { model = c.args.model.now; count = c.args.count.now; m = c.args.m.now; lists = c.args.lists.now; sheets = c.args.sheets.now; orders = c.args.orders.now }) _ _ q))

@@ -3,7 +3,7 @@ use Rattle.number.proofs.Walk.{handed_on}
 use native.Mathlib.Omega.{arith}
 use mathlib.Core.Path.{ap}
 use mathlib.Core.Bool.{not}
-use Rattle.card.specs.Card.{form_of}
+use Rattle.card.specs.Card.{form_of, number_of}
 use Rattle.card.proofs.Reading.{total_small}
 use Rattle.card.proofs.Whole.{twelve}
 use Rattle.card_writer.specs.Writing.{CardRoom}
@@ -20,10 +20,10 @@ pub value_count-total-requires : goal.value_count-total-requires
 value_count-total-requires c = ((counts (form_of c.args.newer) (form_of (not c.args.newer)) c.args.card.now (record { card = c.args.to.now; length = c.args.told.now }) _ _ c.read.ensures.0 c.in_ok-head.head c.in_ok-head.was).some, twelve c.args.newer _ (counts (form_of c.args.newer) (form_of (not c.args.newer)) c.args.card.now (record { card = c.args.to.now; length = c.args.told.now }) _ _ c.read.ensures.0 c.in_ok-head.head c.in_ok-head.was).most)
 
 pub slice_bounds-store-end : goal.slice_bounds-store-end
-slice_bounds-store-end c = omega (arith, total_small c.in_ok-head.head.kind c.in_ok-head.head.count _ (twelve c.args.newer _ (counts (form_of c.args.newer) (form_of (not c.args.newer)) c.args.card.now (record { card = c.args.to.now; length = c.args.told.now }) _ _ c.read.ensures.0 c.in_ok-head.head c.in_ok-head.was).most) c.value_count-total.ensures, c.read.ensures.1)
+slice_bounds-store-end c = omega (arith, total_small (number_of c.in_ok-head.head.kind) c.in_ok-head.head.count _ (twelve c.args.newer _ (counts (form_of c.args.newer) (form_of (not c.args.newer)) c.args.card.now (record { card = c.args.to.now; length = c.args.told.now }) _ _ c.read.ensures.0 c.in_ok-head.head c.in_ok-head.was).most) c.value_count-total.ensures, c.read.ensures.1)
 
 pub store-requires : goal.store-requires
-store-requires c = ((counts (form_of c.args.newer) (form_of (not c.args.newer)) c.args.card.now (record { card = c.args.to.now; length = c.args.told.now }) _ _ c.read.ensures.0 c.in_ok-head.head c.in_ok-head.was).kind_low, (counts (form_of c.args.newer) (form_of (not c.args.newer)) c.args.card.now (record { card = c.args.to.now; length = c.args.told.now }) _ _ c.read.ensures.0 c.in_ok-head.head c.in_ok-head.was).some, twelve c.args.newer _ (counts (form_of c.args.newer) (form_of (not c.args.newer)) c.args.card.now (record { card = c.args.to.now; length = c.args.told.now }) _ _ c.read.ensures.0 c.in_ok-head.head c.in_ok-head.was).most, part_many _ _ c.in_ok-head.head.kind c.in_ok-head.head.count c.read.ensures.1 (twelve c.args.newer _ (counts (form_of c.args.newer) (form_of (not c.args.newer)) c.args.card.now (record { card = c.args.to.now; length = c.args.told.now }) _ _ c.read.ensures.0 c.in_ok-head.head c.in_ok-head.was).most) c.value_count-total.ensures)
+store-requires c = ((counts (form_of c.args.newer) (form_of (not c.args.newer)) c.args.card.now (record { card = c.args.to.now; length = c.args.told.now }) _ _ c.read.ensures.0 c.in_ok-head.head c.in_ok-head.was).some, twelve c.args.newer _ (counts (form_of c.args.newer) (form_of (not c.args.newer)) c.args.card.now (record { card = c.args.to.now; length = c.args.told.now }) _ _ c.read.ensures.0 c.in_ok-head.head c.in_ok-head.was).most, part_many _ _ (number_of c.in_ok-head.head.kind) c.in_ok-head.head.count c.read.ensures.1 (twelve c.args.newer _ (counts (form_of c.args.newer) (form_of (not c.args.newer)) c.args.card.now (record { card = c.args.to.now; length = c.args.told.now }) _ _ c.read.ensures.0 c.in_ok-head.head c.in_ok-head.was).most) c.value_count-total.ensures)
 
 pub returns : goal.returns
 returns c = let g = moved_goes (form_of c.args.newer) (form_of (not c.args.newer)) c.args.card.now (record { card = c.args.to.now; length = c.args.told.now }) _ _ c.read.ensures.0 c.in_ok-head.head c.in_ok-head.was _ (few_enough c.args.newer c.in_ok-head.head.count (counts (form_of c.args.newer) (form_of (not c.args.newer)) c.args.card.now (record { card = c.args.to.now; length = c.args.told.now }) _ _ c.read.ensures.0 c.in_ok-head.head c.in_ok-head.was).most c.if-newer-n.false) c.value_count-total.ensures in (rw g c.store.ensures.0, rw g c.store.ensures.1, rw g c.store.ensures.2)
