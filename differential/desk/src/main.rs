@@ -1,6 +1,6 @@
 //! The desk of Slip 12 beside the direct calls for table and energies, on the sources compiled as Rust: submissions and calls of serve
 //! in any order, desks of arbitrary bits, and the processor time of a query at a full desk beside the direct calls.
-use unproved::desk::{BYTES, FLOATS, Served, begin, serve, submit};
+use unproved::desk::{BYTES, DeskQuery, FLOATS, Served, begin, serve, submit};
 use unproved::number::Refusal;
 use unproved::saftvrqmie_energies::{QuantumEnergies, energies_of};
 use unproved::{limits, saftvrqmie, set_lists};
@@ -110,8 +110,17 @@ impl Query {
     }
 
     fn submit(&self, floats: &mut [f64], bytes: &mut [u8]) -> Result<usize, u8> {
-        let (x, rho, wanted) = (&self.fractions, &self.densities, self.non_additive);
-        submit(floats, bytes, self.count, &self.m, &self.sheets, &self.orders, self.temperature, x, rho, wanted).map_err(Refusal::code)
+        let query = DeskQuery {
+            count: self.count,
+            m: &self.m,
+            sheets: &self.sheets,
+            orders: &self.orders,
+            temperature: self.temperature,
+            fractions: &self.fractions,
+            densities: &self.densities,
+            non_additive: self.non_additive,
+        };
+        submit(floats, bytes, &query).map_err(Refusal::code)
     }
 
     fn pairs(&self) -> usize {
