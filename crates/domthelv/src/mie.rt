@@ -9,7 +9,7 @@ ghost use Rattle.saftvrmie_parameters.specs.Parameters as Mie;
 
 use saftvrmie_energies::Set;
 use saftvrmie_parameters::ComponentLists;
-use sizes::SIDE;
+use sizes::{SHEETS, SIDE};
 
 // Parameters of SAFT-VR Mie. 1, 2, 6.
 pub fn domthelv_vr_parameters(
@@ -162,7 +162,10 @@ pub fn domthelv_vr_dispersion(
     let epsilon_k = set_lists::places(lists, 2 * SIDE);
     let lr = set_lists::places(lists, 3 * SIDE);
     let la = set_lists::places(lists, 4 * SIDE);
-    let flat = set_lists::flat(sheets);
+    // Where they lie: a set of references to a copy would keep the copy.
+    let Ok(flat) = <&[f64; SHEETS]>::try_from(sheets) else {
+        return 1;
+    };
     let set = Set {
         count,
         m: &m,
@@ -170,7 +173,7 @@ pub fn domthelv_vr_dispersion(
         epsilon_k: &epsilon_k,
         lr: &lr,
         la: &la,
-        sheets: &flat,
+        sheets: flat,
     };
     let worked = saftvrmie_energies::dispersion_of(
         &set,

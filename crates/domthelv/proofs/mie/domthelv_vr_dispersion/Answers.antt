@@ -5,6 +5,7 @@ use Rattle.number.specs.Answer.{answer}
 use Rattle.number.proofs.Walk.{told, via}
 use mathlib.Core.Path.{refl, ◌∙◌}
 use native.Mathlib.Omega.{arith}
+use Rattle.domthelv.proofs.Whole.{whole}
 use Rattle.domthelv.proofs.mie.domthelv_vr_dispersion.Goals as goal
 
 pub returns-then-not-mie_lengths : goal.returns-then-not-mie_lengths
@@ -25,11 +26,17 @@ places-lr-requires c = let h = (mie_lengths_told _ _ (told c.mie_lengths.ensures
 pub places-la-requires : goal.places-la-requires
 places-la-requires c = let h = (mie_lengths_told _ _ (told c.mie_lengths.ensures c.if-not-mie_lengths.false)).places in omega (arith, h)
 
-pub flat-flat-requires : goal.flat-flat-requires
-flat-flat-requires c = (mie_lengths_told _ _ (told c.mie_lengths.ensures c.if-not-mie_lengths.false)).flat
+pub returns-in_default : goal.returns-in_default
+returns-in_default c = absurd (c.in_default.ensures.1 (mie_lengths_told _ _ (told c.mie_lengths.ensures c.if-not-mie_lengths.false)).flat)
 
 pub returns-in-Err : goal.returns-in-Err
-returns-in-Err c = let q = dispersion_is _ _ _ _ _ _ _ (mie_by _ _ _ _ _ _ _ _ (mie_holds _ (told c.mie_lengths.ensures c.if-not-mie_lengths.false)) c.places-m.ensures c.places-sigma.ensures c.places-epsilon_k.ensures c.places-lr.ensures c.places-la.ensures c.flat-flat.ensures) ∙ via answer c.dispersion_of-worked.ensures c.in-Err.is in (refused_status _ _ _ c.code.ensures q, refused_stored _ _ _ q)
+returns-in-Err c =
+    let e = (mie_lengths_told _ _ (told c.mie_lengths.ensures c.if-not-mie_lengths.false)).flat in
+    let q = dispersion_is _ _ _ _ _ _ _ (mie_by _ _ _ _ _ _ _ _ (mie_holds _ (told c.mie_lengths.ensures c.if-not-mie_lengths.false)) c.places-m.ensures c.places-sigma.ensures c.places-epsilon_k.ensures c.places-lr.ensures c.places-la.ensures (c.in-Ok.ensures.1.same ∙ whole _ _ e)) ∙ via answer c.dispersion_of-worked.ensures c.in-Err.is in
+    (refused_status _ _ _ c.code.ensures q, refused_stored _ _ _ q)
 
-pub returns-in-Ok : goal.returns-in-Ok
-returns-in-Ok c = let q = dispersion_is _ _ _ _ _ _ _ (mie_by _ _ _ _ _ _ _ _ (mie_holds _ (told c.mie_lengths.ensures c.if-not-mie_lengths.false)) c.places-m.ensures c.places-sigma.ensures c.places-epsilon_k.ensures c.places-lr.ensures c.places-la.ensures c.flat-flat.ensures) ∙ via answer c.dispersion_of-worked.ensures c.in-Ok.is in (held_status _ _ q, held_stored _ _ _ q)
+pub returns-in-Ok-worked : goal.returns-in-Ok-worked
+returns-in-Ok-worked c =
+    let e = (mie_lengths_told _ _ (told c.mie_lengths.ensures c.if-not-mie_lengths.false)).flat in
+    let q = dispersion_is _ _ _ _ _ _ _ (mie_by _ _ _ _ _ _ _ _ (mie_holds _ (told c.mie_lengths.ensures c.if-not-mie_lengths.false)) c.places-m.ensures c.places-sigma.ensures c.places-epsilon_k.ensures c.places-lr.ensures c.places-la.ensures (c.in-Ok.ensures.1.same ∙ whole _ _ e)) ∙ via answer c.dispersion_of-worked.ensures c.in-Ok-worked.is in
+    (held_status _ _ q, held_stored _ _ _ q)
