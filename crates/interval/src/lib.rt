@@ -102,7 +102,7 @@ fn chosen(first: bool, x: f64, y: f64) -> f64
     if first { x } else { y }
 }
 
-// A product out of line: a positive right factor, then any.
+// A product that `mul` leaves: a positive right factor, then any.
 fn product(g: bool, xl: f64, xu: f64, yl: f64, yu: f64) -> Interval
     ensures { result ≡ around g (mul binary64 xl yl) (mul binary64 xl yu) (mul binary64 xu yl) (mul binary64 xu yu) }
 {

@@ -87,7 +87,7 @@ pub fn raise(log: Log, exponent: FixedExponent) -> f64
     raise_core(word(log, exponent))
 }
 
-// The power; no value where the base or the exponent is outside its domain.
+// The power; refuses with 6 where the base or the exponent is outside its domain.
 pub fn powf(x: f64, y: f64) -> Result<f64, Refusal>
     ensures { answer result ≡ powf_of x y }
 {

@@ -194,7 +194,7 @@ impl<'a> PairLists for ComponentLists<'a> {
     }
 }
 
-// The order of a byte that is at most 2.
+// The order of a byte; above 2 the second.
 impl From<u8> for FeynmanHibbsOrder {
     ghost from_gives = { λ n r. r ≡ order_of n };
 

@@ -168,7 +168,7 @@ pub fn q2_of<D: DualNum>(l: D::Plain) -> D::Plain
         * (l - D::Plain::lit(1.0))
 }
 
-// No value where sigma has no power.
+// Refuses with 6 where sigma has no power.
 fn term_of<D: DualNum>(sigma: D::Plain, l: D::Plain) -> Result<Term<D>, Refusal>
     ensures { (w : Bool) → IsTerm (D.beside w) (D.functions w) (D.plain w) (D.power_at w) (D.power_by w) (D.plain w sigma) (D.plain w l) result }
 {
@@ -213,7 +213,7 @@ fn exponents_inside<D: DualNum>(first: bool, second: bool, r: &Term<D>, a: &Term
     mie & (if_wanted(first, one) & if_wanted(second, two))
 }
 
-// No value where sigma has no power: then no radius has a potential.
+// Refuses with 6 where sigma has no power: then no radius has a potential.
 pub fn share<D: DualNum>(p: &Pair<D, D::Plain>) -> Result<Shared<D>, Refusal>
     ensures { (w : Bool) → Shares (D.beside w) (D.functions w) (D.plain w) (D.power_at w) (D.power_by w) (D.of w) D.exponent_in (pair_by (D.plain w) (D.of w) p.now) result }
 {

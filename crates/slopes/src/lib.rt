@@ -98,7 +98,7 @@ pub fn raise(log: Log, slope: f64, exponent: SlopeExponent) -> Dual
     }
 }
 
-// x.powf(e); no value where one of the two powers is outside its domain.
+// x.powf(e); refuses with 6 where one of the two powers is outside its domain.
 pub fn powf(x: Dual, e: f64) -> Result<Dual, Refusal>
     ensures { answer_by dual_of result ≡ real_power port (dual_of x) e }
 {
