@@ -1,5 +1,4 @@
 pub mod Align
-pub mod Arms
 pub mod Correct
 pub mod Domain
 pub mod Midpoint
