@@ -27,6 +27,7 @@ use slopes::SlopeExponent;
 use std::ops::{Add, Div, Mul, Neg, Sub};
 
 // A base of powers with its logarithm, which holds where the base is inside the power's domain.
+// A flag, not an Option, here and in an exponent: with Options a quantum table takes 1.12 times the instructions.
 #[derive(Clone, Copy)]
 pub struct FloatBase {
     pub log: Log,
@@ -45,7 +46,7 @@ pub struct DualBase {
     pub slope: f64,
 }
 
-// An exponent of powers in fixed point, and whether it is inside the power's domain.
+// An exponent of powers in fixed point, and whether it is inside the power's domain: a flag, as of a base.
 #[derive(Clone, Copy)]
 pub struct FloatExponent {
     pub fixed: FixedExponent,
@@ -58,7 +59,7 @@ pub struct EnclosureExponent {
     pub at: FloatExponent,
 }
 
-// Whether it and the exponent of its slope are.
+// Whether it and the exponent of its slope are: a flag, as of a float's.
 #[derive(Clone, Copy)]
 pub struct DualExponent {
     pub fixed: SlopeExponent,

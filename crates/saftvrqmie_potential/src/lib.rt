@@ -53,7 +53,7 @@ pub struct Term<D: DualNum> {
     pub e6: D::Exponent,
 }
 
-// What all radii of a pair share, and whether the exponents of its order lie within the power's domain.
+// What all radii of a pair share, and whether the exponents of its order lie within the power's domain. A flag: an Option of the exponents would say too much, as those that the order leaves out may lie outside.
 #[derive(Drop)]
 pub struct Shared<D: DualNum> {
     pub r: Term<D>,
