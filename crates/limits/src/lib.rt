@@ -67,12 +67,7 @@ pub fn components_within(n: usize, sigma: &[f64], epsilon_k: &[f64], lr: &[f64],
     requires { (length sigma.now ≡ n) × (length epsilon_k.now ≡ n) × (length lr.now ≡ n) × (length la.now ≡ n) }
     ensures { result ≡ components_within n (components sigma.now epsilon_k.now lr.now la.now) }
 {
-    let mut ok = true;
-    for i in 0usize..n {
-        let c = component_at(sigma, epsilon_k, lr, la, i);
-        ok = ok & component_within(c);
-    }
-    ok
+    (0..n).all(|i| component_within(component_at(sigma, epsilon_k, lr, la, i)))
 }
 
 fn all_within(low: f64, high: f64, n: usize, l: &[f64]) -> bool
@@ -133,11 +128,7 @@ fn row_within(n: usize, k: &[f64], i: usize) -> bool
     requires { (n ≤ side) × (i < n) × (length k.now ≡ n * n) }
     ensures { result ≡ every n (λ j. pair_within (square n k.now) i j) }
 {
-    let mut ok = true;
-    for j in 0usize..n {
-        ok = ok & pair_within(n, k, i, j);
-    }
-    ok
+    (0..n).all(|j| pair_within(n, k, i, j))
 }
 
 // Of a list as long as the count's square, tested likewise.
@@ -145,11 +136,7 @@ pub fn pairs_within(n: usize, k: &[f64]) -> bool
     requires { (n ≤ side) × (length k.now ≡ n * n) }
     ensures { result ≡ pairs_within n (square n k.now) }
 {
-    let mut ok = true;
-    for i in 0usize..n {
-        ok = ok & row_within(n, k, i);
-    }
-    ok
+    (0..n).all(|i| row_within(n, k, i))
 }
 
 // Of a list as long as the count, as above.

@@ -1,10 +1,12 @@
 -- `limits::row_within` meets its contract. Assumes nothing.
-use Rattle.number.proofs.Walk.{every_none, every_next}
-use borrow.Author.Rules.{rules}
+use Rattle.std.proofs.Common.{rules, ◌∙◌, refl, arith}
+use Rattle.std.proofs.lemmas.Iterator.{YieldsList-from_range}
+use Rattle.std.proofs.lemmas.Iterator.Search.{all_from_yields_List}
+use Rattle.limits.specs.Limits.{square, pair_within}
+use Rattle.limits.proofs.Range.{every_range}
 use Rattle.limits.proofs.row_within.Goals as goal
 
-pub loop-j-init : goal.loop-j-init
-loop-j-init c = (search rules, every_none _)
-
-pub loop-j-preserved : goal.loop-j-preserved
-loop-j-preserved c = (search rules, every_next _ _ _ _ c.loop-j.invariant.1 c.pair_within-ok.ensures)
+pub returns : goal.returns
+returns c =
+    let test = pair_within (square c.args.n c.args.k.now) c.args.i in
+    all_from_yields_List test _ _ _ c.all.ensures.ran (YieldsList-from_range 0 c.args.n c.args.n refl (omega arith)) (λ x b q k. search rules) ∙ every_range test c.args.n
