@@ -97,6 +97,7 @@ fn pair_orders(a: u8, b: u8) -> Result<(), Refusal>
     Ok(())
 }
 
+// A loop, which `?` leaves with the first refusal.
 fn order_row(n: usize, fh: &[u8], i: usize) -> Result<(), Refusal>
     requires { (i < n) × (length fh.now ≡ n) }
     ensures { outcome result true ≡ order_row n fh.now i }
@@ -207,6 +208,7 @@ impl From<u8> for FeynmanHibbsOrder {
     }
 }
 
+// By index: an entry is of a pair, so there is no list to copy.
 fn orders_row(s: [OrderRecord; SHEET], n: usize, fh: &[u8], i: usize) -> [OrderRecord; SHEET]
     requires { (n ≤ side) × (i < n) × (length fh.now ≡ n) }
     ensures { result ≡ orders_row n fh.now i s }
