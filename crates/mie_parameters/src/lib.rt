@@ -97,8 +97,6 @@ pub fn in_places(n: usize, l: &[f64]) -> [f64; SIDE]
     ensures { result ≡ in_places floats n (at l.now) }
 {
     let mut places = [0.0; SIDE];
-    for i in 0usize..n {
-        places[i] = l[i];
-    }
+    places[..n].copy_from_slice(l);
     places
 }

@@ -24,7 +24,7 @@ module _ {S : Type 0} (f l : List S) (d : S) where
       let r : 0 + suc n ≡ suc n = omega arith in
       (rw q at (paste-suc l 0 f n d (rw q b) a)) ∙ ap (λ (m : ℕ). take (suc n) f ++ drop m l) r
 
-  copied_front : (n : ℕ) → n ≤ length f → n ≤ length l → filled n (λ i. slice_index_or f i d) l ≡ take n f ++ drop n l
+  pub copied_front : (n : ℕ) → n ≤ length f → n ≤ length l → filled n (λ i. slice_index_or f i d) l ≡ take n f ++ drop n l
   unfolding turns
   copied_front zero a b = refl
   copied_front (suc n) a b = rw (copied_front n (omega arith) (omega arith)) (one_more n (omega arith) (omega arith))
