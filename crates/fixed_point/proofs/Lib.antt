@@ -10,5 +10,4 @@ pub mod Patterns64
 pub mod Packed
 pub mod Decode
 pub mod Table
-pub mod Arms
 pub mod Bernstein
