@@ -1,37 +1,39 @@
 // Operations of SAFT-VR Mie on a set: the components' diameters, and a pair's lower limit and diameter.
 #![tactic(auto)]
 
-ghost use Rattle.std.specs.Prelude.{true, ◌≡◌, ◌+◌, ◌*◌, ◌<◌, ◌≤◌, length};
+ghost use Rattle.std.specs.Prelude.{true, ◌≡◌, ◌+◌, ◌*◌, ◌<◌, ◌≤◌, length, Bool};
 ghost use Rattle.number.specs.Answer.{answer};
 ghost use Rattle.number.specs.Lists.{at};
-ghost use Rattle.sizes.specs.Sizes.{side, sheet, cell};
+ghost use Rattle.sizes.specs.Sizes.{side, sheet};
 ghost use Rattle.number.specs.Walk.{filled, walk};
 ghost use Rattle.mie_parameters.specs.Answer.{outcome, verdict, stored};
 ghost use Rattle.saftvrmie_diameter.specs.Diameter.{c_eps_t};
 ghost use Rattle.saftvrmie.specs.Diameters.{diameter_at, diameter_turn, diameters_finite, right_length, diameters};
-ghost use Rattle.number.specs.Arith.{floats};
 ghost use Rattle.saftvrmie.specs.Pairs.{radius_ij, diameter_ij};
 
-use number::Refusal;
+use number::{Arithmetic, Refusal};
+use plain_num::PlainNum;
 use saftvrmie_parameters::SaftVRMiePars;
 use sizes::{SHEET, SHEETS, SIDE};
 
-fn diagonal(sheets: &[f64; SHEETS], k: usize, i: usize) -> f64
-    requires { (k < 6) × (i < side) }
-    ensures { result ≡ at sheets.now (sheet * k + cell i i) }
+// A number of a set, plain in any run.
+pub fn entry<D: PlainNum>(sheets: &[f64; SHEETS], k: usize, e: usize) -> D::Plain
+    requires { (k < 6) × (e < sheet) }
+    ensures { (w : Bool) → D.plain w result ≡ (D.beside w).lit (at sheets.now (sheet * k + e)) }
 {
-    sheets[SHEET * k + (SIDE * i + i)]
+    D::Plain::lit(sheets[SHEET * k + e])
 }
 
 fn diameter_at(sheets: &[f64; SHEETS], temperature: f64, i: usize) -> Result<f64, Refusal>
     requires { i < side }
     ensures { answer result ≡ diameter_at sheets.now temperature i }
 {
-    let sigma = diagonal(sheets, 0, i);
-    let epsilon_k = diagonal(sheets, 1, i);
-    let lr = diagonal(sheets, 2, i);
-    let la = diagonal(sheets, 3, i);
-    let c = diagonal(sheets, 4, i);
+    let e = SIDE * i + i;
+    let sigma = entry::<f64>(sheets, 0, e);
+    let epsilon_k = entry::<f64>(sheets, 1, e);
+    let lr = entry::<f64>(sheets, 2, e);
+    let la = entry::<f64>(sheets, 3, e);
+    let c = entry::<f64>(sheets, 4, e);
     saftvrmie_diameter::hs_diameter_ij(la, lr, c, epsilon_k, sigma, temperature)
 }
 
@@ -105,20 +107,14 @@ pub fn hs_diameter(set: SaftVRMiePars, temperature: f64, out: &mut [f64]) -> Res
     diameters_of(set.count, &sheets, temperature, out)
 }
 
-fn entry(sheets: &[f64; SHEETS], k: usize, e: usize) -> f64
-    requires { (k < 6) × (e < sheet) }
-    ensures { result ≡ at sheets.now (sheet * k + e) }
-{
-    sheets[SHEET * k + e]
-}
-
-fn c_eps_at(sheets: &[f64; SHEETS], temperature: f64, e: usize) -> f64
+pub fn c_eps_at<D: PlainNum>(sheets: &[f64; SHEETS], temperature: f64, e: usize) -> D
     requires { e < sheet }
-    ensures { result ≡ c_eps_t floats temperature (at sheets.now (4 * sheet + e)) (at sheets.now (1 * sheet + e)) }
+    ensures { (w : Bool) → let A = D.beside w in
+        D.of w result ≡ c_eps_t A (A.lit temperature) (A.lit (at sheets.now (4 * sheet + e))) (A.lit (at sheets.now (1 * sheet + e))) }
 {
-    let c = entry(sheets, 4, e);
-    let epsilon_k = entry(sheets, 1, e);
-    saftvrmie_diameter::c_eps_t(temperature, c, epsilon_k)
+    let c = entry::<D>(sheets, 4, e);
+    let epsilon_k = entry::<D>(sheets, 1, e);
+    saftvrmie_diameter::c_eps_t(D::entered(temperature), c, epsilon_k)
 }
 
 // The reduced lower limit of the pair (i, j). 1, 2, 6.
@@ -133,8 +129,8 @@ pub fn radius_ij(set: SaftVRMiePars, i: usize, j: usize, temperature: f64) -> Re
     }
     let sheets = set.sheets;
     let e = SIDE * i + j;
-    let la = entry(&sheets, 3, e);
-    let lr = entry(&sheets, 2, e);
+    let la = entry::<f64>(&sheets, 3, e);
+    let lr = entry::<f64>(&sheets, 2, e);
     let c_eps_t = c_eps_at(&sheets, temperature, e);
     saftvrmie_diameter::lower_integratal_limit(la, lr, c_eps_t)
 }
@@ -157,10 +153,10 @@ pub fn diameter_ij(
     }
     let sheets = set.sheets;
     let e = SIDE * i + j;
-    let la = entry(&sheets, 3, e);
-    let lr = entry(&sheets, 2, e);
+    let la = entry::<f64>(&sheets, 3, e);
+    let lr = entry::<f64>(&sheets, 2, e);
     let c_eps_t = c_eps_at(&sheets, temperature, e);
-    let sigma = entry(&sheets, 0, e);
+    let sigma = entry::<f64>(&sheets, 0, e);
     let d = saftvrmie_diameter::diameter_from(la, lr, c_eps_t, sigma, r0)?;
     if number::is_finite(d) {
         Ok(d)

@@ -1,21 +1,19 @@
 // The diameter of a pair from its reduced lower limit (saftvrmie/parameters.rs, `hs_diameter_ij`) in the two-ended run, and as a two-ended operation.
 #![tactic(auto)]
 
-ghost use Rattle.std.specs.Prelude.{◌≡◌, ◌+◌, ◌*◌, ◌<◌};
+ghost use Rattle.std.specs.Prelude.{◌≡◌, ◌<◌};
 ghost use Rattle.number.specs.Functions.{calls};
-ghost use Rattle.number.specs.Lists.{at};
-ghost use Rattle.sizes.specs.Sizes.{sheet};
 ghost use Rattle.elementary.specs.Port.{port};
 ghost use Rattle.number.specs.Answer.{answer};
-ghost use Rattle.enclosure.specs.Enclosure.{enclosures, point};
-ghost use Rattle.saftvrmie_diameter.specs.Diameter.{c_eps_t, beta_u_mie, node_turn, diameter_from};
+ghost use Rattle.enclosure.specs.Enclosure.{enclosures};
+ghost use Rattle.saftvrmie_diameter.specs.Diameter.{beta_u_mie, node_turn, diameter_from};
 ghost use Rattle.saftvrmie_diameter_ends.specs.Operations.{diameter_ends};
 
 use enclosure::{Enclosure, Ends};
 use number::Refusal;
 use saftvrmie_diameter::rule::Rule;
 use saftvrmie_parameters::SaftVRMiePars;
-use sizes::{SHEET, SHEETS, SIDE};
+use sizes::SIDE;
 
 fn beta_u_mie(
     la: Enclosure,
@@ -73,23 +71,6 @@ pub fn diameter_from(
     Ok(d * sigma)
 }
 
-// A number of a set, as a point.
-fn entry_point(sheets: &[f64; SHEETS], k: usize, e: usize) -> Enclosure
-    requires { (k < 6) × (e < sheet) }
-    ensures { result ≡ point (at sheets.now (sheet * k + e)) }
-{
-    Enclosure::point(sheets[SHEET * k + e])
-}
-
-fn c_eps_at(sheets: &[f64; SHEETS], temperature: f64, e: usize) -> Enclosure
-    requires { e < sheet }
-    ensures { result ≡ c_eps_t enclosures (point temperature) (point (at sheets.now (4 * sheet + e))) (point (at sheets.now (1 * sheet + e))) }
-{
-    let c = entry_point(sheets, 4, e);
-    let epsilon_k = entry_point(sheets, 1, e);
-    saftvrmie_diameter::c_eps_t(Enclosure::point(temperature), c, epsilon_k)
-}
-
 // The diameter of the pair (i, j) from its reduced lower limit, with two ends. 1, 2, 6, 7, 8.
 pub fn hs_diameter_ij_ends(
     set: SaftVRMiePars,
@@ -108,10 +89,10 @@ pub fn hs_diameter_ij_ends(
     }
     let sheets = set.sheets;
     let e = SIDE * i + j;
-    let la = entry_point(&sheets, 3, e);
-    let lr = entry_point(&sheets, 2, e);
-    let c_eps_t = c_eps_at(&sheets, temperature, e);
-    let sigma = entry_point(&sheets, 0, e);
+    let la = saftvrmie::entry::<Enclosure>(&sheets, 3, e);
+    let lr = saftvrmie::entry::<Enclosure>(&sheets, 2, e);
+    let c_eps_t = saftvrmie::c_eps_at::<Enclosure>(&sheets, temperature, e);
+    let sigma = saftvrmie::entry::<Enclosure>(&sheets, 0, e);
     let r = Enclosure::point(r0);
     enclosure::ends_of(diameter_from(la, lr, c_eps_t, sigma, r))
 }

@@ -1,6 +1,7 @@
 -- `saftvrmie::diameter_ij` meets its contract. Assumes nothing.
 use Rattle.saftvrmie.proofs.Pairs.{diameter_1, diameter_2, diameter_6, diameter_7, diameter_is}
 use Rattle.number.proofs.Walk.{told, handed_on}
+use mathlib.Core.Bool.{true}
 use native.Mathlib.Omega.{arith}
 use Rattle.mie_parameters.proofs.Laws.{inside}
 use mathlib.Core.Path.{ap}
@@ -32,10 +33,10 @@ pub entry-sigma-requires : goal.entry-sigma-requires
 entry-sigma-requires c = let h = inside _ _ _ (told c.index_within.ensures c.if-not-index_within.false) in (omega arith, omega (arith, h.high, h.row, h.column))
 
 pub returns-in_err-d : goal.returns-in_err-d
-returns-in_err-d c = rw (handed_on _ c.from_residual.ensures) (diameter_6 _ _ _ _ (told c.index_within.ensures c.if-not-index_within.false) (told c.temperature_within.ensures c.if-not-temperature_within.false) _ _ _ c.entry-la.ensures c.entry-lr.ensures c.c_eps_at-c_eps_t.ensures _ _ c.entry-sigma.ensures _ c.diameter_from.ensures _ (ap answer c.in_err-d.was))
+returns-in_err-d c = rw (handed_on _ c.from_residual.ensures) (diameter_6 _ _ _ _ (told c.index_within.ensures c.if-not-index_within.false) (told c.temperature_within.ensures c.if-not-temperature_within.false) _ _ _ (c.entry-la.ensures true) (c.entry-lr.ensures true) (c.c_eps_at-c_eps_t.ensures true) _ _ (c.entry-sigma.ensures true) _ c.diameter_from.ensures _ (ap answer c.in_err-d.was))
 
 pub returns-else-is_finite : goal.returns-else-is_finite
-returns-else-is_finite c = diameter_7 _ _ _ _ (told c.index_within.ensures c.if-not-index_within.false) (told c.temperature_within.ensures c.if-not-temperature_within.false) _ _ _ c.entry-la.ensures c.entry-lr.ensures c.c_eps_at-c_eps_t.ensures _ _ c.entry-sigma.ensures _ c.diameter_from.ensures _ (ap answer c.in_ok-d.was) (told c.is_finite.ensures c.if-is_finite.false)
+returns-else-is_finite c = diameter_7 _ _ _ _ (told c.index_within.ensures c.if-not-index_within.false) (told c.temperature_within.ensures c.if-not-temperature_within.false) _ _ _ (c.entry-la.ensures true) (c.entry-lr.ensures true) (c.c_eps_at-c_eps_t.ensures true) _ _ (c.entry-sigma.ensures true) _ c.diameter_from.ensures _ (ap answer c.in_ok-d.was) (told c.is_finite.ensures c.if-is_finite.false)
 
 pub returns-then-is_finite : goal.returns-then-is_finite
-returns-then-is_finite c = diameter_is _ _ _ _ (told c.index_within.ensures c.if-not-index_within.false) (told c.temperature_within.ensures c.if-not-temperature_within.false) _ _ _ c.entry-la.ensures c.entry-lr.ensures c.c_eps_at-c_eps_t.ensures _ _ c.entry-sigma.ensures _ c.diameter_from.ensures _ (ap answer c.in_ok-d.was) (told c.is_finite.ensures c.if-is_finite.true)
+returns-then-is_finite c = diameter_is _ _ _ _ (told c.index_within.ensures c.if-not-index_within.false) (told c.temperature_within.ensures c.if-not-temperature_within.false) _ _ _ (c.entry-la.ensures true) (c.entry-lr.ensures true) (c.c_eps_at-c_eps_t.ensures true) _ _ (c.entry-sigma.ensures true) _ c.diameter_from.ensures _ (ap answer c.in_ok-d.was) (told c.is_finite.ensures c.if-is_finite.true)

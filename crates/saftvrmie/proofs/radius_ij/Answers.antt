@@ -1,6 +1,7 @@
 -- `saftvrmie::radius_ij` meets its contract. Assumes nothing.
 use Rattle.saftvrmie.proofs.Pairs.{radius_1, radius_2, radius_is}
 use Rattle.number.proofs.Walk.{told}
+use mathlib.Core.Bool.{true}
 use native.Mathlib.Omega.{arith}
 use Rattle.mie_parameters.proofs.Laws.{inside}
 use Rattle.saftvrmie.proofs.radius_ij.Goals as goal
@@ -27,4 +28,4 @@ pub c_eps_at-c_eps_t-requires : goal.c_eps_at-c_eps_t-requires
 c_eps_at-c_eps_t-requires c = let h = inside _ _ _ (told c.index_within.ensures c.if-not-index_within.false) in omega (arith, h.high, h.row, h.column)
 
 pub returns : goal.returns
-returns c = radius_is _ _ _ _ (told c.index_within.ensures c.if-not-index_within.false) (told c.temperature_within.ensures c.if-not-temperature_within.false) _ _ _ c.entry-la.ensures c.entry-lr.ensures c.c_eps_at-c_eps_t.ensures _ c.lower_integratal_limit.ensures
+returns c = radius_is _ _ _ _ (told c.index_within.ensures c.if-not-index_within.false) (told c.temperature_within.ensures c.if-not-temperature_within.false) _ _ _ (c.entry-la.ensures true) (c.entry-lr.ensures true) (c.c_eps_at-c_eps_t.ensures true) _ c.lower_integratal_limit.ensures

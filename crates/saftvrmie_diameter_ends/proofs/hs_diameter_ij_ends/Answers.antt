@@ -1,4 +1,5 @@
 -- `saftvrmie_diameter_ends::hs_diameter_ij_ends` meets its contract. Assumes nothing.
+use mathlib.Core.Bool.{true}
 use Rattle.elementary.specs.Port.{port}
 use Rattle.number.proofs.Walk.{told}
 use Rattle.saftvrmie_diameter_ends.proofs.Encloses.{ends_1, ends_2, ends_on}
@@ -18,17 +19,17 @@ overflow_mul-e c = let h = inside _ _ _ (told c.index_within.ensures c.if-not-in
 pub overflow_add-e : goal.overflow_add-e
 overflow_add-e c = let h = inside _ _ _ (told c.index_within.ensures c.if-not-index_within.false) in omega (arith, h.high, h.row, h.column)
 
-pub entry_point-la-requires : goal.entry_point-la-requires
-entry_point-la-requires c = let h = inside _ _ _ (told c.index_within.ensures c.if-not-index_within.false) in (omega arith, omega (arith, h.high, h.row, h.column))
+pub entry-la-requires : goal.entry-la-requires
+entry-la-requires c = let h = inside _ _ _ (told c.index_within.ensures c.if-not-index_within.false) in (omega arith, omega (arith, h.high, h.row, h.column))
 
-pub entry_point-lr-requires : goal.entry_point-lr-requires
-entry_point-lr-requires c = let h = inside _ _ _ (told c.index_within.ensures c.if-not-index_within.false) in (omega arith, omega (arith, h.high, h.row, h.column))
+pub entry-lr-requires : goal.entry-lr-requires
+entry-lr-requires c = let h = inside _ _ _ (told c.index_within.ensures c.if-not-index_within.false) in (omega arith, omega (arith, h.high, h.row, h.column))
 
 pub c_eps_at-c_eps_t-requires : goal.c_eps_at-c_eps_t-requires
 c_eps_at-c_eps_t-requires c = let h = inside _ _ _ (told c.index_within.ensures c.if-not-index_within.false) in omega (arith, h.high, h.row, h.column)
 
-pub entry_point-sigma-requires : goal.entry_point-sigma-requires
-entry_point-sigma-requires c = let h = inside _ _ _ (told c.index_within.ensures c.if-not-index_within.false) in (omega arith, omega (arith, h.high, h.row, h.column))
+pub entry-sigma-requires : goal.entry-sigma-requires
+entry-sigma-requires c = let h = inside _ _ _ (told c.index_within.ensures c.if-not-index_within.false) in (omega arith, omega (arith, h.high, h.row, h.column))
 
 pub returns : goal.returns
-returns c = ends_on port _ _ _ _ _ (told c.index_within.ensures c.if-not-index_within.false) (told c.temperature_within.ensures c.if-not-temperature_within.false) _ _ _ _ _ _ _ c.entry_point-la.ensures c.entry_point-lr.ensures c.c_eps_at-c_eps_t.ensures c.entry_point-sigma.ensures c.point-r.ensures c.diameter_from.ensures c.ends_of.ensures
+returns c = ends_on port _ _ _ _ _ (told c.index_within.ensures c.if-not-index_within.false) (told c.temperature_within.ensures c.if-not-temperature_within.false) _ _ _ _ _ _ _ (c.entry-la.ensures true) (c.entry-lr.ensures true) (c.c_eps_at-c_eps_t.ensures true) (c.entry-sigma.ensures true) c.point-r.ensures c.diameter_from.ensures c.ends_of.ensures
