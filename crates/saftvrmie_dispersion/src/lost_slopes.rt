@@ -104,7 +104,7 @@ fn lost_sum(x: Enclosure, b: f64, t: f64, c: f64, e: f64) -> Enclosure
     }
 }
 
-// The sum in full; two callers keep it out of line.
+// The sum in full.
 fn whole_sum(x: Enclosure, b: Enclosure, t: Enclosure, c: Enclosure, e: Enclosure) -> Enclosure
     ensures { result ≡ add_e x (mul_e b (quotient_slope t c e)) }
 {

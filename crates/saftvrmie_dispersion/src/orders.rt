@@ -12,7 +12,7 @@ use mie_parameters::PHI;
 use number::{Arithmetic, Refusal};
 use saftvrmie_parameters::PairParameters;
 
-// `f` of a row of PHI; inlined, so that its numbers are known where it is worked.
+// `f` of a row of PHI; inlined, so that its numbers are known where it is worked. saftvrqmie_dispersion has it over D: numbers with slopes are no `Arithmetic`, as plain ones are, and a literal beside them stays plain.
 #[inline(always)]
 fn f<D: DualNum>(phi: [f64; 7], alpha: D::Plain, alpha2: D::Plain, alpha3: D::Plain) -> D::Plain
     ensures { (w : Bool) → D.plain w result ≡ f_from (D.beside w) phi (D.plain w alpha) (D.plain w alpha2) (D.plain w alpha3) }
@@ -109,12 +109,12 @@ pub fn pair_terms<D: DualNum>(
     let c = D::Plain::lit(p.c);
     let x0 = x0_of(d, D::Plain::lit(p.sigma));
     let s = sutherland::five_sums(x0, &fluid, D::Plain::lit(p.la), D::Plain::lit(p.lr))?;
-    let pref = pref(fluid.segment_density, d.cube(), eps_k, c);
-    let a3 = a3(bar.zeta_x_bar, of, eps_k)?;
+    let factor = pref(fluid.segment_density, d.cube(), eps_k, c);
+    let third = a3(bar.zeta_x_bar, of, eps_k)?;
     Ok(Terms {
-        a1: a1(pref, s),
-        a2: a2(pref, eps_k, c, fluid.k_hs, s),
-        a3,
+        a1: a1(factor, s),
+        a2: a2(factor, eps_k, c, fluid.k_hs, s),
+        a3: third,
         xi: xi(bar, of),
     })
 }
@@ -146,6 +146,7 @@ pub fn add_pair<D: DualNum>(xi: D, xj: D, t: Terms<D>, s: Sums<D>) -> Sums<D>
     }
 }
 
+// The quantum model's is in saftvrqmie_dispersion: for one line of sum the crate below both would stand on the numbers.
 pub fn orders_sum<D: DualNum>(s: Sums<D>, t_inv: D) -> D
     ensures { (w : Bool) → D.of w result ≡ orders_sum (D.beside w) (D.of w t_inv) (D.of w s.a1) (D.of w s.a2) (D.of w s.a3) }
 {

@@ -1,4 +1,4 @@
-// The Sutherland sums and the first two orders with slopes by the segment density.
+// The Sutherland sums and the first two orders with slopes by the segment density. They stand beside sutherland and orders: a Dual is both a DualNum and a SlopeNum, with other laws in each, so that one trait below both would take four impls of some twenty laws for formulas of a line.
 ghost use Rattle.std.specs.Prelude.{◌≡◌, Bool};
 ghost use Rattle.number.specs.Ans.{held};
 ghost use Rattle.number.specs.Answer.{answer_by};

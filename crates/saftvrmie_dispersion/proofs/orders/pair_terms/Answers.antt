@@ -15,14 +15,14 @@ returns-in_err-s g c w =
     let five = rw (c.x0_of-x0.ensures w, m.plain_lit_law w _ _ c.lit.ensures, m.plain_lit_law w _ _ c.lit-2.ensures, m.plain_lit_law w _ _ c.lit-3.ensures) at (via (answer_by (five_by of)) (c.five_sums.ensures w) c.in_err-s.was) in
     rw (handed_on _ c.from_residual.ensures, five)
 
-pub returns-in_err-a3 : goal.returns-in_err-a3
+pub returns-in_err-third : goal.returns-in_err-third
 unfolding terms_of term_orders_of ◌>>=◌
-returns-in_err-a3 g c w =
+returns-in_err-third g c w =
     let m = g.met.D.DualNum in
     let of = g.D.DualNum.of w in
     let five = rw (c.x0_of-x0.ensures w, m.plain_lit_law w _ _ c.lit.ensures, m.plain_lit_law w _ _ c.lit-2.ensures, m.plain_lit_law w _ _ c.lit-3.ensures) at (via (answer_by (five_by of)) (c.five_sums.ensures w) c.in_ok-s.was) in
-    let third = rw (c.six_of-of.ensures w, m.plain_lit_law w _ _ c.lit-eps_k.ensures) at (via (answer_by of) (c.a3.ensures w) c.in_err-a3.was) in
-    rw (handed_on _ c.from_residual-in_err-a3.ensures, five, a3_is, third)
+    let third = rw (c.six_of-of.ensures w, m.plain_lit_law w _ _ c.lit-eps_k.ensures) at (via (answer_by of) (c.a3.ensures w) c.in_err-third.was) in
+    rw (handed_on _ c.from_residual-in_err-third.ensures, five, a3_is, third)
 
 pub returns : goal.returns
 unfolding terms_of term_orders_of ◌>>=◌
@@ -30,7 +30,7 @@ returns g c w =
     let m = g.met.D.DualNum in
     let of = g.D.DualNum.of w in
     let five = rw (c.x0_of-x0.ensures w, m.plain_lit_law w _ _ c.lit.ensures, m.plain_lit_law w _ _ c.lit-2.ensures, m.plain_lit_law w _ _ c.lit-3.ensures) at (via (answer_by (five_by of)) (c.five_sums.ensures w) c.in_ok-s.was) in
-    let third = rw (c.six_of-of.ensures w, m.plain_lit_law w _ _ c.lit-eps_k.ensures) at (via (answer_by of) (c.a3.ensures w) c.in_ok-a3.was) in
+    let third = rw (c.six_of-of.ensures w, m.plain_lit_law w _ _ c.lit-eps_k.ensures) at (via (answer_by of) (c.a3.ensures w) c.in_ok-third.was) in
     rw (
       five,
       a3_is,
@@ -39,7 +39,7 @@ returns g c w =
       c.a1.ensures w,
       c.a2.ensures w,
       c.xi.ensures w,
-      c.pref-pref.ensures w,
+      c.pref-factor.ensures w,
       c.cube.ensures w,
       c.six_of-of.ensures w,
       m.plain_lit_law w _ _ c.lit-eps_k.ensures,
