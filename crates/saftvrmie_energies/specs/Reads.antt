@@ -1,5 +1,5 @@
 -- Lent lists and a run's own as the formulas read them: the contracts of helpers alone.
-use Rattle.std.specs.Prelude.{ℕ, Float, List, map, length, ◌≡◌, ◌≤◌}
+use Rattle.std.specs.Prelude.{ℕ, Float, List, map, length, ◌≡◌, ◌<◌, ◌≤◌}
 use Rattle.number.specs.Arith.{Arith}
 use Rattle.number.specs.Lists.{at, nth}
 use Rattle.sizes.specs.Sizes.{side}
@@ -24,6 +24,10 @@ pairs A sheets i j = pair_in A.lit (pair_at sheets i j)
 -- a list of a run's numbers
 abbrev pub read : {S : Type 0} (A : Arith) → (S → A.Num) → List S → ℕ → A.Num
 read A of l = nth A (map of l)
+
+-- what a closure gives of each pair of the count
+abbrev pub Cubes : {D N : Type 0} → ℕ → (D → N) → (ℕ → ℕ → D → Type 0) → (ℕ → ℕ → N) → Type 0
+Cubes n of post c = (i j : ℕ) (r : _) → i < n → j < n → post i j r → of r ≡ c i j
 
 abbrev pub properties_by : {S N : Type 0} → (S → N) → Properties S → PropertiesIn N
 properties_by of q = record { segment_density = of q.segment_density; zeta_x = of q.zeta_x; zeta_x_bar = of q.zeta_x_bar; k = k_by of q.k }

@@ -38,7 +38,7 @@ fn helmholtz_energy_density_disp<D: PlainNum>(s: &State, xs: &mut [D; SIDE]) -> 
     let bar = saftvrmie_dispersion::bar_of(q.zeta_x_bar);
     let a = disp_rows(s, xs, &fluid, &bar)?;
     let orders = saftvrmie_dispersion::orders_sum(a, inverse(s.temperature));
-    let all = total::<D>(n, s.densities);
+    let all = total::<D>(s.densities);
     Ok(after_ks(q.k, all * mean * orders))
 }
 
@@ -65,7 +65,7 @@ fn helmholtz_energy_density_disp_chain<S: ChainNum>(
     };
     let a = chain_rows(s, xs, &fluid, &chain, t_inv)?;
     let orders = saftvrmie_dispersion::orders_sum(a, t_inv);
-    let all = total::<S::Re>(n, s.densities);
+    let all = total::<S::Re>(s.densities);
     Ok(all * (mean * orders + a.a_chain))
 }
 

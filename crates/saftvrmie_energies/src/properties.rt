@@ -1,11 +1,11 @@
 // `Properties::new` (saftvrmie/eos/dispersion.rs): sums over components and pairs, of any run.
-ghost use Rattle.std.specs.Prelude.{◌≡◌, Bool, ◌<◌, ◌≤◌, length, map};
+ghost use Rattle.std.specs.Prelude.{◌≡◌, ℕ, Bool, ◌<◌, ◌≤◌, length, map};
 ghost use Rattle.number.specs.Answer.{answer_by};
 ghost use Rattle.number.specs.Walk.{turns};
 ghost use Rattle.sizes.specs.Sizes.{side};
 ghost use Rattle.mie_parameters.specs.Sums.{weighted};
 ghost use Rattle.saftvrmie_energies.specs.Properties.{total, xs_of, d_ij, d3_ij, s3_ij, zeta_row, zeta_sum, after_lower, properties};
-ghost use Rattle.saftvrmie_energies.specs.Reads.{entries, pairs, read, properties_by, state_of, Right};
+ghost use Rattle.saftvrmie_energies.specs.Reads.{entries, pairs, read, Cubes, properties_by, state_of, Right};
 
 use crate::set::State;
 use number::{Arithmetic, Refusal};
@@ -21,17 +21,17 @@ pub struct Properties<D> {
     pub k: KValues<D>,
 }
 
-pub fn total<D: PlainNum>(n: usize, v: &[f64]) -> D
-    requires { length v.now ≡ n }
-    ensures { (w : Bool) → D.of w result ≡ total (D.beside w) n (entries (D.beside w) v.now) }
+pub fn total<D: PlainNum>(v: &[f64]) -> D
+    ensures { (w : Bool) → D.of w result ≡ total (D.beside w) (length v.now) (entries (D.beside w) v.now) }
 {
     let mut s = D::entered(0.0);
-    for i in 0usize..n {
-        s = s + D::entered(v[i]);
+    for x in v {
+        s = s + D::entered(*x);
     }
     s
 }
 
+// By index, as the segment numbers have more places than the list.
 pub fn weighted<D: PlainNum>(n: usize, v: &[f64], m: &[f64; SIDE]) -> D
     requires { (n ≤ side) × (length v.now ≡ n) }
     ensures { (w : Bool) → D.of w result ≡ weighted (D.beside w) n (entries (D.beside w) v.now) (entries (D.beside w) m.now) }
@@ -43,6 +43,7 @@ pub fn weighted<D: PlainNum>(n: usize, v: &[f64], m: &[f64; SIDE]) -> D
     s
 }
 
+// By index, since it also writes.
 pub fn xs_of<D: PlainNum>(n: usize, x: &[f64], m: &[f64; SIDE], mean: D) -> [D; SIDE]
     requires { (n ≤ side) × (length x.now ≡ n) }
     ensures { (w : Bool) → map (D.of w) result ≡ xs_of (D.beside w) n (entries (D.beside w) x.now) (entries (D.beside w) m.now) (D.of w mean) }
@@ -78,67 +79,45 @@ fn d3_ij<D: PlainNum>(d: &[f64], i: usize, j: usize) -> D
     d_ij::<D>(d, i, j).cube()
 }
 
-fn s3_ij<D: PlainNum>(s: &[f64; SHEETS], i: usize, j: usize) -> D::Plain
+fn s3_ij<D: PlainNum>(s: &[f64; SHEETS], i: usize, j: usize) -> D
     requires { (i < side) × (j < side) }
-    ensures { (w : Bool) → D.plain w result ≡ s3_ij (D.beside w) (pairs (D.beside w) s.now) i j }
+    ensures { (w : Bool) → D.of w result ≡ s3_ij (D.beside w) (pairs (D.beside w) s.now) i j }
 {
-    D::Plain::lit(s[SIDE * i + j]).cube()
+    D::entered(s[SIDE * i + j]).cube()
 }
 
-// Row i of zeta_x's sum: d³ of the pairs.
-fn zeta_row<D: PlainNum>(n: usize, xs: &[D; SIDE], d: &[f64], i: usize, start: D) -> D
-    requires { (n ≤ side) × (i < n) × (length d.now ≡ n) }
-    ensures { (w : Bool) → D.of w result ≡ zeta_row (D.beside w) n (read (D.beside w) (D.of w) xs.now) (d3_ij (D.beside w) (entries (D.beside w) d.now)) i (D.of w start) }
-{
-    let xi = component(xs, i);
-    let two = D::Plain::lit(2.0);
-    let mut s = start + xi.square() * d3_ij::<D>(d, i, i);
-    for k in 0usize..n - (i + 1) {
-        let j = i + 1 + k;
-        s = s + xi * component(xs, j) * d3_ij::<D>(d, i, j) * two;
-    }
-    s
-}
-
-fn zeta_sum<D: PlainNum>(n: usize, xs: &[D; SIDE], d: &[f64]) -> D
-    requires { (n ≤ side) × (length d.now ≡ n) }
-    ensures { (w : Bool) → D.of w result ≡ zeta_sum (D.beside w) n (read (D.beside w) (D.of w) xs.now) (d3_ij (D.beside w) (entries (D.beside w) d.now)) }
-{
-    let mut s = D::entered(0.0);
-    for i in 0usize..n {
-        s = zeta_row(n, xs, d, i, s);
-    }
-    s
-}
-
-// Row i of zeta_x_bar's sum: sigma³ of the pairs.
-fn zeta_bar_row<D: PlainNum>(
+// Row i of zeta_x or of zeta_x_bar: cube gives d³ or sigma³ of a pair.
+fn zeta_row<D: PlainNum, F: Fn(usize, usize) -> D>(
     n: usize,
     xs: &[D; SIDE],
-    sheets: &[f64; SHEETS],
+    cube: &F,
     i: usize,
     start: D,
 ) -> D
-    requires { (n ≤ side) × (i < n) }
-    ensures { (w : Bool) → D.of w result ≡ zeta_row (D.beside w) n (read (D.beside w) (D.of w) xs.now) (s3_ij (D.beside w) (pairs (D.beside w) sheets.now)) i (D.of w start) }
+    requires inside { (n ≤ side) × (i < n) }
+    requires callable { (j : ℕ) → j < n → F.pre cube.now i j }
+    ensures { (w : Bool) (c : ℕ → ℕ → (D.beside w).Num) → Cubes n (D.of w) (F.post cube.now) c
+        → D.of w result ≡ zeta_row (D.beside w) n (read (D.beside w) (D.of w) xs.now) c i (D.of w start) }
 {
     let xi = component(xs, i);
     let two = D::Plain::lit(2.0);
-    let mut s = start + xi.square() * s3_ij::<D>(sheets, i, i);
+    let mut s = start + xi.square() * cube(i, i);
     for k in 0usize..n - (i + 1) {
         let j = i + 1 + k;
-        s = s + xi * component(xs, j) * s3_ij::<D>(sheets, i, j) * two;
+        s = s + xi * component(xs, j) * cube(i, j) * two;
     }
     s
 }
 
-fn zeta_bar_sum<D: PlainNum>(n: usize, xs: &[D; SIDE], sheets: &[f64; SHEETS]) -> D
-    requires { n ≤ side }
-    ensures { (w : Bool) → D.of w result ≡ zeta_sum (D.beside w) n (read (D.beside w) (D.of w) xs.now) (s3_ij (D.beside w) (pairs (D.beside w) sheets.now)) }
+fn zeta_sum<D: PlainNum, F: Fn(usize, usize) -> D>(n: usize, xs: &[D; SIDE], cube: F) -> D
+    requires inside { n ≤ side }
+    requires callable { (i j : ℕ) → i < n → j < n → F.pre cube i j }
+    ensures { (w : Bool) (c : ℕ → ℕ → (D.beside w).Num) → Cubes n (D.of w) (F.post cube) c
+        → D.of w result ≡ zeta_sum (D.beside w) n (read (D.beside w) (D.of w) xs.now) c }
 {
     let mut s = D::entered(0.0);
     for i in 0usize..n {
-        s = zeta_bar_row(n, xs, sheets, i, s);
+        s = zeta_row(n, xs, &cube, i, s);
     }
     s
 }
@@ -177,8 +156,11 @@ pub fn properties_of<D: PlainNum>(s: &State, xs: &[D; SIDE]) -> Result<Propertie
     let d = s.diameters;
     let segment_density = weighted::<D>(n, s.densities, set.m);
     let factor = segment_density * D::frac_pi_6();
-    let zeta_x = after_lower(n, d, zeta_sum(n, xs, d) * factor);
-    let zeta_x_bar = zeta_bar_sum(n, xs, set.sheets) * factor;
+    let sum = zeta_sum(n, xs, |i, j| d3_ij::<D>(d, i, j));
+    let zeta_x = after_lower(n, d, sum * factor);
+    let sheets = set.sheets;
+    let sum_bar = zeta_sum(n, xs, |i, j| s3_ij::<D>(sheets, i, j));
+    let zeta_x_bar = sum_bar * factor;
     let k = saftvrmie_dispersion::k_values(zeta_x)?;
     Ok(Properties {
         segment_density,

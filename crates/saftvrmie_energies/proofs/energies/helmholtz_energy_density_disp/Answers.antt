@@ -43,6 +43,7 @@ returns g c w =
       m.mul_law w _ _ _ c.mul-2.ensures,
       m.mul_law w _ _ _ c.mul.ensures,
       c.total-all.ensures w,
+      c.requires.2,
       c.orders_sum-orders.ensures w,
       c.inverse.ensures w,
     )

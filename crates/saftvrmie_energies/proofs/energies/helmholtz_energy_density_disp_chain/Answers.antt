@@ -38,5 +38,6 @@ returns g c w =
       n.add_law w _ _ _ c.add.ensures,
       n.mul_law w _ _ _ c.mul.ensures,
       c.total-all.ensures w,
+      c.requires.2,
       c.orders_sum-orders.ensures w,
     )

@@ -4,6 +4,4 @@ use Rattle.saftvrmie_energies.proofs.properties.s3_ij.Goals as goal
 
 pub returns : goal.returns
 unfolding s3_ij
-returns g c w =
-    let m = g.met.D.DualNum in
-    rw (m.plain_pow_law w _ _ 3 c.cube.ensures, m.plain_lit_law w _ _ c.lit.ensures)
+returns g c w = rw (c.cube.ensures w, c.entered.ensures w)

@@ -5,14 +5,14 @@ use Rattle.number.proofs.Walk.{turns_none, turns_next, turns_end}
 use Rattle.saftvrmie_energies.specs.Properties.{total}
 use Rattle.saftvrmie_energies.proofs.properties.total.Goals as goal
 
-pub loop-i-init : goal.loop-i-init
-loop-i-init g c = (search rules, λ w. c.entered-s.ensures w ∙ turns_none _ _)
+pub loop-x-init : goal.loop-x-init
+loop-x-init g c = (search rules, λ w. c.entered-s.ensures w ∙ turns_none _ _)
 
-pub loop-i-preserved : goal.loop-i-preserved
-loop-i-preserved g c =
+pub loop-x-preserved : goal.loop-x-preserved
+loop-x-preserved g c =
     let m = g.met.D.DualNum in
-    (search rules, λ w. turns_next _ _ _ _ _ (c.loop-i.invariant.1 w) (rw (m.add_law w _ _ _ c.add-s.ensures, c.entered.ensures w)))
+    (search rules, λ w. turns_next _ _ _ _ _ (c.loop-x.invariant.1 w) (rw (m.add_law w _ _ _ c.add-s.ensures, c.entered.ensures w)))
 
 pub returns : goal.returns
 unfolding total
-returns g c w = turns_end _ _ _ _ _ c.loop-i.invariant.0 c.loop-i-test.false (c.loop-i.invariant.1 w)
+returns g c w = turns_end _ _ _ _ _ c.loop-x.invariant.0 c.loop-x-test.false (c.loop-x.invariant.1 w)
