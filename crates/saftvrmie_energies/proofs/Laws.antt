@@ -1,5 +1,6 @@
 -- Laws of the operation, test by test. Assumes nothing.
 use Prim.Native.Nat.{ℕ, ◌≤◌}
+use native.Mathlib.Omega.{arith}
 use lib.Dec.{eqb}
 use lib.Ieee.{Float}
 use lib.Ieee.Scale.{finite}
@@ -8,8 +9,8 @@ use mathlib.Core.List.{List}
 use mathlib.Core.Path.{◌≡◌, refl}
 use mathlib.Core.Bool.{Bool, true, false, ◌&&◌}
 use borrow.Author.Tests.{eqb-true}
-use Rattle.number.specs.Ans.{held, refused, ◌>>=◌, demand}
-use Rattle.std.specs.Prelude.{Result, Ok, Err}
+use Rattle.number.specs.Ans.{Ans, held, refused, ◌>>=◌, demand}
+use Rattle.std.specs.Prelude.{Result, Ok, Err, cond}
 use Rattle.number.specs.Answer.{answer, answer_by}
 use Rattle.number.specs.declared.refusal.Refusal.{Refusal}
 use Rattle.number.specs.Arith.{floats}
@@ -38,6 +39,21 @@ module _ (n x rho d : ℕ) (p : state_lengths n x rho d ≡ true) where
   pub right_d : d ≡ n
   unfolding state_lengths
   right_d = eqb-true d n (and_right ((count_within n && eqb x n) && eqb rho n) (eqb d n) p)
+
+-- ---- 1, then 2: both tests pass, or the first that does not is told
+pub first_passed : (a b : Bool) → cond a (cond b (held true) (refused 2)) (refused 1) ≡ held true → a ≡ true
+first_passed true b h = refl
+first_passed false b h = let z : ◌≡◌ {A = ℕ} 0 1 = cc in absurd (omega arith)
+
+pub second_passed : (a b : Bool) → cond a (cond b (held true) (refused 2)) (refused 1) ≡ held true → b ≡ true
+second_passed true true h = refl
+second_passed true false h = let z : ◌≡◌ {A = ℕ} 0 1 = cc in absurd (omega arith)
+second_passed false b h = let z : ◌≡◌ {A = ℕ} 0 1 = cc in absurd (omega arith)
+
+pub test_told : {T : Type 0} (a b : Bool) (k : ℕ) (r : Ans T) → cond a (cond b (held true) (refused 2)) (refused 1) ≡ refused k → (a ≡ false → refused 1 ≡ r) → (a ≡ true → b ≡ false → refused 2 ≡ r) → refused k ≡ r
+test_told true true k r h f g = let z : ◌≡◌ {A = ℕ} 0 1 = cc in absurd (omega arith)
+test_told true false k r h f g = let z : ◌≡◌ {A = ℕ} k 2 = cc in rw z (g refl refl)
+test_told false b k r h f g = let z : ◌≡◌ {A = ℕ} k 1 = cc in rw z (f refl)
 
 -- ---- numbers that a run holds as they are
 pub as_it_is : {T : Type 0} (r : Result T Refusal) → answer r ≡ answer_by (λ x. x) r

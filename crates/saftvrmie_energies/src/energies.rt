@@ -7,7 +7,7 @@ ghost use Rattle.saftvrmie_energies.specs.Energies.{energy_run, energy};
 ghost use Rattle.saftvrmie_energies.specs.Reads.{set_of, state_of, Right};
 
 use crate::properties::{after_ks, properties_of, total, weighted, xs_of};
-use crate::set::{Set, State, lent, right_lists};
+use crate::set::{Set, State, lent, tested};
 use crate::sums::{chain_rows, disp_rows};
 use dual::Dual;
 use number::Refusal;
@@ -105,12 +105,7 @@ pub fn dispersion_of(
         densities,
         diameters,
     };
-    if !right_lists(&s) {
-        return Err(Refusal::Length);
-    }
-    if !limits::state_within(set.count, temperature, fractions, densities) {
-        return Err(Refusal::Limit);
-    }
+    tested(&s)?;
     let mut xs = [0.0; SIDE];
     let v = energy_run::<Dual>(&s, chain, &mut xs)?;
     if !number::is_finite(v) {

@@ -7,4 +7,4 @@ mod set;
 mod sums;
 
 pub use energies::{dispersion, dispersion_of, energy_run};
-pub use set::{Set, State, lent, right_lists};
+pub use set::{Set, State, lent, tested};

@@ -1,15 +1,19 @@
 // A set's lists and a state by reference, and what the sums read of a component and of a pair.
-ghost use Rattle.std.specs.Prelude.{◌≡◌, ◌<◌, length};
+ghost use Rattle.std.specs.Prelude.{◌≡◌, ◌<◌, length, true, cond};
+ghost use Rattle.mie_parameters.specs.Answer.{outcome};
+ghost use Rattle.limits.specs.Limits.{state_within};
+ghost use Rattle.number.specs.Ans.{held, refused};
 ghost use Rattle.sizes.specs.Sizes.{side};
 ghost use Rattle.saftvrmie_parameters.specs.Parameters.{pair_at};
 ghost use Rattle.saftvrmie_energies.specs.Energies.{pure_at, state_lengths};
 ghost use Rattle.saftvrmie_energies.specs.Reads.{set_of};
 
+use number::Refusal;
 use saftvrmie_parameters::{PairParameters, SaftVRMiePars};
 use sizes::mie_set::{ALPHA_IJ, C_IJ, EPSILON_K_IJ, LA_IJ, LR_IJ};
 use sizes::{SHEETS, SIDE};
 
-// For the boundary, which has lists and no set.
+// The boundary has lists and no set; operations that have a set lend its lists.
 #[derive(Clone, Copy)]
 pub struct Set<'a> {
     pub count: usize,
@@ -45,7 +49,7 @@ pub fn lent(set: &SaftVRMiePars) -> Set
     }
 }
 
-pub fn right_lists(s: &State) -> bool
+fn right_lists(s: &State) -> bool
     ensures { result ≡ state_lengths s.now.set.count (length s.now.fractions.now) (length s.now.densities.now) (length s.now.diameters.now) }
 {
     let n = s.set.count;
@@ -53,6 +57,23 @@ pub fn right_lists(s: &State) -> bool
         & (s.fractions.len() == n)
         & (s.densities.len() == n)
         & (s.diameters.len() == n)
+}
+
+// What the operation tests in any run: 1, then 2.
+pub fn tested(s: &State) -> Result<(), Refusal>
+    ensures { let s = s.now in
+        let n = s.set.count in
+        let lengths = state_lengths n (length s.fractions.now) (length s.densities.now) (length s.diameters.now) in
+        let inside = state_within n s.temperature s.fractions.now s.densities.now in
+        outcome result true ≡ cond lengths (cond inside (held true) (refused 2)) (refused 1) }
+{
+    if !right_lists(s) {
+        return Err(Refusal::Length);
+    }
+    if !limits::state_within(s.set.count, s.temperature, s.fractions, s.densities) {
+        return Err(Refusal::Limit);
+    }
+    Ok(())
 }
 
 // Indexes are turns of loops over a count that was tested.

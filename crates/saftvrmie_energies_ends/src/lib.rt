@@ -31,12 +31,7 @@ fn dispersion_ends_of(
         densities,
         diameters,
     };
-    if !saftvrmie_energies::right_lists(&s) {
-        return Err(Refusal::Length);
-    }
-    if !limits::state_within(set.count, temperature, fractions, densities) {
-        return Err(Refusal::Limit);
-    }
+    saftvrmie_energies::tested(&s)?;
     let mut xs = [Enclosure::point(0.0); SIDE];
     let a = saftvrmie_energies::energy_run::<EnclosureDual>(&s, chain, &mut xs);
     enclosure::ends_of(a)
