@@ -4,18 +4,12 @@
 ghost use Rattle.std.specs.Prelude.{◌≡◌, false, cond, ◌+◌, ◌*◌, ◌%◌, ◌^◌, ◌<◌, ◌≤◌, length, get_or, take, drop};
 ghost use Rattle.bit_fields.specs.Bits.{numeral, digits, bits_of, over};
 
-fn wide(b: u8) -> u64
-    ensures { result ≡ b }
-{
-    b as u64
-}
-
 // The bit at a position, which the bytes reach to.
 fn bit_at(l: &[u8], at: usize) -> u64
     requires { at < 8 * length l.now }
     ensures { result ≡ cond (get_or (bits_of l.now) at false) 1 0 }
 {
-    let b = wide(l[at / 8]);
+    let b = u64::from(l[at / 8]);
     (b >> (7 - at % 8)) % 2
 }
 
@@ -38,7 +32,7 @@ fn word(l: &[u8], q: usize) -> u64
 {
     let mut value = 0;
     for i in 0usize..8usize {
-        value = 256 * value + wide(l[q + i]);
+        value = 256 * value + u64::from(l[q + i]);
     }
     value
 }
@@ -54,7 +48,7 @@ fn long(l: &[u8], at: usize) -> u64
     if s == 0 {
         return high;
     }
-    (high << s) + (wide(l[q + 8]) >> (8 - s))
+    (high << s) + (u64::from(l[q + 8]) >> (8 - s))
 }
 
 // A field of at most 64 bits, which the bytes reach to: a card's length is tested before its field is read, and no card comes near 2^32 bits.
@@ -81,7 +75,7 @@ fn placed(b: u8, s: usize, n: usize, v: u64) -> u8
     requires { s + n ≤ 8 }
     ensures { digits 8 result ≡ over s (digits n v) (digits 8 b) }
 {
-    let byte = wide(b);
+    let byte = u64::from(b);
     let behind = 8 - s - n;
     let high = byte - lowest(byte, 8 - s);
     let middle = lowest(v, n) << behind;

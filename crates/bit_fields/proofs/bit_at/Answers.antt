@@ -4,4 +4,4 @@ use Rattle.bit_fields.proofs.Bytes.{bit_in}
 use Rattle.bit_fields.proofs.bit_at.Goals as goal
 
 pub returns : goal.returns
-returns c = rw c.wide-b.ensures (sym (bit_in _ _ c.requires))
+returns c = rw c.from-b.ensures (sym (bit_in _ _ c.requires))

@@ -15,7 +15,7 @@ pub overflow_mul-value : goal.overflow_mul-value
 overflow_mul-value c = omega (arith, word_fits c.args.l.now c.args.q c.loop-i.i c.loop-i.value c.loop-i-test.true c.loop-i.invariant.1)
 
 pub overflow_add-value : goal.overflow_add-value
-overflow_add-value c = omega (arith, word_fits c.args.l.now c.args.q c.loop-i.i c.loop-i.value c.loop-i-test.true c.loop-i.invariant.1, c.wide.ensures, c.shared_slice_known-in-loop-i-1.given (c.args.q + c.loop-i.i))
+overflow_add-value c = omega (arith, word_fits c.args.l.now c.args.q c.loop-i.i c.loop-i.value c.loop-i-test.true c.loop-i.invariant.1, c.from.ensures, c.shared_slice_known-in-loop-i-1.given (c.args.q + c.loop-i.i))
 
 pub loop-i-preserved : goal.loop-i-preserved
-loop-i-preserved c = (search rules, word_next _ (λ i. omega (arith, c.shared_slice_known-in-loop-i-1.given i)) _ _ _ _ c.requires c.loop-i-test.true c.loop-i.invariant.1 c.wide.ensures)
+loop-i-preserved c = (search rules, word_next _ (λ i. omega (arith, c.shared_slice_known-in-loop-i-1.given i)) _ _ _ _ c.requires c.loop-i-test.true c.loop-i.invariant.1 c.from.ensures)
