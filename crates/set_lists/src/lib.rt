@@ -6,7 +6,7 @@ mod written;
 ghost use Rattle.std.specs.Prelude.{◌≡◌, true, ◌+◌, ◌*◌, ◌<◌, ◌≤◌, length};
 ghost use Rattle.sizes.specs.Sizes.{side, sheet};
 ghost use Rattle.mie_parameters.specs.Answer.{outcome, verdict};
-ghost use Rattle.set_lists.specs.Sets.{QuantumLists, copied, taken, row_within, orders_within, orders_read, quantum_lengths, quantum_read, quantum_set, mie_lengths, mie_read};
+ghost use Rattle.set_lists.specs.Sets.{QuantumLists, taken, row_within, orders_within, orders_read, quantum_lengths, quantum_read, quantum_set, mie_lengths, mie_read};
 
 pub use crate::written::{write_mie, write_quantum};
 use number::Refusal;
@@ -14,23 +14,13 @@ use saftvrmie_parameters::SaftVRMiePars;
 use saftvrqmie_parameters::{FeynmanHibbsOrder, OrderRecord, SaftVRQMiePars};
 use sizes::{LISTS, SHEET, SHEETS, SIDE};
 
-// Numbers of a list into an array that is lent; both are long enough, which the boundary has tested.
-pub fn copy(n: usize, d: &[f64], from: usize, l: &mut [f64])
-    requires { (from + n ≤ length d.now) × (n ≤ length l.old) }
-    ensures { l.new ≡ copied n d.now from l.old }
-{
-    for i in 0usize..n {
-        l[i] = d[from + i];
-    }
-}
-
 // A side of places of a list, which has them.
 pub fn places(list: &[f64], from: usize) -> [f64; SIDE]
     requires { from + side ≤ length list.now }
     ensures { result ≡ taken side list.now from }
 {
     let mut read = [0.0; SIDE];
-    copy(SIDE, list, from, &mut read);
+    read.copy_from_slice(&list[from..from + SIDE]);
     read
 }
 
@@ -40,7 +30,7 @@ pub fn flat(sheets: &[f64]) -> [f64; SHEETS]
     ensures { result ≡ taken (6 * sheet) sheets.now 0 }
 {
     let mut read = [0.0; SHEETS];
-    copy(SHEETS, sheets, 0, &mut read);
+    read.copy_from_slice(sheets);
     read
 }
 

@@ -7,36 +7,20 @@ ghost use Rattle.set_lists.specs.Written.{QuantumLent, MieLent, placed, orders_w
 
 use saftvrmie_parameters::SaftVRMiePars;
 use saftvrqmie_parameters::{FeynmanHibbsOrder, OrderRecord, SaftVRQMiePars};
-use sizes::{SHEET, SHEETS, SIDE};
+use sizes::{SHEET, SIDE};
 
-// A component list of a set into its places of a list, which has them.
-fn write_places(d: &[f64; SIDE], l: &mut [f64], to: usize)
-    requires { to + side ≤ length l.old }
-    ensures { l.new ≡ placed side d.now to l.old }
+// Numbers of a set into their places of a list, which has them.
+fn write(d: &[f64], l: &mut [f64], to: usize)
+    requires { to + length d.now ≤ length l.old }
+    ensures { l.new ≡ placed (length d.now) d.now to l.old }
 {
-    for i in 0usize..SIDE {
-        l[to + i] = d[i];
-    }
-}
-
-// The six sheets of a set into a list whose length was tested as well.
-fn write_sheets(d: &[f64; SHEETS], l: &mut [f64], to: usize)
-    requires { to + 6 * sheet ≤ length l.old }
-    ensures { l.new ≡ placed (6 * sheet) d.now to l.old }
-{
-    for i in 0usize..SHEETS {
-        l[to + i] = d[i];
-    }
+    l[to..to + d.len()].copy_from_slice(d);
 }
 
 fn order_byte(order: FeynmanHibbsOrder) -> u8
     ensures { result ≡ order_number order }
 {
-    match order {
-        FeynmanHibbsOrder::FH0 => 0,
-        FeynmanHibbsOrder::FH1 => 1,
-        FeynmanHibbsOrder::FH2 => 2,
-    }
+    order as u8
 }
 
 fn orders_written(orders: [OrderRecord; SHEET], l: &mut [u8])
@@ -59,11 +43,11 @@ fn write_lists(set: SaftVRMiePars, lists: &mut [f64])
     let epsilon_k = set.epsilon_k;
     let lr = set.lr;
     let la = set.la;
-    write_places(&m, lists, 0);
-    write_places(&sigma, lists, SIDE);
-    write_places(&epsilon_k, lists, 2 * SIDE);
-    write_places(&lr, lists, 3 * SIDE);
-    write_places(&la, lists, 4 * SIDE);
+    write(&m, lists, 0);
+    write(&sigma, lists, SIDE);
+    write(&epsilon_k, lists, 2 * SIDE);
+    write(&lr, lists, 3 * SIDE);
+    write(&la, lists, 4 * SIDE);
 }
 
 // A quantum set into lists whose lengths were tested.
@@ -73,9 +57,9 @@ pub fn write_quantum(set: SaftVRQMiePars, m: &mut [f64], sheets: &mut [f64], ord
         (m.exit.now ≡ (set_written set l).m) × (sheets.new ≡ (set_written set l).sheets) × (orders.new ≡ (set_written set l).orders) }
 {
     let places = set.m;
-    write_places(&places, m, 0);
+    write(&places, m, 0);
     let flat = set.sheets;
-    write_sheets(&flat, sheets, 0);
+    write(&flat, sheets, 0);
     let records = set.orders;
     orders_written(records, orders);
 }
@@ -88,5 +72,5 @@ pub fn write_mie(set: SaftVRMiePars, lists: &mut [f64], sheets: &mut [f64])
 {
     let flat = set.sheets;
     write_lists(set, lists);
-    write_sheets(&flat, sheets, 0);
+    write(&flat, sheets, 0);
 }

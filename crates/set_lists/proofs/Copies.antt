@@ -1,0 +1,55 @@
+-- What a copy leaves, as the definitions have it, number by number. Assumes nothing.
+use Rattle.std.proofs.Common.{◌≡◌, ℕ, zero, suc, ◌+◌, ◌-◌, ◌≤◌, List, ◌++◌, length, take, drop, set, refl, sym, ◌∙◌, ap, arith}
+use Rattle.std.proofs.lemmas.List.{get_or-drop, take_all}
+use lib.ListN.{length-drop, replicate, length-replicate}
+use lib.Seq.{drop-drop, paste, paste-suc, paste-zero}
+use mathlib.Core.List.{append_assoc}
+use lib.Ieee.{Float, nan}
+use Rattle.number.specs.Arith.{zero64}
+use Rattle.number.specs.Lists.{at}
+use Rattle.number.specs.Walk.{turns}
+use Rattle.number.proofs.Every.{copied_all}
+use Rattle.set_lists.specs.Sets.{copied, taken}
+use Rattle.set_lists.specs.Written.{placed}
+
+turns_same : {S : Type 0} (f g : ℕ → S → S) (s : S) → ((i : ℕ) (x : S) → f i x ≡ g i x) → (n : ℕ) → turns n f s ≡ turns n g s
+unfolding turns
+turns_same f g s h zero = refl
+turns_same f g s h (suc n) = ap (f n) (turns_same f g s h n) ∙ h n (turns n g s)
+
+taken_is : (n : ℕ) (d : List Float) (from : ℕ) → from + n ≤ length d → take n (drop from d) ≡ taken n d from
+unfolding copied
+taken_is n d from h =
+    let k = length-drop from d in
+    let l = replicate n zero64 in
+    copied_all (drop from d) l nan n (omega (arith, h, k)) (length-replicate n zero64)
+    ∙ turns_same (λ i s. set s i (at (drop from d) i)) (λ i s. set s i (at d (from + i))) l (λ i s. ap (set s i) (get_or-drop from d i nan)) n
+
+pub taken_part : (n : ℕ) (d : List Float) (from : ℕ) → from + n ≤ length d → take (from + n - from) (drop from d) ≡ taken n d from
+taken_part n d from h = let e : from + n - from ≡ n = omega arith in rw e (taken_is n d from h)
+
+-- a list that is as long
+pub taken_whole : (n : ℕ) (d : List Float) → length d ≡ n → d ≡ taken n d 0
+taken_whole n d e = sym (take_all n d (omega (arith, e))) ∙ taken_is n d 0 (omega (arith, e))
+
+module _ (d l : List Float) (to : ℕ) where
+  pasted : (n : ℕ) → n ≤ length d → to + n ≤ length l → placed n d to l ≡ paste l to d n
+  unfolding placed turns
+  pasted zero a b = paste-zero l to d
+  pasted (suc n) a b = ap (λ (s : List Float). set s (to + n) (at d n)) (pasted n (omega arith) (omega arith)) ∙ paste-suc l to d n nan (omega arith) (omega arith)
+
+  -- laid over whole
+  placed_is : to + length d ≤ length l → take to l ++ (d ++ drop (to + length d) l) ≡ placed (length d) d to l
+  placed_is h =
+      sym (pasted (length d) (omega arith) h ∙ ap (λ (s : List Float). (take to l ++ s) ++ drop (to + length d) l) (take_all (length d) d (omega arith))
+      ∙ append_assoc (take to l) d (drop (to + length d) l))
+
+  -- a part that was lent and copied into, back in its place
+  pub placed_by : (y : List Float) → y ≡ d → to + length d ≤ length l → take to l ++ (y ++ drop (to + length d - to) (drop to l)) ≡ placed (length d) d to l
+  placed_by y e h =
+      let q : to + length d - to ≡ length d = omega arith in
+      rw (q, e, drop-drop (length d) to l) (placed_is h)
+
+-- of an array, whose length is a number
+pub placed_array : (x d l : List Float) (to : ℕ) → x ≡ placed (length d) d to l → (n : ℕ) → length d ≡ n → x ≡ placed n d to l
+placed_array x d l to p n e = rw e at p
