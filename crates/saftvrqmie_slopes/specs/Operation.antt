@@ -4,20 +4,12 @@ use Rattle.number.specs.Ans.{Ans, ◌>>=◌, demand}
 use Rattle.number.specs.Functions.{Answers}
 use Rattle.elementary.specs.Port.{port}
 use Rattle.dual.specs.Dual.{DualOf}
-use Rattle.dual_num.specs.declared.NumberList.{NumberList}
 use Rattle.limits.specs.Limits.{state_within}
-use Rattle.slopes_lists.specs.Lists.{SlopedList, SlopedState, sloped_lengths, supplied_finite}
+use Rattle.slopes_lists.specs.Lists.{SlopedState, sloped_lengths, supplied_finite}
 use Rattle.saftvrqmie_parameters.specs.declared.SaftVRQMiePars.{SaftVRQMiePars}
 use Rattle.saftvrqmie_energies.specs.Energies.{EnergiesIn}
 use Rattle.saftvrqmie_table_slopes.specs.Table.{table_slopes}
 use Rattle.saftvrqmie_energies_slopes.specs.Energies.{energies_slope}
-
--- a call's temperature and lists, each with its slopes
-abbrev pub sloped_list : NumberList → SlopedList
-sloped_list l = record { values = l.values.now; slopes = l.slopes.now }
-
-abbrev pub state_of : DualOf Float → NumberList → NumberList → SlopedState
-state_of t x rho = record { temperature = t; fractions = sloped_list x; densities = sloped_list rho }
 
 -- The call takes the set: 'all tests for 1 (slope lists too), all for 2, then 7 for a supplied slope that is not finite', then the table's 6 and 7 and the energies', whatever the elementary functions answer
 unfoldable pub energies_slopes_by : Answers → SaftVRQMiePars → SlopedState → Bool → Ans (EnergiesIn (DualOf Float))

@@ -3,8 +3,9 @@
 
 ghost use Rattle.std.specs.Prelude.{◌≡◌};
 ghost use Rattle.dual.specs.Value.{dual_of};
+ghost use Rattle.slopes_lists.specs.Lists.{state_of};
 ghost use Rattle.saftvrqmie_energies_slopes.specs.Energies.{energies_slopes_answer};
-ghost use Rattle.saftvrqmie_slopes.specs.Operation.{state_of, energies_slopes};
+ghost use Rattle.saftvrqmie_slopes.specs.Operation.{energies_slopes};
 
 use dual::Dual;
 use dual_num::NumberList;
@@ -24,13 +25,13 @@ pub fn energies_slopes(
     ensures { energies_slopes_answer result ≡ energies_slopes set.now (state_of (dual_of t) x.now rho.now) non_additive }
 {
     let n = set.count;
-    if !slopes_lists::sloped_lengths(n, t, x.values, x.slopes, rho.values, rho.slopes) {
+    if !slopes_lists::sloped_lengths(n, t, x, rho) {
         return Err(Refusal::Length);
     }
     if !limits::state_within(n, t.re, x.values, rho.values) {
         return Err(Refusal::Limit);
     }
-    if !slopes_lists::supplied_finite(n, t, x.values, x.slopes, rho.values, rho.slopes) {
+    if !slopes_lists::supplied_finite(n, t, x, rho) {
         return Err(Refusal::NotFinite);
     }
     let mut table = [0.0; TABLE];

@@ -65,14 +65,7 @@ pub fn vrq_energies_slopes(
         values: densities,
         slopes: density_slopes,
     };
-    let right = slopes_lists::sloped_lengths(
-        count,
-        t,
-        fractions,
-        fraction_slopes,
-        densities,
-        density_slopes,
-    );
+    let right = slopes_lists::sloped_lengths(count, t, &x, &rho);
     let read = set_lists::quantum_answer(count, m, sheets, orders, right);
     let Ok(()) = read else {
         return mie_parameters::number(read);

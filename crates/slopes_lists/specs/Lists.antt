@@ -4,6 +4,7 @@ use Rattle.std.specs.Float.Ieee.Scale.{finite}
 use Rattle.number.specs.Lists.{at}
 use Rattle.number.specs.Walk.{every}
 use Rattle.dual.specs.Dual.{DualOf}
+use Rattle.dual_num.specs.declared.NumberList.{NumberList}
 use Rattle.limits.specs.Limits.{count_within}
 
 -- values in one list, their slopes in another
@@ -16,6 +17,13 @@ pub record SlopedState : Type 0 where
   pub temperature : DualOf Float
   pub fractions : SlopedList
   pub densities : SlopedList
+
+-- a call's temperature and lists, each with its slopes
+abbrev pub sloped_list : NumberList → SlopedList
+sloped_list l = record { values = l.values.now; slopes = l.slopes.now }
+
+abbrev pub state_of : DualOf Float → NumberList → NumberList → SlopedState
+state_of t x rho = record { temperature = t; fractions = sloped_list x; densities = sloped_list rho }
 
 -- 'all tests for 1 (slope lists too)': each list is as long as the count
 unfoldable pub right_lengths : ℕ → SlopedList → Bool

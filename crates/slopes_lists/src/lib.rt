@@ -3,33 +3,27 @@
 
 ghost use Rattle.std.specs.Prelude.{◌≡◌, length};
 ghost use Rattle.dual.specs.Value.{dual_of};
-ghost use Rattle.slopes_lists.specs.Lists.{SlopedList, SlopedState, right_lengths, sloped_lengths, all_finite, supplied_finite};
+ghost use Rattle.slopes_lists.specs.Lists.{sloped_list, state_of, right_lengths, sloped_lengths, all_finite, supplied_finite};
 
 use dual::Dual;
+use dual_num::NumberList;
 
-fn right_lengths(n: usize, l: &[f64], slopes: &[f64]) -> bool
-    ensures { result ≡ right_lengths n (record { values = l.now; slopes = slopes.now }) }
+fn right_lengths(n: usize, l: &NumberList) -> bool
+    ensures { result ≡ right_lengths n (sloped_list l.now) }
 {
-    (l.len() == n) & (slopes.len() == n)
+    (l.values.len() == n) & (l.slopes.len() == n)
 }
 
 // 1: the count, and the length of each list.
 pub fn sloped_lengths(
     n: usize,
     temperature: Dual,
-    fractions: &[f64],
-    fraction_slopes: &[f64],
-    densities: &[f64],
-    density_slopes: &[f64],
+    fractions: &NumberList,
+    densities: &NumberList,
 ) -> bool
-    ensures { let x : SlopedList = record { values = fractions.now; slopes = fraction_slopes.now } in
-        let rho : SlopedList = record { values = densities.now; slopes = density_slopes.now } in
-        let q : SlopedState = record { temperature = dual_of temperature; fractions = x; densities = rho } in
-        result ≡ sloped_lengths n q }
+    ensures { result ≡ sloped_lengths n (state_of (dual_of temperature) fractions.now densities.now) }
 {
-    limits::count_within(n)
-        & right_lengths(n, fractions, fraction_slopes)
-        & right_lengths(n, densities, density_slopes)
+    limits::count_within(n) & right_lengths(n, fractions) & right_lengths(n, densities)
 }
 
 fn all_finite(n: usize, l: &[f64]) -> bool
@@ -43,18 +37,13 @@ fn all_finite(n: usize, l: &[f64]) -> bool
 pub fn supplied_finite(
     n: usize,
     temperature: Dual,
-    fractions: &[f64],
-    fraction_slopes: &[f64],
-    densities: &[f64],
-    density_slopes: &[f64],
+    fractions: &NumberList,
+    densities: &NumberList,
 ) -> bool
-    requires { (length fraction_slopes.now ≡ n) × (length density_slopes.now ≡ n) }
-    ensures { let x : SlopedList = record { values = fractions.now; slopes = fraction_slopes.now } in
-        let rho : SlopedList = record { values = densities.now; slopes = density_slopes.now } in
-        let q : SlopedState = record { temperature = dual_of temperature; fractions = x; densities = rho } in
-        result ≡ supplied_finite n q }
+    requires { (length fractions.now.slopes.now ≡ n) × (length densities.now.slopes.now ≡ n) }
+    ensures { result ≡ supplied_finite n (state_of (dual_of temperature) fractions.now densities.now) }
 {
     number::is_finite(temperature.eps)
-        & all_finite(n, fraction_slopes)
-        & all_finite(n, density_slopes)
+        & all_finite(n, fractions.slopes)
+        & all_finite(n, densities.slopes)
 }
