@@ -9,6 +9,7 @@ use mathlib.Core.List.{List, [], ◌++◌, append-nil}
 use mathlib.Core.Bool.{Bool, true, false, not, ◌&&◌, cond}
 use mathlib.Core.Option.{Option, none, some}
 use lib.Dec.{eqb}
+use mir.Val.{bool_byte}
 use lib.Ieee.{Float}
 use lib.ListN.{length, get_or, set, take, drop, replicate, length-set, length-replicate, length-drop, drop_of_length-le}
 use lib.Seq.{length-take-le}
@@ -140,6 +141,11 @@ five l m x rho sheets y1 y2 y3 y4 y5 h a b c d e1 e2 e3 e4 e5 =
 pub floats_are : (l l' m x rho sheets : List Float) (t : Float) → l' ≡ over table_at blank.values (over sheets_at sheets (over densities_at rho (over fractions_at x (over m_at m (set l 0 t))))) → l' ≡ floats_entered m sheets t x rho l
 unfolding floats_entered
 floats_are l l' m x rho sheets t e = e
+
+-- the library's byte of a Bool
+pub byte_is : (w : Bool) → bool_byte w ≡ cond w 1 0
+byte_is true = refl
+byte_is false = refl
 
 pub four_length : (b : List ℕ) (n f : ℕ) → length (set (set (set (set b 0 n) 1 0) 2 0) 3 f) ≡ length b
 four_length b n f = simp length-set

@@ -1,7 +1,7 @@
 // A place of the desk: a query comes in, a pair is read and stored where it lies, the energies are worked from the whole table.
 #![tactic(auto)]
 
-ghost use Rattle.std.specs.Prelude.{◌≡◌, true, cond, ◌++◌, [], ◌+◌, ◌*◌, ◌<◌, ◌≤◌, length, get_or, drop};
+ghost use Rattle.std.specs.Prelude.{◌≡◌, true, ◌++◌, [], ◌+◌, ◌*◌, ◌<◌, ◌≤◌, length, get_or, drop};
 ghost use Rattle.number.specs.Lists.{at};
 ghost use Rattle.sizes.specs.Sizes.{side, sheet};
 ghost use Rattle.set_lists.specs.Sets.{QuantumLists, quantum_lengths};
@@ -24,20 +24,15 @@ use saftvrqmie_energies::QuantumEnergies;
 use saftvrqmie_parameters::FeynmanHibbsOrder;
 use saftvrqmie_potential::{FloatPair, Pair};
 use saftvrqmie_properties::FloatProperties;
+use sizes::SIDE;
 use sizes::table::{EPSILON_K_EFF, HS_DIAMETER, QUANTUM_D};
-use sizes::{SIDE, TABLE};
 
-fn wide(x: u8) -> usize
-    ensures { result ≡ x }
-{
-    x as usize
-}
-
+// The places within the lists that `requires` asks for, here and below: the desk has tested its lists' lengths and a query's, once a call.
 pub fn byte_at(bytes: &[u8], k: usize) -> usize
     requires { k < length bytes.now }
     ensures { result ≡ get_or bytes.now k 0 }
 {
-    wide(bytes[k])
+    usize::from(bytes[k])
 }
 
 // A list over the first places of a part.
@@ -82,11 +77,7 @@ fn all_finite(table: &[f64]) -> bool
     requires { length table.now ≡ 4 * sheet }
     ensures { result ≡ table_finite table.now }
 {
-    let mut ok = true;
-    for k in 0usize..TABLE {
-        ok = ok & number::is_finite(table[k]);
-    }
-    ok
+    table.iter().all(|x| number::is_finite(*x))
 }
 
 // The energies of the whole table, as the direct call works them.
@@ -212,12 +203,6 @@ pub fn enter_floats(
     floats[TABLE_AT..PLACE_FLOATS].fill(0.0);
 }
 
-fn flag(wanted: bool) -> u8
-    ensures { result ≡ cond wanted 1 0 }
-{
-    if wanted { 1 } else { 0 }
-}
-
 // Its orders, its count, the first pair in hand, and what is wanted.
 pub fn enter_bytes(bytes: &mut [u8], count: usize, orders: &[u8], wanted: bool)
     requires { (length bytes.old ≡ place_bytes) × (length orders.now ≡ sheet) × (count ≤ side) }
@@ -226,6 +211,6 @@ pub fn enter_bytes(bytes: &mut [u8], count: usize, orders: &[u8], wanted: bool)
     bytes[COUNT_AT] = count as u8;
     bytes[ROW_AT] = 0;
     bytes[COLUMN_AT] = 0;
-    bytes[WANTED_AT] = flag(wanted);
+    bytes[WANTED_AT] = u8::from(wanted);
     lay(&mut bytes[ORDERS_AT..PLACE_BYTES], orders);
 }

@@ -1,15 +1,14 @@
 -- `desk_place::all_finite` meets its contract. Assumes nothing.
+use Rattle.std.proofs.Common.{rules, ◌∙◌, ◌*◌}
+use Rattle.std.proofs.lemmas.Iterator.{YieldsList-from_slice}
+use Rattle.std.proofs.lemmas.Iterator.Search.{all_from_yields_List}
+use Rattle.std.specs.Float.{nan}
+use lib.Ieee.Scale.{finite}
+use Rattle.sizes.specs.Sizes.{sheet}
+use Rattle.number.proofs.Every.{every_all}
 use Rattle.saftvrqmie.specs.Table.{table_finite}
-use Rattle.number.proofs.Walk.{every_none, every_next, every_end}
-use borrow.Author.Rules.{rules}
 use Rattle.desk_place.proofs.all_finite.Goals as goal
-
-pub loop-k-init : goal.loop-k-init
-loop-k-init c = (search rules, every_none _)
-
-pub loop-k-preserved : goal.loop-k-preserved
-loop-k-preserved c = (search rules, every_next _ _ _ _ c.loop-k.invariant.1 c.is_finite-ok.ensures)
 
 pub returns : goal.returns
 unfolding table_finite
-returns c = every_end _ _ _ _ c.loop-k.invariant.0 c.loop-k-test.false c.loop-k.invariant.1
+returns c = all_from_yields_List finite _ _ _ c.all.ensures.ran (YieldsList-from_slice c.args.table.now c.iter.ensures.rest) (λ x b q k. search rules) ∙ every_all finite nan c.args.table.now (4 * sheet) c.requires
