@@ -1,7 +1,7 @@
 // One desk for quantum queries over two lent lists: begin, submit, serve. Any two lists are taken, and nothing outside them is touched.
 #![tactic(auto)]
 
-ghost use Rattle.std.specs.Prelude.{◌≡◌, true, not, cond, ◌+◌, ◌*◌, ◌<◌, ◌≤◌, length};
+ghost use Rattle.std.specs.Prelude.{ℕ, Bool, ◌≡◌, true, ◌+◌, ◌*◌, ◌<◌, ◌≤◌, length};
 ghost use Rattle.sizes.specs.Sizes.{side};
 ghost use Rattle.set_lists.specs.Sets.{quantum_lengths};
 ghost use Rattle.mie_parameters.specs.Answer.{outcome, verdict, stored};
@@ -59,23 +59,15 @@ fn occupied(bytes: &[u8], k: usize) -> bool
     desk_place::waits(&bytes[from..to])
 }
 
-// Whether a place is as it is looked for: occupied or free.
-fn suits(bytes: &[u8], wanted: bool, k: usize) -> bool
-    requires { (length bytes.now ≡ last_at + 1) × (k < places) }
-    ensures { result ≡ cond wanted (occupied_in bytes.now k) (not (occupied_in bytes.now k)) }
-{
-    let o = occupied(bytes, k);
-    if wanted { o } else { !o }
-}
-
-// The first place from `from` on, round the desk, that is occupied, or free; PLACES where none is.
-fn seek(bytes: &[u8], wanted: bool, from: usize) -> usize
-    requires { (length bytes.now ≡ last_at + 1) × (from < places) }
-    ensures { result ≡ seek places (λ k. cond wanted (occupied_in bytes.now k) (not (occupied_in bytes.now k))) from }
+// The first place from `from` on, round the desk, that suits; PLACES where none does.
+fn seek<F: Fn(usize) -> bool>(suits: F, from: usize) -> usize
+    requires start { from < places }
+    requires suits { (k : ℕ) → k < places → F.pre suits k }
+    ensures { (test : ℕ → Bool) → ((k : ℕ) (b : Bool) → k < places → F.post suits k b → b ≡ test k) → result ≡ seek places test from }
 {
     let mut k = from;
     for i in 0usize..PLACES {
-        if suits(bytes, wanted, k) {
+        if suits(k) {
             return k;
         }
         let next = round_robin::above(k);
@@ -149,7 +141,7 @@ pub fn submit(floats: &mut [f64], bytes: &mut [u8], q: &DeskQuery) -> Result<usi
         return Err(Refusal::Length);
     }
     door(q)?;
-    let k = seek(bytes, false, 0);
+    let k = seek(|k| !occupied(bytes, k), 0);
     if k == PLACES {
         return Err(Refusal::Occupied);
     }
@@ -186,7 +178,7 @@ pub fn serve(floats: &mut [f64], bytes: &mut [u8]) -> Result<Served, Refusal>
     }
     let last = desk_place::byte_at(bytes, LAST_AT);
     let first = round_robin::above(last);
-    let k = seek(bytes, true, first);
+    let k = seek(|k| occupied(bytes, k), first);
     if k == PLACES {
         return Ok(Served::Idle);
     }
