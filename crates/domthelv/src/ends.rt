@@ -8,6 +8,7 @@ ghost use Rattle.saftvrqmie_energies_ends.specs.Operation.{ends_each};
 use enclosure::Ends;
 use saftvrqmie_energies_ends::EnergiesEnds;
 
+// The call has tested the list's length before any work: here its answer is settled.
 pub fn write_ends(e: EnergiesEnds, out: &mut [f64])
     requires { length out.old ≡ 6 }
     ensures { out.new ≡ ends_written (ends_each e) out.old }

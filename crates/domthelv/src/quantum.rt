@@ -196,6 +196,7 @@ pub fn domthelv_vrq_radii(
     }
 }
 
+// The call has tested the list's length before any work: here its answer is settled.
 pub fn write_energies(e: QuantumEnergies, out: &mut [f64])
     requires { length out.old ≡ 3 }
     ensures { out.new ≡ energies_written (energies_in e) out.old }

@@ -76,7 +76,7 @@ fn work_pairs(
     Ok(())
 }
 
-// The table into two lists of +0: values and slopes. 6 at the first pair that has one, then 7 where a value or a slope is not finite.
+// The table into two lists of +0: values and slopes. 6 at the first pair that has one, then 7 where a value or a slope is not finite. The operation has tested the count (1): the table has 12 rows of places.
 pub fn table_slopes(
     n: usize,
     s: &[f64; SHEETS],

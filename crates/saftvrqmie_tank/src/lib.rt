@@ -108,7 +108,7 @@ pub fn layers_within(layers: usize) -> bool
     (1 <= layers) & (layers <= LAYERS)
 }
 
-// 1: the count, and the length of each list.
+// 1: the count, and the length of each list. 14 goes before it, so that the layers are few and no product wraps.
 pub fn tank_lengths(n: usize, q: &Layers) -> bool
     requires { q.now.layers ≤ most_layers }
     ensures { result ≡ tank_lengths n (lists_of q.now) }
@@ -129,7 +129,7 @@ fn volume_within(v: f64) -> bool
     (0.0 < v) & (v <= 1e30)
 }
 
-// 2 of a layer.
+// 2 of a layer, whose lists are parts of the tank's: `tank_lengths` has tested these.
 pub fn layer_within(n: usize, t: f64, x: &[f64], rho: &[f64], volume: f64) -> bool
     requires { (length x.now ≡ n) × (length rho.now ≡ n) }
     ensures { let y : Layer = record { temperature = t; fractions = x.now; densities = rho.now; volume = volume } in
