@@ -9,7 +9,7 @@ use Rattle.set_lists.specs.Sets.{QuantumLists}
 use Rattle.round_robin.specs.Desk.{Step, going, done}
 use Rattle.desk_place.specs.Layout.{over, Lists, m_at, fractions_at, densities_at, temperature_at, sheets_at, table_at, count_at, row_at, column_at, wanted_at, orders_at, count_in, row_in, column_in, wanted_in, temperature_of, fractions_of, densities_of, table_of, set_of}
 use Rattle.number.specs.declared.refusal.Refusal.{Refusal}
-use Rattle.saftvrqmie_energies.specs.declared.QuantumEnergies.{QuantumEnergies}
+use Rattle.saftvrqmie_energies.specs.declared.Energies.{Energies}
 
 -- a query: a set's lists, the temperature, fractions, densities, and whether the non-additive part is wanted
 pub record Query : Type 0 where
@@ -74,6 +74,6 @@ unfoldable pub step_told : Step Lists (Ans (EnergiesIn Float)) → Option (Ans (
 step_told (going p) = none
 step_told (done p a) = some a
 
-abbrev pub unit_answer : Std.Option (Result QuantumEnergies Refusal) → Option (Ans (EnergiesIn Float))
+abbrev pub unit_answer : Std.Option (Result (Energies Float) Refusal) → Option (Ans (EnergiesIn Float))
 unit_answer None = none
 unit_answer (Some a) = some (energies_answer a)

@@ -3,7 +3,7 @@ ghost use Rattle.std.specs.Prelude.{◌≡◌, length};
 ghost use Rattle.mie_parameters.specs.Answer.{status, stored};
 ghost use Rattle.set_lists.specs.Sets.{QuantumLists, MieLists};
 ghost use Rattle.domthelv.specs.Operations.{ends_written, vrq_energies_ends, pair_written, vrq_diameter_ends, vr_dispersion_ends, vr_diameter_ends};
-ghost use Rattle.saftvrqmie_energies_ends.specs.Operation.{ends_each};
+ghost use Rattle.saftvrqmie_energies.specs.Energies.{energies_in};
 
 use enclosure::Ends;
 use saftvrqmie_energies_ends::EnergiesEnds;
@@ -11,7 +11,7 @@ use saftvrqmie_energies_ends::EnergiesEnds;
 // The call has tested the list's length before any work: here its answer is settled.
 pub fn write_ends(e: EnergiesEnds, out: &mut [f64])
     requires { length out.old ≡ 6 }
-    ensures { out.new ≡ ends_written (ends_each e) out.old }
+    ensures { out.new ≡ ends_written (energies_in e) out.old }
 {
     let h = e.hard_sphere;
     let d = e.dispersion;

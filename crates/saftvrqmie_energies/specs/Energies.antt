@@ -15,7 +15,6 @@ use Rattle.saftvrqmie_hard_sphere.specs.HardSphere.{hard_sphere}
 use Rattle.saftvrqmie_hard_sphere.specs.NonAdditive.{non_additive}
 use Rattle.saftvrqmie_dispersion_sums.specs.State.{SheetsIn, sheets_of_state}
 use Rattle.saftvrqmie_dispersion_sums.specs.Dispersion.{dispersion}
-use Rattle.saftvrqmie_energies.specs.declared.QuantumEnergies.{QuantumEnergies}
 use Rattle.saftvrqmie_energies.specs.declared.Energies.{Energies}
 
 -- the three contributions, in the numbers N
@@ -24,15 +23,16 @@ pub record EnergiesIn (N : Type 0) : Type 0 where
   pub dispersion : N
   pub non_additive : N
 
-abbrev pub energies_in : QuantumEnergies → EnergiesIn Float
-energies_in e = record { hard_sphere = e.hard_sphere; dispersion = e.dispersion; non_additive = e.non_additive }
-
-abbrev pub energies_answer : Result QuantumEnergies Refusal → Ans (EnergiesIn Float)
-energies_answer = answer_by energies_in
-
 -- what a run holds of them
 abbrev pub each_by : {D N : Type 0} → (D → N) → Energies D → EnergiesIn N
 each_by of e = record { hard_sphere = of e.hard_sphere; dispersion = of e.dispersion; non_additive = of e.non_additive }
+
+-- as it holds them: floats, enclosures, ends
+abbrev pub energies_in : {N : Type 0} → Energies N → EnergiesIn N
+energies_in = each_by (λ x. x)
+
+abbrev pub energies_answer : {N : Type 0} → Result (Energies N) Refusal → Ans (EnergiesIn N)
+energies_answer = answer_by energies_in
 
 -- each taken as a number that a run can hold
 abbrev pub each_in : {M N : Type 0} → (M → N) → EnergiesIn M → EnergiesIn N

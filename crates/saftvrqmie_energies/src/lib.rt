@@ -15,20 +15,15 @@ use saftvrqmie_dispersion_sums::State;
 use saftvrqmie_parameters::{OrderRecord, SaftVRQMiePars};
 use sizes::{SHEET, SHEETS, SIDE, TABLE};
 
-#[derive(Clone, Copy)]
-pub struct QuantumEnergies {
-    pub hard_sphere: f64,
-    pub dispersion: f64,
-    pub non_additive: f64,
-}
-
-// The same of any run.
+// The three contributions, in a run's numbers.
 #[derive(Clone, Copy)]
 pub struct Energies<D> {
     pub hard_sphere: D,
     pub dispersion: D,
     pub non_additive: D,
 }
+
+pub type QuantumEnergies = Energies<f64>;
 
 fn all_finite(e: QuantumEnergies) -> bool
     ensures { result ≡ energies_finite (energies_in e) }
@@ -119,12 +114,7 @@ pub fn energies_of(
     };
     let mut xs = [0.0; SIDE];
     let mut alphas = [0.0; SHEET];
-    let c = contributions(&s, m, &x, &rho, non_additive, &mut xs, &mut alphas)?;
-    let e = QuantumEnergies {
-        hard_sphere: c.hard_sphere,
-        dispersion: c.dispersion,
-        non_additive: c.non_additive,
-    };
+    let e = contributions(&s, m, &x, &rho, non_additive, &mut xs, &mut alphas)?;
     if !all_finite(e) {
         return Err(Refusal::NotFinite);
     }

@@ -1,7 +1,5 @@
 -- The quantum energies as a two-ended operation: the float operation's refusals in its order, then 8, then the ends of each contribution.
-use Rattle.std.specs.Prelude.{Float, List, Bool, ◌&&◌, Result}
-use Rattle.number.specs.declared.refusal.Refusal.{Refusal}
-use Rattle.number.specs.Answer.{answer_by}
+use Rattle.std.specs.Prelude.{Float, List, Bool, ◌&&◌}
 use Rattle.number.specs.Ans.{Ans, held, ◌>>=◌, demand}
 use Rattle.number.specs.Functions.{Answers, calls}
 use Rattle.enclosure.specs.declared.Enclosure.{Enclosure}
@@ -10,22 +8,6 @@ use Rattle.enclosure.specs.Enclosure.{enclosures}
 use Rattle.enclosure.specs.Ends.{ends_in}
 use Rattle.saftvrqmie_parameters.specs.declared.SaftVRQMiePars.{SaftVRQMiePars}
 use Rattle.saftvrqmie_energies.specs.Energies.{EnergiesIn, contributions_of, energies_by}
-use Rattle.saftvrqmie_energies_ends.specs.declared.EnergiesEnds.{EnergiesEnds}
-use Rattle.saftvrqmie_energies_ends.specs.declared.EnergiesEnclosures.{EnergiesEnclosures}
-
--- the ends of the three contributions, as the code's struct holds them
-abbrev pub ends_each : EnergiesEnds → EnergiesIn Ends
-ends_each e = record { hard_sphere = e.hard_sphere; dispersion = e.dispersion; non_additive = e.non_additive }
-
-abbrev pub energies_ends_answer : Result EnergiesEnds Refusal → Ans (EnergiesIn Ends)
-energies_ends_answer = answer_by ends_each
-
--- the enclosures of the three
-abbrev pub enclosures_each : EnergiesEnclosures → EnergiesIn Enclosure
-enclosures_each e = record { hard_sphere = e.hard_sphere; dispersion = e.dispersion; non_additive = e.non_additive }
-
-abbrev pub enclosures_answer : Result EnergiesEnclosures Refusal → Ans (EnergiesIn Enclosure)
-enclosures_answer = answer_by enclosures_each
 
 abbrev pub together : {N : Type 0} → N → N → N → EnergiesIn N
 together h d a = record { hard_sphere = h; dispersion = d; non_additive = a }

@@ -5,31 +5,22 @@ ghost use Rattle.std.specs.Prelude.{◌≡◌};
 ghost use Rattle.elementary.specs.Port.{port};
 ghost use Rattle.enclosure.specs.Ends.{ends_in};
 ghost use Rattle.saftvrqmie_parameters.specs.declared.SaftVRQMiePars.{SaftVRQMiePars};
-ghost use Rattle.saftvrqmie_energies.specs.Energies.{energies_finite};
-ghost use Rattle.saftvrqmie_energies_ends.specs.Operation.{together, values_of, all_sound, sound_ends, energies_enclosed, energies_ends, enclosures_each, enclosures_answer, energies_ends_answer};
+ghost use Rattle.saftvrqmie_energies.specs.Energies.{energies_in, energies_answer, energies_finite};
+ghost use Rattle.saftvrqmie_energies_ends.specs.Operation.{values_of, all_sound, sound_ends, energies_enclosed, energies_ends};
 
 use dual_num::NumberList;
 use enclosure::{Enclosure, Ends};
 use number::Refusal;
 use saftvrqmie_dispersion_sums::State;
+use saftvrqmie_energies::Energies;
 use saftvrqmie_parameters::{OrderRecord, SaftVRQMiePars};
 use sizes::{SHEET, SHEETS, SIDE};
 
 // The two ends of each contribution.
-#[derive(Clone, Copy)]
-pub struct EnergiesEnds {
-    pub hard_sphere: Ends,
-    pub dispersion: Ends,
-    pub non_additive: Ends,
-}
+pub type EnergiesEnds = Energies<Ends>;
 
 // Each contribution of the two-ended run, sound or not.
-#[derive(Clone, Copy)]
-pub struct EnergiesEnclosures {
-    pub hard_sphere: Enclosure,
-    pub dispersion: Enclosure,
-    pub non_additive: Enclosure,
-}
+pub type EnergiesEnclosures = Energies<Enclosure>;
 
 fn ends_in(b: Enclosure) -> Ends
     ensures { result ≡ ends_in b }
@@ -41,15 +32,21 @@ fn ends_in(b: Enclosure) -> Ends
     }
 }
 
-fn all_finite(h: Enclosure, d: Enclosure, a: Enclosure) -> bool
-    ensures { result ≡ energies_finite (values_of (together h d a)) }
+fn all_finite(e: EnergiesEnclosures) -> bool
+    ensures { result ≡ energies_finite (values_of (energies_in e)) }
 {
+    let h = e.hard_sphere;
+    let d = e.dispersion;
+    let a = e.non_additive;
     number::is_finite(h.value) & number::is_finite(d.value) & number::is_finite(a.value)
 }
 
-fn all_sound(h: Enclosure, d: Enclosure, a: Enclosure) -> bool
-    ensures { result ≡ all_sound (together h d a) }
+fn all_sound(e: EnergiesEnclosures) -> bool
+    ensures { result ≡ all_sound (energies_in e) }
 {
+    let h = e.hard_sphere;
+    let d = e.dispersion;
+    let a = e.non_additive;
     let x = h.ends;
     let y = d.ends;
     let z = a.ends;
@@ -69,7 +66,7 @@ pub fn enclosures_of(
     non_additive: bool,
 ) -> Result<EnergiesEnclosures, Refusal>
     ensures { let set : SaftVRQMiePars = record { count = n; m = m.now; sheets = sheets.now; orders = orders } in
-        enclosures_answer result ≡ energies_enclosed port set temperature fractions.now densities.now table.now non_additive }
+        energies_answer result ≡ energies_enclosed port set temperature fractions.now densities.now table.now non_additive }
 {
     if !saftvrqmie_energies::right_lengths(n, fractions, densities, table) {
         return Err(Refusal::Length);
@@ -98,7 +95,7 @@ pub fn enclosures_of(
     let zero = Enclosure::point(0.0);
     let mut xs = [zero; SIDE];
     let mut alphas = [zero; SHEET];
-    let c = saftvrqmie_energies::contributions(
+    let e = saftvrqmie_energies::contributions(
         &s,
         m,
         &x,
@@ -107,33 +104,23 @@ pub fn enclosures_of(
         &mut xs,
         &mut alphas,
     )?;
-    let h = c.hard_sphere;
-    let d = c.dispersion;
-    let a = c.non_additive;
-    if !all_finite(h, d, a) {
+    if !all_finite(e) {
         return Err(Refusal::NotFinite);
     }
-    Ok(EnergiesEnclosures {
-        hard_sphere: h,
-        dispersion: d,
-        non_additive: a,
-    })
+    Ok(e)
 }
 
 // 8 where a contribution's enclosure is not sound, else the ends of each.
 pub fn sound_ends(e: EnergiesEnclosures) -> Result<EnergiesEnds, Refusal>
-    ensures { energies_ends_answer result ≡ sound_ends (enclosures_each e) }
+    ensures { energies_answer result ≡ sound_ends (energies_in e) }
 {
-    let h = e.hard_sphere;
-    let d = e.dispersion;
-    let a = e.non_additive;
-    if !all_sound(h, d, a) {
+    if !all_sound(e) {
         return Err(Refusal::Unsound);
     }
-    Ok(EnergiesEnds {
-        hard_sphere: ends_in(h),
-        dispersion: ends_in(d),
-        non_additive: ends_in(a),
+    Ok(Energies {
+        hard_sphere: ends_in(e.hard_sphere),
+        dispersion: ends_in(e.dispersion),
+        non_additive: ends_in(e.non_additive),
     })
 }
 
@@ -150,7 +137,7 @@ pub fn energies_ends_of(
     non_additive: bool,
 ) -> Result<EnergiesEnds, Refusal>
     ensures { let set : SaftVRQMiePars = record { count = n; m = m.now; sheets = sheets.now; orders = orders } in
-        energies_ends_answer result ≡ energies_ends port set temperature fractions.now densities.now table.now non_additive }
+        energies_answer result ≡ energies_ends port set temperature fractions.now densities.now table.now non_additive }
 {
     let worked = enclosures_of(
         n,
@@ -177,7 +164,7 @@ pub fn helmholtz_energy_densities_ends(
     table: &[f64],
     non_additive: bool,
 ) -> Result<EnergiesEnds, Refusal>
-    ensures { energies_ends_answer result ≡ energies_ends port set temperature fractions.now densities.now table.now non_additive }
+    ensures { energies_answer result ≡ energies_ends port set temperature fractions.now densities.now table.now non_additive }
 {
     let m = set.m;
     let sheets = set.sheets;

@@ -54,7 +54,7 @@ impl LayerRun for f64 {
         table: &[f64],
         non_additive: bool,
     ) -> Result<Energies<f64>, Refusal> {
-        let e = saftvrqmie_energies::energies_of(
+        saftvrqmie_energies::energies_of(
             set.count,
             &set.m,
             &set.sheets,
@@ -64,12 +64,7 @@ impl LayerRun for f64 {
             densities,
             table,
             non_additive,
-        )?;
-        Ok(Energies {
-            hard_sphere: e.hard_sphere,
-            dispersion: e.dispersion,
-            non_additive: e.non_additive,
-        })
+        )
     }
 }
 
@@ -82,7 +77,7 @@ impl LayerRun for Enclosure {
         table: &[f64],
         non_additive: bool,
     ) -> Result<Energies<Enclosure>, Refusal> {
-        let e = saftvrqmie_energies_ends::enclosures_of(
+        saftvrqmie_energies_ends::enclosures_of(
             set.count,
             &set.m,
             &set.sheets,
@@ -92,12 +87,7 @@ impl LayerRun for Enclosure {
             densities,
             table,
             non_additive,
-        )?;
-        Ok(Energies {
-            hard_sphere: e.hard_sphere,
-            dispersion: e.dispersion,
-            non_additive: e.non_additive,
-        })
+        )
     }
 }
 
@@ -267,9 +257,5 @@ pub fn tank(
     if !all_finite(e.hard_sphere, e.dispersion, e.non_additive) {
         return Err(Refusal::NotFinite);
     }
-    Ok(QuantumEnergies {
-        hard_sphere: e.hard_sphere,
-        dispersion: e.dispersion,
-        non_additive: e.non_additive,
-    })
+    Ok(e)
 }

@@ -2,13 +2,13 @@
 #![tactic(auto)]
 
 ghost use Rattle.std.specs.Prelude.{◌≡◌};
-ghost use Rattle.saftvrqmie_energies_ends.specs.Operation.{energies_ends_answer};
+ghost use Rattle.saftvrqmie_energies.specs.Energies.{energies_answer};
 ghost use Rattle.saftvrqmie_tank.specs.Tank.{lists_of};
 ghost use Rattle.saftvrqmie_tank_ends.specs.TankEnds.{tank_ends};
 
 use enclosure::Enclosure;
 use number::Refusal;
-use saftvrqmie_energies_ends::{EnergiesEnclosures, EnergiesEnds};
+use saftvrqmie_energies_ends::EnergiesEnds;
 use saftvrqmie_parameters::SaftVRQMiePars;
 use saftvrqmie_tank::Layers;
 
@@ -18,7 +18,7 @@ pub fn tank_ends(
     q: &Layers,
     non_additive: bool,
 ) -> Result<EnergiesEnds, Refusal>
-    ensures { energies_ends_answer result ≡ tank_ends set.now (lists_of q.now) non_additive }
+    ensures { energies_answer result ≡ tank_ends set.now (lists_of q.now) non_additive }
 {
     if !saftvrqmie_tank::layers_within(q.layers) {
         return Err(Refusal::Layers);
@@ -33,9 +33,5 @@ pub fn tank_ends(
     if !saftvrqmie_tank::all_finite(h.value, d.value, a.value) {
         return Err(Refusal::NotFinite);
     }
-    saftvrqmie_energies_ends::sound_ends(EnergiesEnclosures {
-        hard_sphere: h,
-        dispersion: d,
-        non_additive: a,
-    })
+    saftvrqmie_energies_ends::sound_ends(e)
 }

@@ -4,7 +4,6 @@
 ghost use Rattle.std.specs.Prelude.{◌≡◌, ◌≤◌};
 ghost use Rattle.number.specs.Answer.{answer};
 ghost use Rattle.saftvrqmie_energies.specs.Energies.{energies_answer};
-ghost use Rattle.saftvrqmie_energies_ends.specs.Operation.{energies_ends_answer};
 ghost use Rattle.saftvrqmie_tank.specs.Tank.{TankLists, most_layers, lists_of};
 ghost use Rattle.set_lists.specs.Sets.{QuantumLists};
 ghost use Rattle.tank_lists.specs.Lists.{tank_right, tank_set, listed_tank, listed_tank_ends};
@@ -103,7 +102,7 @@ pub fn listed_tank_ends(
           densities = densities.now;
           volumes = volumes.now;
         } in
-        energies_ends_answer result ≡ listed_tank_ends s q non_additive right }
+        energies_answer result ≡ listed_tank_ends s q non_additive right }
 {
     let q = Layers {
         layers,

@@ -20,14 +20,14 @@ returns-then-not-state_within c = refuses_2 _ _ _ _ _ _ (told c.right_lengths.en
 pub contributions-requires : goal.contributions-requires
 contributions-requires c = let h = right _ _ _ _ (told c.right_lengths.ensures c.if-not-right_lengths.false) in (search rules, (search rules, (h.low, h.high, λ e p. rw h.places p, λ i p. rw h.fractions p, λ i p. rw h.densities p)))
 
-pub returns-in_err-c : goal.returns-in_err-c
-returns-in_err-c c =
-    rw (handed_on _ c.from_residual.ensures) (stops _ _ _ _ _ _ (told c.right_lengths.ensures c.if-not-right_lengths.false) (told c.state_within.ensures c.if-not-state_within.false) _ (sym (as_it_is _) ∙ via (answer_by (each_by (λ x. x))) c.contributions.ensures c.in_err-c.was))
+pub returns-in_err-e : goal.returns-in_err-e
+returns-in_err-e c =
+    rw (handed_on _ c.from_residual.ensures) (stops _ _ _ _ _ _ (told c.right_lengths.ensures c.if-not-right_lengths.false) (told c.state_within.ensures c.if-not-state_within.false) _ (sym (as_it_is _) ∙ via (answer_by (each_by (λ x. x))) c.contributions.ensures c.in_err-e.was))
 
 pub returns-then-not-all_finite : goal.returns-then-not-all_finite
 returns-then-not-all_finite c =
-    refuses_7 _ _ _ _ _ _ (told c.right_lengths.ensures c.if-not-right_lengths.false) (told c.state_within.ensures c.if-not-state_within.false) _ (sym (as_it_is _) ∙ via (answer_by (each_by (λ x. x))) c.contributions.ensures c.in_ok-c.was) (told c.all_finite.ensures c.if-not-all_finite.true)
+    refuses_7 _ _ _ _ _ _ (told c.right_lengths.ensures c.if-not-right_lengths.false) (told c.state_within.ensures c.if-not-state_within.false) _ (sym (as_it_is _) ∙ via (answer_by (each_by (λ x. x))) c.contributions.ensures c.in_ok-e.was) (told c.all_finite.ensures c.if-not-all_finite.true)
 
 pub returns : goal.returns
 returns c =
-    holds _ _ _ _ _ _ (told c.right_lengths.ensures c.if-not-right_lengths.false) (told c.state_within.ensures c.if-not-state_within.false) _ (sym (as_it_is _) ∙ via (answer_by (each_by (λ x. x))) c.contributions.ensures c.in_ok-c.was) (told c.all_finite.ensures c.if-not-all_finite.false)
+    holds _ _ _ _ _ _ (told c.right_lengths.ensures c.if-not-right_lengths.false) (told c.state_within.ensures c.if-not-state_within.false) _ (sym (as_it_is _) ∙ via (answer_by (each_by (λ x. x))) c.contributions.ensures c.in_ok-e.was) (told c.all_finite.ensures c.if-not-all_finite.false)
