@@ -21,6 +21,7 @@ use Rattle.number.proofs.Ops.{NonZero, add_rounds, sub_rounds, mul_rounds, div_r
 use Rattle.number.proofs.Order.{lt_yes, lt_no, lt_from, least_is, greatest_is, over, under, both}
 use Rattle.number.proofs.Inside.{next_down_same, next_up_same, down_one, up_one, down_one_finite, up_one_finite, down_one_more, up_one_less, down_one_more_finite, up_one_less_finite, both_above, both_below}
 use Rattle.interval.specs.declared.Interval.{Interval}
+use Rattle.interval.specs.Usual.{InOrder}
 use Rattle.interval.specs.Interval.{point, outward, around, corners, mul_i, pow_i}
 use Rattle.interval.proofs.Encloses.{sign_nonzero}
 
@@ -607,16 +608,22 @@ below_tests a b h =
     let t = subst T (sym h) tt in
     (lt_over a (neg largest) (and_l (lt (neg largest) a) (lt b (neg least_normal)) t), lt_under b (neg least_normal) (and_r (lt (neg largest) a) (lt b (neg least_normal)) t))
 
-module _ (g : Bool) (x : Interval) (a b : Float) (k : Two g x a b) where
+module _ (a b : Float) (k : InOrder a b) where
   pub goes_up : (lt least_normal a && lt b largest) ≡ true → InsideAbove a × InsideAbove b
   goes_up h =
       let t = subst T (sym h) tt in
-      both_above a b k.fits_a k.finite_a k.fits_b k.finite_b k.in_order (and_l (lt least_normal a) (lt b largest) t) (and_r (lt least_normal a) (lt b largest) t)
+      let o = k (above_tests a b h) in
+      both_above a b o.0 o.1 o.2 o.3 o.4 (and_l (lt least_normal a) (lt b largest) t) (and_r (lt least_normal a) (lt b largest) t)
 
   pub goes_down : (lt (neg largest) a && lt b (neg least_normal)) ≡ true → InsideBelow a × InsideBelow b
   goes_down h =
       let t = subst T (sym h) tt in
-      both_below a b k.fits_a k.finite_a k.fits_b k.finite_b k.in_order (and_l (lt (neg largest) a) (lt b (neg least_normal)) t) (and_r (lt (neg largest) a) (lt b (neg least_normal)) t)
+      let o = k (below_tests a b h) in
+      both_below a b o.0 o.1 o.2 o.3 o.4 (and_l (lt (neg largest) a) (lt b (neg least_normal)) t) (and_r (lt (neg largest) a) (lt b (neg least_normal)) t)
+
+-- what an operation's usual way tells of its two ends is in order
+pub in_order_of : (g : Bool) (x : Interval) (a b : Float) → (T (over a) × T (under b) → Two g x a b) → InOrder a b
+in_order_of g x a b h t = let k = h t in (k.fits_a, k.finite_a, k.fits_b, k.finite_b, k.in_order)
 
 -- ---- the same from the tests as the code joins them
 pub truly : {b : Bool} → b ≡ true → T b

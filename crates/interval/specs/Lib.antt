@@ -1,1 +1,2 @@
 pub mod Interval
+pub mod Usual

@@ -2,15 +2,17 @@
 // The usual way of an operation is inlined: operands in order, a positive factor or divisor, results on one side of zero and away from it and from the largest f64. There two corners are the least and the greatest, and a step is one pattern further. Everything else goes out of line.
 #![tactic(auto)]
 
-ghost use Rattle.std.specs.Prelude.{◌≡◌, ◌&&◌, cond, Float};
+ghost use Rattle.std.specs.Prelude.{◌≡◌, ◌&&◌, cond, Float, T, IfSome};
 ghost use Rattle.std.specs.Float.{binary64};
 ghost use Rattle.std.specs.Float.Ieee.{lt, neg, mul};
 ghost use Rattle.number.specs.Inside.{least_normal, largest, InsideAbove, InsideBelow};
 ghost use Rattle.interval.specs.Interval.{point, outward, around, add_i, sub_i, mul_i, div_i, neg_i, pow_i, down_i, after_i};
+ghost use Rattle.number.proofs.Order.{over, under};
+ghost use Rattle.interval.specs.Usual.{InOrder};
 
 use std::ops::{Add, Div, Mul, Neg, Sub};
 
-// Document 01's two ends. `sound` is false once a divisor's ends touched zero or an end was not finite.
+// Document 01's two ends. `sound` is false once a divisor's ends touched zero or an end was not finite. It is a flag, since the ends go on being worked: an operation joins two flags by `&`, where it would take two Options apart.
 #[derive(Clone, Copy)]
 pub struct Interval {
     pub lower: f64,
@@ -96,6 +98,20 @@ fn falling(g: bool, a: f64, b: f64) -> Interval
     }
 }
 
+// The ends one pattern outward, where both stand on one side of zero, away from it and from the largest.
+fn stepped(g: bool, a: f64, b: f64) -> Option<Interval>
+    requires { InOrder a b }
+    ensures { IfSome result (λ r. T (over a) × T (under b) × (r ≡ outward g a b)) }
+{
+    if above(a, b) {
+        return Some(rising(g, a, b));
+    }
+    if below(a, b) {
+        return Some(falling(g, a, b));
+    }
+    None
+}
+
 // One of the two ends of a factor or divisor.
 fn chosen(first: bool, x: f64, y: f64) -> f64
     ensures { result ≡ cond first x y }
@@ -110,11 +126,8 @@ fn product(g: bool, xl: f64, xu: f64, yl: f64, yu: f64) -> Interval
     if !(xu < xl) & (0.0 < yl) & !(yu < yl) & (yu < 1.7976931348623157e308) {
         let a = xl * chosen(xl < 0.0, yu, yl);
         let b = xu * chosen(xu < 0.0, yl, yu);
-        if above(a, b) {
-            return rising(g, a, b);
-        }
-        if below(a, b) {
-            return falling(g, a, b);
+        if let Some(ends) = stepped(g, a, b) {
+            return ends;
         }
     }
     around(g, xl * yl, xl * yu, xu * yl, xu * yu)
@@ -172,11 +185,8 @@ impl Add for Interval {
         if !(self.upper < self.lower) & !(y.upper < y.lower) {
             let a = self.lower + y.lower;
             let b = self.upper + y.upper;
-            if above(a, b) {
-                return rising(g, a, b);
-            }
-            if below(a, b) {
-                return falling(g, a, b);
+            if let Some(ends) = stepped(g, a, b) {
+                return ends;
             }
         }
         let q = corners(|a, b| a + b, g, self, y);
@@ -198,11 +208,8 @@ impl Sub for Interval {
         if !(self.upper < self.lower) & !(y.upper < y.lower) {
             let a = self.lower - y.upper;
             let b = self.upper - y.lower;
-            if above(a, b) {
-                return rising(g, a, b);
-            }
-            if below(a, b) {
-                return falling(g, a, b);
+            if let Some(ends) = stepped(g, a, b) {
+                return ends;
             }
         }
         let q = corners(|a, b| a - b, g, self, y);
@@ -228,11 +235,8 @@ impl Mul for Interval {
         {
             let a = chosen(y.lower < 0.0, self.upper, self.lower) * y.lower;
             let b = chosen(y.upper < 0.0, self.lower, self.upper) * y.upper;
-            if above(a, b) {
-                return rising(g, a, b);
-            }
-            if below(a, b) {
-                return falling(g, a, b);
+            if let Some(ends) = stepped(g, a, b) {
+                return ends;
             }
         }
         let q = product(g, self.lower, self.upper, y.lower, y.upper);
@@ -258,11 +262,8 @@ impl Div for Interval {
         {
             let a = self.lower / chosen(self.lower < 0.0, y.lower, y.upper);
             let b = self.upper / chosen(self.upper < 0.0, y.upper, y.lower);
-            if above(a, b) {
-                return rising(g, a, b);
-            }
-            if below(a, b) {
-                return falling(g, a, b);
+            if let Some(ends) = stepped(g, a, b) {
+                return ends;
             }
         }
         let one_sign = (0.0 < y.lower) | (y.upper < 0.0);

@@ -1,22 +1,14 @@
 -- `interval::product` meets its contract. Assumes nothing.
-use Rattle.interval.proofs.Near.{right_chosen, above_tests, below_tests, goes_up, goes_down}
+use Rattle.interval.proofs.Near.{right_chosen, in_order_of}
 use mathlib.Core.Bool.{true}
-use mathlib.Core.Path.{sym, ◌∙◌}
+use mathlib.Core.Path.{refl, ◌∙◌}
 use lib.Ieee.{of_bits}
 use Rattle.interval.proofs.product.Goals as goal
 
-pub rising-requires : goal.rising-requires
+pub stepped-requires : goal.stepped-requires
 unfolding of_bits
-rising-requires c = goes_up true _ _ _ (right_chosen true _ _ _ _ _ _ c.if-xu-xl.true c.chosen.ensures c.chosen-then-xu-xl.ensures (above_tests _ _ (sym c.above.ensures ∙ c.if-above.true))) (sym c.above.ensures ∙ c.if-above.true)
+stepped-requires c = in_order_of true _ _ _ (right_chosen true _ _ _ _ _ _ c.if-xu-xl.true c.chosen.ensures c.chosen-then-xu-xl.ensures)
 
-pub returns-then-above : goal.returns-then-above
+pub returns-in-Some : goal.returns-in-Some
 unfolding of_bits
-returns-then-above c = c.rising.ensures ∙ (right_chosen _ _ _ _ _ _ _ c.if-xu-xl.true c.chosen.ensures c.chosen-then-xu-xl.ensures (above_tests _ _ (sym c.above.ensures ∙ c.if-above.true))).is
-
-pub falling-requires : goal.falling-requires
-unfolding of_bits
-falling-requires c = goes_down true _ _ _ (right_chosen true _ _ _ _ _ _ c.if-xu-xl.true c.chosen.ensures c.chosen-then-xu-xl.ensures (below_tests _ _ (sym c.below.ensures ∙ c.if-below.true))) (sym c.below.ensures ∙ c.if-below.true)
-
-pub returns-then-below : goal.returns-then-below
-unfolding of_bits
-returns-then-below c = c.falling.ensures ∙ (right_chosen _ _ _ _ _ _ _ c.if-xu-xl.true c.chosen.ensures c.chosen-then-xu-xl.ensures (below_tests _ _ (sym c.below.ensures ∙ c.if-below.true))).is
+returns-in-Some c = let e = c.in-Some.ensures in e.2 ∙ (right_chosen _ _ _ _ _ _ _ c.if-xu-xl.true c.chosen.ensures c.chosen-then-xu-xl.ensures (e.0, e.1)).is

@@ -1,25 +1,18 @@
 -- `interval::IntervalAdd::add` meets its contract. Assumes nothing.
-use Rattle.interval.proofs.Near.{sum_usual, by_corners, above_tests, below_tests, goes_up, goes_down}
+use Rattle.interval.proofs.Near.{sum_usual, by_corners, in_order_of}
 use lib.Ieee.{binary64, add}
 use Rattle.std.proofs.Common.{rules}
-use mathlib.Core.Path.{sym, ◌∙◌}
+use mathlib.Core.Path.{refl, ◌∙◌}
 use mathlib.Core.Bool.{true, ◌&&◌}
 use Rattle.interval.specs.Interval.{add_i}
 use Rattle.interval.proofs.IntervalAdd.add.Goals as goal
 
-pub rising-requires : goal.rising-requires
-rising-requires c = goes_up true _ _ _ (sum_usual true _ _ _ _ c.if-self-y.true (above_tests _ _ (sym c.above.ensures ∙ c.if-above.true))) (sym c.above.ensures ∙ c.if-above.true)
+pub stepped-requires : goal.stepped-requires
+stepped-requires c = in_order_of true _ _ _ (sum_usual true _ _ _ _ c.if-self-y.true)
 
-pub returns-then-above : goal.returns-then-above
+pub returns-in-Some : goal.returns-in-Some
 unfolding add_i
-returns-then-above c = c.rising.ensures ∙ (sum_usual _ _ _ _ _ c.if-self-y.true (above_tests _ _ (sym c.above.ensures ∙ c.if-above.true))).is
-
-pub falling-requires : goal.falling-requires
-falling-requires c = goes_down true _ _ _ (sum_usual true _ _ _ _ c.if-self-y.true (below_tests _ _ (sym c.below.ensures ∙ c.if-below.true))) (sym c.below.ensures ∙ c.if-below.true)
-
-pub returns-then-below : goal.returns-then-below
-unfolding add_i
-returns-then-below c = c.falling.ensures ∙ (sum_usual _ _ _ _ _ c.if-self-y.true (below_tests _ _ (sym c.below.ensures ∙ c.if-below.true))).is
+returns-in-Some c = let e = c.in-Some.ensures in e.2 ∙ (sum_usual _ _ _ _ _ c.if-self-y.true (e.0, e.1)).is
 
 pub returns : goal.returns
 unfolding add_i

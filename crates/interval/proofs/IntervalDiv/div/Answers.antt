@@ -1,28 +1,20 @@
 -- `interval::IntervalDiv::div` meets its contract. Assumes nothing.
-use Rattle.interval.proofs.Near.{by_chosen, one_sound, one_sign_told, outward_same, by_corners, above_tests, below_tests, goes_up, goes_down}
+use Rattle.interval.proofs.Near.{by_chosen, one_sound, one_sign_told, outward_same, by_corners, in_order_of}
 use Rattle.std.proofs.Common.{rules}
-use mathlib.Core.Path.{sym, ◌∙◌}
+use mathlib.Core.Path.{refl, ◌∙◌}
 use mathlib.Core.Bool.{true, ◌&&◌}
 use lib.Ieee.{binary64, lt, div, of_bits}
 use Rattle.number.specs.Arith.{zero64}
 use Rattle.interval.specs.Interval.{one_sign, div_i}
 use Rattle.interval.proofs.IntervalDiv.div.Goals as goal
 
-pub rising-requires : goal.rising-requires
+pub stepped-requires : goal.stepped-requires
 unfolding of_bits
-rising-requires c = goes_up true _ _ _ (by_chosen true _ _ _ _ _ _ c.if-self-y.true c.chosen.ensures c.chosen-then-self-y.ensures (above_tests _ _ (sym c.above.ensures ∙ c.if-above.true))) (sym c.above.ensures ∙ c.if-above.true)
+stepped-requires c = in_order_of true _ _ _ (by_chosen true _ _ _ _ _ _ c.if-self-y.true c.chosen.ensures c.chosen-then-self-y.ensures)
 
-pub returns-then-above : goal.returns-then-above
+pub returns-in-Some : goal.returns-in-Some
 unfolding div_i one_sign of_bits
-returns-then-above c = c.rising.ensures ∙ outward_same _ _ _ _ (one_sound (c.args.self.sound && c.args.y.sound) (lt zero64 c.args.y.lower) (lt c.args.y.upper zero64) (one_sign_told true _ _ _ _ c.if-self-y.true)) ∙ (by_chosen _ _ _ _ _ _ _ c.if-self-y.true c.chosen.ensures c.chosen-then-self-y.ensures (above_tests _ _ (sym c.above.ensures ∙ c.if-above.true))).is
-
-pub falling-requires : goal.falling-requires
-unfolding of_bits
-falling-requires c = goes_down true _ _ _ (by_chosen true _ _ _ _ _ _ c.if-self-y.true c.chosen.ensures c.chosen-then-self-y.ensures (below_tests _ _ (sym c.below.ensures ∙ c.if-below.true))) (sym c.below.ensures ∙ c.if-below.true)
-
-pub returns-then-below : goal.returns-then-below
-unfolding div_i one_sign of_bits
-returns-then-below c = c.falling.ensures ∙ outward_same _ _ _ _ (one_sound (c.args.self.sound && c.args.y.sound) (lt zero64 c.args.y.lower) (lt c.args.y.upper zero64) (one_sign_told true _ _ _ _ c.if-self-y.true)) ∙ (by_chosen _ _ _ _ _ _ _ c.if-self-y.true c.chosen.ensures c.chosen-then-self-y.ensures (below_tests _ _ (sym c.below.ensures ∙ c.if-below.true))).is
+returns-in-Some c = let e = c.in-Some.ensures in e.2 ∙ outward_same _ _ _ _ (one_sound (c.args.self.sound && c.args.y.sound) (lt zero64 c.args.y.lower) (lt c.args.y.upper zero64) (one_sign_told true _ _ _ _ c.if-self-y.true)) ∙ (by_chosen _ _ _ _ _ _ _ c.if-self-y.true c.chosen.ensures c.chosen-then-self-y.ensures (e.0, e.1)).is
 
 pub returns : goal.returns
 unfolding div_i one_sign of_bits

@@ -1,26 +1,18 @@
 -- `interval::IntervalMul::mul` meets its contract. Assumes nothing.
-use Rattle.interval.proofs.Near.{left_chosen, above_tests, below_tests, goes_up, goes_down}
-use mathlib.Core.Path.{sym, ◌∙◌}
+use Rattle.interval.proofs.Near.{left_chosen, in_order_of}
+use mathlib.Core.Path.{refl, ◌∙◌}
 use mathlib.Core.Bool.{true}
 use lib.Ieee.{of_bits}
 use Rattle.interval.specs.Interval.{mul_i}
 use Rattle.interval.proofs.IntervalMul.mul.Goals as goal
 
-pub rising-requires : goal.rising-requires
+pub stepped-requires : goal.stepped-requires
 unfolding of_bits
-rising-requires c = goes_up true _ _ _ (left_chosen true _ _ _ _ _ _ c.if-self-y.true c.chosen.ensures c.chosen-then-self-y.ensures (above_tests _ _ (sym c.above.ensures ∙ c.if-above.true))) (sym c.above.ensures ∙ c.if-above.true)
+stepped-requires c = in_order_of true _ _ _ (left_chosen true _ _ _ _ _ _ c.if-self-y.true c.chosen.ensures c.chosen-then-self-y.ensures)
 
-pub returns-then-above : goal.returns-then-above
+pub returns-in-Some : goal.returns-in-Some
 unfolding mul_i of_bits
-returns-then-above c = c.rising.ensures ∙ (left_chosen _ _ _ _ _ _ _ c.if-self-y.true c.chosen.ensures c.chosen-then-self-y.ensures (above_tests _ _ (sym c.above.ensures ∙ c.if-above.true))).is
-
-pub falling-requires : goal.falling-requires
-unfolding of_bits
-falling-requires c = goes_down true _ _ _ (left_chosen true _ _ _ _ _ _ c.if-self-y.true c.chosen.ensures c.chosen-then-self-y.ensures (below_tests _ _ (sym c.below.ensures ∙ c.if-below.true))) (sym c.below.ensures ∙ c.if-below.true)
-
-pub returns-then-below : goal.returns-then-below
-unfolding mul_i of_bits
-returns-then-below c = c.falling.ensures ∙ (left_chosen _ _ _ _ _ _ _ c.if-self-y.true c.chosen.ensures c.chosen-then-self-y.ensures (below_tests _ _ (sym c.below.ensures ∙ c.if-below.true))).is
+returns-in-Some c = let e = c.in-Some.ensures in e.2 ∙ (left_chosen _ _ _ _ _ _ _ c.if-self-y.true c.chosen.ensures c.chosen-then-self-y.ensures (e.0, e.1)).is
 
 pub returns : goal.returns
 unfolding mul_i of_bits
