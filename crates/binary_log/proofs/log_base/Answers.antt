@@ -17,9 +17,6 @@ sum b g h k = omega arith
 five_down : (b : ℕ) → 1018 * 2 ^ 52 ≤ b → (1023 - b / 2 ^ 52) * 2 ^ 61 < 2 ^ 64
 five_down b h = omega arith
 
-difference : (b g : ℕ) → b / 2 ^ 52 < 1023 → g ≤ 2 ^ 61 → g ≤ (1023 - b / 2 ^ 52) * 2 ^ 61
-difference b g h k = omega arith
-
 pub float_to_bits-b : goal.float_to_bits-b
 float_to_bits-b c = base_no_nan c.args.x (accepted _ _ c.base_inside.ensures c.if-not-base_inside.false)
 
@@ -40,9 +37,6 @@ overflow_mul-result-else-field-ge1023 c =
     let a = c.before.before.before.before in
     let i = base_bits a.args.x (subst T (sym a.well_formed.0.1) tt) (accepted _ _ c.base_inside.ensures c.if-not-base_inside.false) in
     Fits-bits 64 tt (five_down (to_bits binary64 a.args.x) i.0)
-
-pub overflow_sub-result-else-field-ge1023-2 : goal.overflow_sub-result-else-field-ge1023-2
-overflow_sub-result-else-field-ge1023-2 c = difference (to_bits binary64 c.args.x) c.significand_log-log.result c.if-field-ge1023.false c.significand_log-log.ensures.small
 
 pub returns-then-field-ge1023 : goal.returns-then-field-ge1023
 returns-then-field-ge1023 c = up_is _ _ c.base_inside.ensures _ _ refl c.significand_log-log.ensures.value c.if-not-base_inside.false c.if-field-ge1023.true

@@ -2,8 +2,5 @@
 use Rattle.enclosure_dual.proofs.Zero.{right_is}
 use Rattle.enclosure_dual.proofs.times_zero.Goals as goal
 
-pub returns-then-not-is_finite : goal.returns-then-not-is_finite
-returns-then-not-is_finite c = rw (c.mul.ensures, c.point.ensures)
-
 pub returns : goal.returns
 returns c = right_is c.args.x c.is_finite.ensures c.is_finite-2.ensures c.if-not-is_finite.false c.about_zero.ensures

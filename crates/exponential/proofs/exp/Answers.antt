@@ -1,9 +1,6 @@
 -- `exponential::exp` meets its contract. Assumes nothing.
-use Rattle.exponential.proofs.Argument.{value_is, outside_is, accepted}
+use Rattle.exponential.proofs.Argument.{value_is, outside_is}
 use Rattle.exponential.proofs.exp.Goals as goal
-
-pub exponent-requires : goal.exponent-requires
-exponent-requires c = accepted c.args.x c.exp_inside.result c.exp_inside.ensures c.if-exp_inside.true
 
 pub returns-then-exp_inside : goal.returns-then-exp_inside
 returns-then-exp_inside c = value_is _ _ c.exp_inside.ensures _ _ c.if-exp_inside.true c.exponent.ensures.value c.raise_core.ensures

@@ -9,9 +9,6 @@ returns-then-not-exp_inside c = m1_outside _ _ c.exp_inside.ensures c.if-not-exp
 pub float_to_bits-x : goal.float_to_bits-x
 float_to_bits-x c = no_nan c.args.x (accepted c.args.x c.exp_inside.result c.exp_inside.ensures c.if-not-exp_inside.false)
 
-pub away-requires : goal.away-requires
-away-requires c = accepted c.args.x c.exp_inside.result c.exp_inside.ensures c.if-not-exp_inside.false
-
 pub returns-then-x-lt969 : goal.returns-then-x-lt969
 returns-then-x-lt969 c = m1_tiny _ _ c.exp_inside.ensures c.if-not-exp_inside.false c.if-x-lt969.true
 

@@ -1,33 +1,9 @@
 -- `exponential::exponent_bits` meets its contract. Assumes nothing.
 use mathlib.Core.Path.{◌≡◌, ap, subst, sym, ◌∙◌}
-use Prim.Native.Nat.{ℕ, ◌+◌, ◌*◌, ◌/◌, ◌%◌, ◌^◌, ◌≤◌, ◌<◌}
-use native.Mathlib.Omega.{arith}
-use mir.Facts.{Fits-bits}
+use Prim.Native.Nat.{ℕ, ◌+◌, ◌*◌, ◌/◌, ◌%◌, ◌^◌, ◌≤◌}
 use Rattle.exponential.specs.Exp.{binary_of}
 use Rattle.exponential.proofs.Argument.{negative_at, positive_at, down_range, up_range}
 use Rattle.exponential.proofs.exponent_bits.Goals as goal
-
-under : {v : ℕ} → v ≤ 1010 * 2 ^ 53 → v ≤ 1023 * 2 ^ 53
-under h = omega arith
-
-over : {v : ℕ} → v ≤ 1010 * 2 ^ 53 → 1023 * 2 ^ 53 + v < 2 ^ 64
-over h = omega arith
-
-pub overflow_sub-result : goal.overflow_sub-result
-overflow_sub-result c =
-    let b = c.args.b in
-    let v = c.high_product-v.result in
-    let is : v ≡ binary_of b = c.high_product-v.ensures.value ∙ ap (λ (y : ℕ). y * 13306513097844322491 / 2 ^ 64) (c.shift_right-size.ensures ∙ ap (λ (n : ℕ). (b % 2 ^ 52 + 2 ^ 52) * 2048 / 2 ^ n) c.above_by.ensures) in
-    let le : v ≤ 1010 * 2 ^ 53 = subst (λ (y : ℕ). y ≤ 1010 * 2 ^ 53) (sym is) c.requires.1 in
-    under le
-
-pub overflow_add-result : goal.overflow_add-result
-overflow_add-result c =
-    let b = c.args.b in
-    let v = c.high_product-v.result in
-    let is : v ≡ binary_of b = c.high_product-v.ensures.value ∙ ap (λ (y : ℕ). y * 13306513097844322491 / 2 ^ 64) (c.shift_right-size.ensures ∙ ap (λ (n : ℕ). (b % 2 ^ 52 + 2 ^ 52) * 2048 / 2 ^ n) c.above_by.ensures) in
-    let le : v ≤ 1010 * 2 ^ 53 = subst (λ (y : ℕ). y ≤ 1010 * 2 ^ 53) (sym is) c.requires.1 in
-    Fits-bits 64 tt (over le)
 
 pub returns-then-b-ge9223372036854775808 : goal.returns-then-b-ge9223372036854775808
 returns-then-b-ge9223372036854775808 c =

@@ -1,12 +1,6 @@
 -- `exponential::tanh_ratio` meets its contract. Assumes nothing.
-use Rattle.exponential.proofs.TanhPart.{exp_fits, one_fits, tanh_ratio_is}
+use Rattle.exponential.proofs.TanhPart.{tanh_ratio_is}
 use Rattle.exponential.proofs.tanh_ratio.Goals as goal
-
-pub int_to_float-x : goal.int_to_float-x
-int_to_float-x c = exp_fits c.args.w c.significand.result c.above_by.result c.above_by-2.result c.shift_right-part.result c.shift_right-one.result c.significand.ensures c.above_by.ensures c.shift_right-part.ensures c.above_by-2.ensures c.shift_right-one.ensures
-
-pub int_to_float-y : goal.int_to_float-y
-int_to_float-y c = one_fits c.args.w c.significand.result c.above_by.result c.above_by-2.result c.shift_right-part.result c.shift_right-one.result c.significand.ensures c.above_by.ensures c.shift_right-part.ensures c.above_by-2.ensures c.shift_right-one.ensures
 
 pub returns : goal.returns
 returns c = tanh_ratio_is c.args.w c.significand.result c.above_by.result c.above_by-2.result c.shift_right-part.result c.shift_right-one.result c.significand.ensures c.above_by.ensures c.shift_right-part.ensures c.above_by-2.ensures c.shift_right-one.ensures

@@ -1,26 +1,20 @@
 use Prim.Native.Nat.{ℕ, ◌+◌, ◌-◌, ◌*◌, ◌/◌, ◌%◌, ◌<◌, ◌^◌}
 use mathlib.Core.Path.{◌≡◌, sym, ap, ◌∙◌, subst}
 use mathlib.Core.Bool.{not}
-use native.Mathlib.Omega.{arith}
 use lib.Dec.{T}
 use lib.Count.{count_leading_zeros}
 use lib.Ieee.{binary64, of_bits, nan_bits}
 use Rattle.fixed_point.specs.Pack.{packed}
-use Rattle.fixed_point.proofs.Packed.{zeros_lt, shifted, packed_no_nan}
+use Rattle.fixed_point.proofs.Packed.{shifted, packed_no_nan}
 use Rattle.fixed_point.proofs.pack.Goals as goal
 
 -- the program's bits, with l for the zeros that it counted
+
 abbrev bits : (s y e l : ℕ) → ℕ
 bits s y e l = s * 9223372036854775808 + (e - l) * 4503599627370496 + ((y * 2 ^ l) % 2 ^ 64 / 1024 + 1) / 2
 
 bits_are : (s y e l : ℕ) → l ≡ count_leading_zeros 64 y → 0 < y → y < 2 ^ 64 → bits s y e l ≡ s * 2 ^ 63 + (e - count_leading_zeros 64 y) * 2 ^ 52 + (y * 2 ^ count_leading_zeros 64 y / 1024 + 1) / 2
 bits_are s y e l q p f = ap (bits s y e) q ∙ ap (λ (x : ℕ). s * 9223372036854775808 + (e - count_leading_zeros 64 y) * 4503599627370496 + (x / 1024 + 1) / 2) (shifted y p f)
-
-pub overflow_shl-m : goal.overflow_shl-m
-overflow_shl-m c = subst (λ (l : ℕ). l < 64) (sym c.leading_zeros-l.ensures.value) (zeros_lt c.args.y c.requires.1 c.ranges.y.fits)
-
-pub overflow_sub-result : goal.overflow_sub-result
-overflow_sub-result c = omega arith
 
 pub float_from_bits-result : goal.float_from_bits-result
 float_from_bits-result c =

@@ -10,6 +10,7 @@ use Rattle.logarithm.proofs.Ranges.{multiple_lo, multiple_hi}
 use Rattle.logarithm.proofs.far.Goals as goal
 
 -- the two parts, as the program has them
+
 room : (a c m p : ℕ) → a ≡ m → c ≡ p → m ≤ 13000000000000000000 → p ≤ 2 ^ 53 → a + c < 2 ^ 64
 room a c m p e f h k = omega arith
 

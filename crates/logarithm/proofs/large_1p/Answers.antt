@@ -1,17 +1,16 @@
 -- `logarithm::large_1p` meets its contract. Assumes nothing.
 use mathlib.Core.Path.{◌≡◌, sym, ap, ◌∙◌, subst}
 use Prim.Native.Nat.{ℕ, ◌+◌, ◌-◌, ◌*◌, ◌%◌, ◌^◌, ◌≤◌, ◌<◌}
-use native.Mathlib.Nat.{le_of_lt, sub-pos_iff_lt, lt_of_lt_of_le}
+use native.Mathlib.Nat.{le_of_lt, sub-pos_iff_lt}
 use native.Mathlib.Omega.{arith}
-use lib.Dec.{lit≤}
 use lib.Pow.{pow_mono}
-use mir.Facts.{Fits-bits}
 use borrow.Author.Tests.{eq-eqb, ne_eqb}
 use Rattle.logarithm.specs.Logarithm.{moved1p, large1p}
 use Rattle.logarithm.proofs.Ranges.{one_shl, plus_lt, minus_lt, minus_pos}
 use Rattle.logarithm.proofs.large_1p.Goals as goal
 
 -- 1 in units of v's last place
+
 places : (f : ℕ) → 1021 ≤ f → 1075 - f ≤ 54
 places f h = omega arith
 
@@ -47,12 +46,6 @@ unfolding large1p
 returns-then-s-eq1 c =
     let a = c.args in
     rw (eq-eqb _ _ c.if-s-eq1.true) (c.moved_1p.ensures ∙ ap (λ (x : ℕ). moved1p a.f (x - a.m)) (is_one a.f c.requires.1))
-
-pub overflow_add-one : goal.overflow_add-one
-overflow_add-one c =
-    let a = c.args in
-    let p = c.requires in
-    Fits-bits 64 tt (subst (λ (x : ℕ). x + a.m < 2 ^ 64) (sym (is_one a.f p.1)) (lt_of_lt_of_le (plus_lt (2 ^ (1075 - a.f)) a.m (one_le a.f p.1) p.4) (lit≤ tt)))
 
 pub moved_1p-requires-2 : goal.moved_1p-requires-2
 moved_1p-requires-2 c =

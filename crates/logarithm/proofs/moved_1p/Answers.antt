@@ -5,12 +5,13 @@ use native.Mathlib.Nat.{lt_of_lt_of_le}
 use native.Mathlib.Omega.{arith}
 use lib.Dec.{lit<, lit≤}
 use lib.Count.{count_leading_zeros}
-use Rattle.fixed_point.proofs.Packed.{zeros_lt, top_lo, shifted}
+use Rattle.fixed_point.proofs.Packed.{top_lo, shifted}
 use Rattle.logarithm.specs.Logarithm.{reduced, moved1p}
 use Rattle.logarithm.proofs.Ranges.{zeros_from, fours}
 use Rattle.logarithm.proofs.moved_1p.Goals as goal
 
 -- the number moved up, as the program has it
+
 move : (y l : ℕ) → l ≡ count_leading_zeros 64 y → 0 < y → y < 2 ^ 55 → (y * 2 ^ l) % 2 ^ 64 ≡ y * 2 ^ count_leading_zeros 64 y
 move y l e p h = ap (λ (x : ℕ). (y * 2 ^ x) % 2 ^ 64) e ∙ shifted y p (lt_of_lt_of_le h (lit≤ tt))
 
@@ -19,9 +20,6 @@ nine y h = go (count_leading_zeros 64 y) (zeros_from y 55 (lit< tt) h)
   where
     go : (l : ℕ) → 64 ≤ l + 55 → 2 ≤ l
     go l h = omega arith
-
-pub overflow_shl-y : goal.overflow_shl-y
-overflow_shl-y c = subst (λ (l : ℕ). l < 64) (sym c.leading_zeros-l.ensures.value) (zeros_lt c.args.y c.requires.2 (lt_of_lt_of_le c.requires.3 (lit≤ tt)))
 
 pub reduced-requires : goal.reduced-requires
 reduced-requires c =

@@ -8,6 +8,7 @@ use Rattle.logarithm.proofs.Ranges.{three, moved_lt, shifted, moved_few, moved_f
 use Rattle.logarithm.proofs.signed.Goals as goal
 
 -- the number moved up and the shift, as the program has them
+
 move : (n l : ℕ) → n < 2 ^ 61 → l ≡ count_leading_zeros 64 n → (n * 2 ^ (l - 3)) % 2 ^ 64 ≡ n * 2 ^ (count_leading_zeros 64 n - 3)
 move n l h e = ap (λ (x : ℕ). (n * 2 ^ (x - 3)) % 2 ^ 64) e ∙ shifted n h
 

@@ -3,15 +3,9 @@ use borrow.Author.Tests.{lt-ltb, le-ltb}
 use Rattle.logarithm.specs.Logarithm.{value1p}
 use Rattle.logarithm.proofs.value_1p.Goals as goal
 
-pub float_to_bits-b : goal.float_to_bits-b
-float_to_bits-b c = c.requires.0
-
 pub returns-then-b-lt969 : goal.returns-then-b-lt969
 unfolding value1p
 returns-then-b-lt969 c = rw (lt-ltb _ _ c.if-b-lt969.true)
-
-pub bits_1p-requires : goal.bits_1p-requires
-bits_1p-requires c = (c.if-b-lt969.false, c.requires.1)
 
 pub returns : goal.returns
 unfolding value1p

@@ -5,8 +5,5 @@ use Rattle.power.proofs.raise.Goals as goal
 pub returns-then-exponent : goal.returns-then-exponent
 returns-then-exponent c = base_is _ _ c.if-exponent.true
 
-pub raise_core-requires : goal.raise_core-requires
-raise_core-requires c = c.word.ensures.range
-
 pub returns : goal.returns
 returns c = raised_is _ _ _ _ c.if-exponent.false c.word.ensures.value c.raise_core.ensures

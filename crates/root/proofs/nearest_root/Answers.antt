@@ -24,20 +24,8 @@ whole c = digits_54 (moved c.args.m c.args.e) (moved_long c.args.m c.args.e c.re
 given : (c : After-whole_root-r) → c.whole_root-r.result ≡ whole_root 54 (moved c.args.m c.args.e * 2 ^ 44)
 given c = c.whole_root-r.ensures ∙ ap (λ (z : ℕ). whole_root 54 (z * 2 ^ 44)) (kept c.before)
 
-pub overflow_cast-l : goal.overflow_cast-l
-overflow_cast-l c = let h = few c in omega arith
-
-pub overflow_sub-f : goal.overflow_sub-f
-overflow_sub-f c = let h = few c in omega arith
-
 pub overflow_sub-a : goal.overflow_sub-a
 overflow_sub-a c = let h = few c in omega arith
-
-pub overflow_add-a : goal.overflow_add-a
-overflow_add-a c = let h = few c in omega arith
-
-pub overflow_shl-a : goal.overflow_shl-a
-overflow_shl-a c = let h = few c in omega arith
 
 pub whole_root-r-requires : goal.whole_root-r-requires
 whole_root-r-requires c = rw (kept c) (moved_long c.args.m c.args.e c.requires.0 c.requires.1)

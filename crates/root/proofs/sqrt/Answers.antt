@@ -5,12 +5,13 @@ use lib.Dec.{T}
 use lib.Ieee.{binary64, fits}
 use lib.Ieee.Positive.{positive}
 use Rattle.number.specs.Ans.{held}
-use Rattle.root.proofs.Domain.{zero_root, below_root, infinite_root, inside_positive, positive_no_nan, root_of, pattern, value_small_of, value_normal_of}
+use Rattle.root.proofs.Domain.{zero_root, below_root, infinite_root, inside_positive, root_of, pattern, value_small_of, value_normal_of}
 use Rattle.root.proofs.Pattern.{no_nan}
 use Rattle.root.proofs.sqrt.Goals as goal
 use Rattle.root.proofs.sqrt.Goals.{Else-not-x-infinity, Start}
 
 -- the argument is a float, and behind the tests a positive one
+
 float : (c : Start) → T (fits binary64 c.args.x)
 float c = subst T (sym c.well_formed.0.1) tt
 
@@ -28,9 +29,6 @@ float_from_bits-infinity c = no_nan 9218868437227405312 (omega arith)
 
 pub returns-then-not-x-infinity : goal.returns-then-not-x-infinity
 returns-then-not-x-infinity c = infinite_root c.args.x c.if-not-x-infinity.true-raw
-
-pub float_to_bits-b : goal.float_to_bits-b
-float_to_bits-b c = positive_no_nan c.args.x (inside c)
 
 pub nearest_root-small-requires : goal.nearest_root-small-requires
 nearest_root-small-requires c =

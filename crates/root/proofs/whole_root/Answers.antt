@@ -4,16 +4,13 @@ use Prim.Native.Nat.{◌^◌, ◌<◌}
 use native.Mathlib.Nat.{lt_of_le_of_lt}
 use native.Mathlib.Omega.{arith}
 use mir.Facts.{Fits-bits}
-use Rattle.root.proofs.Taken.{first_fits, square_fits, further_fits, root_fits, left_fits, all_digits, rest_le}
+use Rattle.root.proofs.Taken.{square_fits, further_fits, root_fits, left_fits, all_digits, rest_le}
 use Rattle.root.proofs.Whole.{one_up, stays}
 use Rattle.root.proofs.whole_root.Goals as goal
 use Rattle.root.proofs.whole_root.Goals.{Start}
 
 fits : (c : Start) → c.args.a < 2 ^ 64
 fits c = search rules
-
-pub overflow_mul-s : goal.overflow_mul-s
-overflow_mul-s c = Fits-bits 64 tt (first_fits c.args.a c.inverse-w.result c.requires (fits c.before) c.inverse-w.ensures)
 
 pub overflow_mul-n : goal.overflow_mul-n
 overflow_mul-n c = Fits-bits 64 tt (lt_of_le_of_lt (square_fits c.args.a c.inverse-w.result c.requires (fits c.before) c.inverse-w.ensures) (fits c.before))
@@ -23,9 +20,6 @@ overflow_sub-n c = square_fits c.args.a c.inverse-w.result c.requires (fits c.be
 
 pub overflow_mul-t : goal.overflow_mul-t
 overflow_mul-t c = Fits-bits 64 tt (further_fits c.args.a c.inverse-w.result c.requires (fits c.before) c.inverse-w.ensures)
-
-pub overflow_mul-r : goal.overflow_mul-r
-overflow_mul-r c = let h = root_fits c.args.a c.inverse-w.result c.requires (fits c.before) c.inverse-w.ensures in omega arith
 
 pub overflow_add-r : goal.overflow_add-r
 overflow_add-r c = let h = root_fits c.args.a c.inverse-w.result c.requires (fits c.before) c.inverse-w.ensures in omega arith
