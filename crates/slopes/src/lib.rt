@@ -23,43 +23,7 @@ pub struct SlopeExponent {
     pub below: FixedExponent,
 }
 
-// x + c, x - c, x * c and x / c, where c is plain; and 1 / x.
-pub fn plus(x: Dual, c: f64) -> Dual
-    ensures { dual_of result ≡ add_d floats (dual_of x) (plain_d floats c) }
-{
-    Dual {
-        re: x.re + c,
-        eps: x.eps + 0.0,
-    }
-}
-
-pub fn minus(x: Dual, c: f64) -> Dual
-    ensures { dual_of result ≡ sub_d floats (dual_of x) (plain_d floats c) }
-{
-    Dual {
-        re: x.re - c,
-        eps: x.eps - 0.0,
-    }
-}
-
-pub fn times(x: Dual, c: f64) -> Dual
-    ensures { dual_of result ≡ mul_d floats (dual_of x) (plain_d floats c) }
-{
-    Dual {
-        re: x.re * c,
-        eps: x.eps * c + x.re * 0.0,
-    }
-}
-
-pub fn over(x: Dual, c: f64) -> Dual
-    ensures { dual_of result ≡ div_d floats (dual_of x) (plain_d floats c) }
-{
-    Dual {
-        re: x.re / c,
-        eps: (x.eps * c - x.re * 0.0) / (c * c),
-    }
-}
-
+// 1 / x.
 pub fn recip(x: Dual) -> Dual
     ensures { dual_of result ≡ div_d floats (plain_d floats (decimal false 1 0)) (dual_of x) }
 {
@@ -98,19 +62,6 @@ pub fn raise(log: Log, slope: f64, exponent: SlopeExponent) -> Dual
     }
 }
 
-// x.powf(e); refuses with 6 where one of the two powers is outside its domain.
-pub fn powf(x: Dual, e: f64) -> Result<Dual, Refusal>
-    ensures { answer_by dual_of result ≡ real_power port (dual_of x) e }
-{
-    if !binary_log::base_inside(x.re) {
-        return Err(Refusal::Domain);
-    }
-    if !exponent_inside(e) {
-        return Err(Refusal::Domain);
-    }
-    Ok(raise(binary_log::log_base(x.re), x.eps, exponent(e)))
-}
-
 pub fn exp(x: Dual) -> Result<Dual, Refusal>
     ensures { answer_by dual_of result ≡ exp_d port (dual_of x) }
 {
@@ -128,15 +79,5 @@ pub fn ln_1p(x: Dual) -> Result<Dual, Refusal>
     Ok(Dual {
         re: v,
         eps: x.eps / (1.0 + x.re),
-    })
-}
-
-pub fn ln(x: Dual) -> Result<Dual, Refusal>
-    ensures { answer_by dual_of result ≡ ln_d port (dual_of x) }
-{
-    let v = elementary::ln(x.re)?;
-    Ok(Dual {
-        re: v,
-        eps: x.eps / x.re,
     })
 }
