@@ -20,15 +20,6 @@ least = of_bits binary64 0x3fa0_0000_0000_0000
 abbrev greatest : Float
 greatest = of_bits binary64 0x4040_0000_0000_0000
 
--- ---- the code's tests
-pub below : (x : Float) → le least x ≡ false → false ≡ base_inside x
-unfolding base_inside
-below x h = rw h
-
-pub above : (x : Float) → le least x ≡ true → le x greatest ≡ base_inside x
-unfolding base_inside
-above x h = rw h
-
 -- ---- the bits of a base inside
 least_positive : T (positive least)
 unfolding of_bits

@@ -206,10 +206,7 @@ fn significand_log(m: u64) -> u64
 pub fn base_inside(x: f64) -> bool
     ensures { result ≡ base_inside x }
 {
-    if !(0.03125 <= x) {
-        return false;
-    }
-    x <= 32.0
+    number::within(0.03125, 32.0, x)
 }
 
 // The logarithm of a base; outside the domain that of 1.

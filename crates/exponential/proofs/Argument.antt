@@ -63,14 +63,6 @@ pub binary_le : (x : Float) → T (fits binary64 x) → T (exp_inside x) → (b 
 binary_le x f h b q = div-le_of_le-mul (2 ^ 64) (le_trans (mul-le-mul_right 13306513097844322491 (size_le_of 700 (b / 4503599627370496 % 2048) (b % 4503599627370496) (lit< tt) (digits_lt b) (bits_le x f h b q))) (lit≤ tt))
 
 -- ---- the code's tests
-pub below : (x : Float) → le (neg (of_bits binary64 0x4085_e000_0000_0000)) x ≡ false → false ≡ exp_inside x
-unfolding exp_inside
-below x h = rw h
-
-pub above : (x : Float) → le (neg (of_bits binary64 0x4085_e000_0000_0000)) x ≡ true → le x (of_bits binary64 0x4085_e000_0000_0000) ≡ exp_inside x
-unfolding exp_inside
-above x h = rw h
-
 -- ---- the code's two ways
 module _ (b v : ℕ) (is : v ≡ binary_of b) where
   pub negative_at : 2 ^ 63 ≤ b → 1023 * 2 ^ 53 - v ≡ exponent_at b

@@ -190,17 +190,7 @@ pub fn raise_core(w: u64) -> f64
 fn exp_inside(x: f64) -> bool
     ensures { result ≡ exp_inside x }
 {
-    if !(-700.0 <= x) {
-        return false;
-    }
-    x <= 700.0
-}
-
-// a - b, and 0 for a larger b. A shift by it is faster than one by a plain difference: that one is made in a register's low byte, which waits for what the register last held.
-fn above_by(a: u64, b: u64) -> u64
-    ensures { result ≡ a - b }
-{
-    if b < a { a - b } else { 0 }
+    number::within(-700.0, 700.0, x)
 }
 
 // x / ln 2 plus 1023, in units of 2^-53, of the bits of an x from -700 to 700.
@@ -210,7 +200,10 @@ fn exponent_bits(b: u64) -> u64
     ensures range { (2 ^ 53 ≤ result) × (result < 2046 * 2 ^ 53) }
 {
     let digits = (b % 0x10_0000_0000_0000 + 0x10_0000_0000_0000) * 2048;
-    let size = shift_right(digits, above_by(1032, b / 0x10_0000_0000_0000 % 2048));
+    let size = shift_right(
+        digits,
+        1032u64.saturating_sub(b / 0x10_0000_0000_0000 % 2048),
+    );
     let v = high_product(size, 13306513097844322491);
     if 0x8000_0000_0000_0000 <= b {
         0x7fe0_0000_0000_0000 - v
@@ -263,7 +256,10 @@ fn small(x: f64, b: u64) -> f64
     ensures { result ≡ small_of x b }
 {
     let digits = (b % 0x10_0000_0000_0000 + 0x10_0000_0000_0000) * 2048;
-    let s = shift_right(digits, above_by(1022, b / 0x10_0000_0000_0000 % 2048));
+    let s = shift_right(
+        digits,
+        1022u64.saturating_sub(b / 0x10_0000_0000_0000 % 2048),
+    );
     let q = high_product(s, s);
     let a = over(q);
     let d = under(0x8000_0000_0000_0000 <= b, s, q, a);
@@ -324,10 +320,7 @@ pub fn exp_m1(x: f64) -> Result<f64, Refusal>
 fn tanh_inside(x: f64) -> bool
     ensures { result ≡ tanh_inside x }
 {
-    if !(-350.0 <= x) {
-        return false;
-    }
-    x <= 350.0
+    number::within(-350.0, 350.0, x)
 }
 
 // tanh of x from the exponent of 2x. The sign is no branch: either number is moved by how far the exponent's whole part is on its side of 1023.
@@ -335,8 +328,8 @@ fn tanh_ratio(w: u64) -> f64
     ensures { result ≡ tanh_ratio_of w }
 {
     let whole = w / 0x20_0000_0000_0000;
-    let part = shift_right(significand(w), above_by(1023, whole)) / 4096;
-    let one = shift_right(0x8000_0000_0000_0000, above_by(whole, 1023)) / 4096;
+    let part = shift_right(significand(w), 1023u64.saturating_sub(whole)) / 4096;
+    let one = shift_right(0x8000_0000_0000_0000, whole.saturating_sub(1023)) / 4096;
     let x = part as f64;
     let y = one as f64;
     (x - y) / (x + y)

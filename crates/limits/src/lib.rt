@@ -16,12 +16,6 @@ pub struct Component {
     pub la: f64,
 }
 
-pub fn within(low: f64, high: f64, x: f64) -> bool
-    ensures { result ≡ in_limits low high x }
-{
-    (low <= x) & (x <= high)
-}
-
 pub fn count_within(n: usize) -> bool
     ensures { result ≡ count_within n }
 {
@@ -38,7 +32,7 @@ pub fn index_within(n: usize, i: usize, j: usize) -> bool
 pub fn temperature_within(t: f64) -> bool
     ensures { result ≡ temperature_within t }
 {
-    within(1.0, 2000.0, t)
+    number::within(1.0, 2000.0, t)
 }
 
 // Component i of lists that reach that far: for loops over the count, which the lists' lengths were tested against.
@@ -57,8 +51,8 @@ pub fn component_at(sigma: &[f64], epsilon_k: &[f64], lr: &[f64], la: &[f64], i:
 fn component_within(c: Component) -> bool
     ensures { result ≡ component_within c }
 {
-    within(0.5, 16.0, c.sigma)
-        & within(0.1, 5000.0, c.epsilon_k)
+    number::within(0.5, 16.0, c.sigma)
+        & number::within(0.1, 5000.0, c.epsilon_k)
         & ((3.0 < c.la) & (c.la < c.lr) & (c.lr <= 64.0))
 }
 
@@ -74,7 +68,7 @@ fn all_within(low: f64, high: f64, n: usize, l: &[f64]) -> bool
     requires { length l.now ≡ n }
     ensures { result ≡ all_within low high n (at l.now) }
 {
-    l[..n].iter().all(|x| within(low, high, *x))
+    l[..n].iter().all(|x| number::within(low, high, *x))
 }
 
 // The three list tests below take lists as long as the count: an operation has refused others with 1 before it asks them.
@@ -121,7 +115,7 @@ fn pair_within(n: usize, k: &[f64], i: usize, j: usize) -> bool
     if i == j {
         return same_bits(x, 0.0);
     }
-    within(-0.9, 0.9, x) & same_bits(x, k[n * j + i])
+    number::within(-0.9, 0.9, x) & same_bits(x, k[n * j + i])
 }
 
 fn row_within(n: usize, k: &[f64], i: usize) -> bool

@@ -79,11 +79,11 @@ impl Arithmetic for f64 {
     }
 
     fn pow_up(self, n: u16) -> f64 {
-        pow_up(self, n as u32)
+        pow_up(self, u32::from(n))
     }
 
     fn pow_down(self, n: u16) -> f64 {
-        pow_down(self, n as u32)
+        pow_down(self, u32::from(n))
     }
 
     fn square(self) -> f64 {

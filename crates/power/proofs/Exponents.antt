@@ -15,14 +15,6 @@ use Rattle.power.specs.Power.{exponent_size, exponent_of}
 use Rattle.power.specs.declared.FixedExponent.{FixedExponent}
 
 -- ---- the code's tests
-pub below : (y : Float) → le (neg (of_bits binary64 0x4068_0000_0000_0000)) y ≡ false → false ≡ exponent_inside y
-unfolding exponent_inside
-below y h = rw h
-
-pub above : (y : Float) → le (neg (of_bits binary64 0x4068_0000_0000_0000)) y ≡ true → le y (of_bits binary64 0x4068_0000_0000_0000) ≡ exponent_inside y
-unfolding exponent_inside
-above y h = rw h
-
 -- ---- y is ± m 2 ^ e, at most 192 in size
 limit_is : of_bits binary64 0x4068_0000_0000_0000 ≡ fin false 3 (pos 6)
 unfolding of_bits of_fields odd

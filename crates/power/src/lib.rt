@@ -24,10 +24,7 @@ pub struct FixedExponent {
 pub fn exponent_inside(y: f64) -> bool
     ensures { result ≡ exponent_inside y }
 {
-    if !(-192.0 <= y) {
-        return false;
-    }
-    y <= 192.0
+    number::within(-192.0, 192.0, y)
 }
 
 // An exponent; outside the domain 0.

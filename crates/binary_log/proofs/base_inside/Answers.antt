@@ -1,9 +1,8 @@
--- `base_inside` meets its contract. Assumes nothing.
-use Rattle.binary_log.proofs.Base.{below, above}
+-- `binary_log::base_inside` meets its contract. Assumes nothing.
+use lib.Ieee.{of_bits}
+use Rattle.number.specs.Domain.{base_inside}
 use Rattle.binary_log.proofs.base_inside.Goals as goal
 
-pub returns-then-not-x : goal.returns-then-not-x
-returns-then-not-x c = below _ c.if-not-x.true
-
 pub returns : goal.returns
-returns c = above _ c.if-not-x.false
+unfolding base_inside of_bits
+returns c = c.within.ensures

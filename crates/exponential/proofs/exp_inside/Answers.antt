@@ -1,9 +1,8 @@
 -- `exponential::exp_inside` meets its contract. Assumes nothing.
-use Rattle.exponential.proofs.Argument.{below, above}
+use lib.Ieee.{of_bits}
+use Rattle.number.specs.Domain.{exp_inside}
 use Rattle.exponential.proofs.exp_inside.Goals as goal
 
-pub returns-then-not-x : goal.returns-then-not-x
-returns-then-not-x c = below c.args.x c.if-not-x.true
-
 pub returns : goal.returns
-returns c = above c.args.x c.if-not-x.false
+unfolding exp_inside of_bits
+returns c = c.within.ensures

@@ -9,7 +9,7 @@ pub returns-then-b-ge9223372036854775808 : goal.returns-then-b-ge922337203685477
 returns-then-b-ge9223372036854775808 c =
     let b = c.args.b in
     let v = c.high_product-v.result in
-    let is : v ≡ binary_of b = c.high_product-v.ensures.value ∙ ap (λ (y : ℕ). y * 13306513097844322491 / 2 ^ 64) (c.shift_right-size.ensures ∙ ap (λ (n : ℕ). (b % 2 ^ 52 + 2 ^ 52) * 2048 / 2 ^ n) c.above_by.ensures) in
+    let is : v ≡ binary_of b = c.high_product-v.ensures.value ∙ ap (λ (y : ℕ). y * 13306513097844322491 / 2 ^ 64) (c.shift_right-size.ensures ∙ ap (λ (n : ℕ). (b % 2 ^ 52 + 2 ^ 52) * 2048 / 2 ^ n) c.saturating_sub.ensures) in
     let le : v ≤ 1010 * 2 ^ 53 = subst (λ (y : ℕ). y ≤ 1010 * 2 ^ 53) (sym is) c.requires.1 in
     record { value = negative_at b v is c.if-b-ge9223372036854775808.true; range = down_range v le }
 
@@ -17,6 +17,6 @@ pub returns-else-b-ge9223372036854775808 : goal.returns-else-b-ge922337203685477
 returns-else-b-ge9223372036854775808 c =
     let b = c.args.b in
     let v = c.high_product-v.result in
-    let is : v ≡ binary_of b = c.high_product-v.ensures.value ∙ ap (λ (y : ℕ). y * 13306513097844322491 / 2 ^ 64) (c.shift_right-size.ensures ∙ ap (λ (n : ℕ). (b % 2 ^ 52 + 2 ^ 52) * 2048 / 2 ^ n) c.above_by.ensures) in
+    let is : v ≡ binary_of b = c.high_product-v.ensures.value ∙ ap (λ (y : ℕ). y * 13306513097844322491 / 2 ^ 64) (c.shift_right-size.ensures ∙ ap (λ (n : ℕ). (b % 2 ^ 52 + 2 ^ 52) * 2048 / 2 ^ n) c.saturating_sub.ensures) in
     let le : v ≤ 1010 * 2 ^ 53 = subst (λ (y : ℕ). y ≤ 1010 * 2 ^ 53) (sym is) c.requires.1 in
     record { value = positive_at b v is c.if-b-ge9223372036854775808.false; range = up_range v le }
