@@ -11,6 +11,7 @@ use enclosure::Enclosure;
 use interval::Interval;
 use std::ops::{Add, Div, Mul, Neg, Sub};
 
+// `Dual` at enclosures, but for products with a plain number's slope: `times_zero` and `zero_times` know their ends, so it is not one struct over any arithmetic.
 #[derive(Clone, Copy)]
 pub struct EnclosureDual {
     pub re: Enclosure,
@@ -49,10 +50,10 @@ impl EnclosureDual {
                 eps: Enclosure::point(0.0),
             };
         }
-        let below = self.re.pow_up(n as u32 - 1);
+        let below = self.re.pow_up(u32::from(n) - 1);
         let factor = Enclosure::point(n as f64) * below;
         EnclosureDual {
-            re: self.re.pow_up(n as u32),
+            re: self.re.pow_up(u32::from(n)),
             eps: factor * self.eps,
         }
     }
@@ -67,10 +68,10 @@ impl EnclosureDual {
                 eps: Enclosure::point(0.0),
             };
         }
-        let beyond = self.re.pow_down(n as u32 + 1);
+        let beyond = self.re.pow_down(u32::from(n) + 1);
         let factor = Enclosure::point(-(n as f64)) * beyond;
         EnclosureDual {
-            re: self.re.pow_down(n as u32),
+            re: self.re.pow_down(u32::from(n)),
             eps: factor * self.eps,
         }
     }
@@ -168,7 +169,7 @@ pub fn times_zero(x: Enclosure) -> Enclosure
     ensures { result ≡ mul_e x (point zero64) }
 {
     let ends = x.ends;
-    if !(number::is_finite(ends.lower) & number::is_finite(ends.upper)) {
+    if !ends.is_finite() {
         return x * Enclosure::point(0.0);
     }
     Enclosure {
@@ -177,12 +178,12 @@ pub fn times_zero(x: Enclosure) -> Enclosure
     }
 }
 
-// The same from the left.
+// The same from the left. One function of both would be handed both products, the run's and the general way's, for the two lines that it saves.
 pub fn zero_times(x: Enclosure) -> Enclosure
     ensures { result ≡ mul_e (point zero64) x }
 {
     let ends = x.ends;
-    if !(number::is_finite(ends.lower) & number::is_finite(ends.upper)) {
+    if !ends.is_finite() {
         return Enclosure::point(0.0) * x;
     }
     Enclosure {

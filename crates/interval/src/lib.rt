@@ -5,6 +5,7 @@
 ghost use Rattle.std.specs.Prelude.{◌≡◌, ◌&&◌, cond, Float, T, IfSome};
 ghost use Rattle.std.specs.Float.{binary64};
 ghost use Rattle.std.specs.Float.Ieee.{lt, neg, mul};
+ghost use Rattle.std.specs.Float.Ieee.Scale.{finite};
 ghost use Rattle.number.specs.Inside.{least_normal, largest, InsideAbove, InsideBelow};
 ghost use Rattle.interval.specs.Interval.{point, outward, around, add_i, sub_i, mul_i, div_i, neg_i, pow_i, down_i, after_i};
 ghost use Rattle.number.proofs.Order.{over, under};
@@ -119,7 +120,7 @@ fn chosen(first: bool, x: f64, y: f64) -> f64
     if first { x } else { y }
 }
 
-// A product that `mul` leaves: a positive right factor, then any.
+// A product that `mul` leaves: a positive right factor, then any. Its ends come one by one: of two intervals, two ends take 1.05 times the instructions.
 fn product(g: bool, xl: f64, xu: f64, yl: f64, yu: f64) -> Interval
     ensures { result ≡ around g (mul binary64 xl yl) (mul binary64 xl yu) (mul binary64 xu yl) (mul binary64 xu yu) }
 {
@@ -161,6 +162,13 @@ impl Interval {
         ensures { result ≡ down_i self n }
     {
         Interval::point(1.0) / self.pow_up(n)
+    }
+
+    // Whether both ends are finite.
+    pub fn is_finite(self) -> bool
+        ensures { result ≡ (finite self.lower && finite self.upper) }
+    {
+        number::is_finite(self.lower) & number::is_finite(self.upper)
     }
 
     // x, where u was worked on the way.

@@ -11,8 +11,7 @@ use interval::Interval;
 fn finite_ends(x: Enclosure) -> bool
     ensures { result ≡ finite_ends x }
 {
-    let ends = x.ends;
-    number::is_finite(ends.lower) & number::is_finite(ends.upper)
+    x.ends.is_finite()
 }
 
 // The slope of j's dividend, all of whose numbers are plain: of finite ends it gives the eighth floats about zero.
