@@ -8,6 +8,7 @@ ghost use Rattle.dual.specs.Value.{dual_of};
 
 use std::ops::{Add, Div, Mul, Neg, Sub};
 
+// Document 01's Forms ask for a struct of two f64. `EnclosureDual` stands beside it: it knows the ends of a product with a plain number's slope, +0, which over any arithmetic would be worked.
 #[derive(Clone, Copy)]
 pub struct Dual {
     pub re: f64,
@@ -32,9 +33,9 @@ impl Dual {
                 eps: 0.0,
             };
         }
-        let below = number::pow_up(self.re, n as u32 - 1);
+        let below = number::pow_up(self.re, u32::from(n) - 1);
         Dual {
-            re: number::pow_up(self.re, n as u32),
+            re: number::pow_up(self.re, u32::from(n)),
             eps: (n as f64) * below * self.eps,
         }
     }
@@ -49,9 +50,9 @@ impl Dual {
                 eps: 0.0,
             };
         }
-        let beyond = number::pow_down(self.re, n as u32 + 1);
+        let beyond = number::pow_down(self.re, u32::from(n) + 1);
         Dual {
-            re: number::pow_down(self.re, n as u32),
+            re: number::pow_down(self.re, u32::from(n)),
             eps: -(n as f64) * beyond * self.eps,
         }
     }

@@ -379,11 +379,11 @@ impl DualNum for f64 {
     }
 
     fn powi(self, n: u16) -> f64 {
-        number::pow_up(self, n as u32)
+        number::pow_up(self, u32::from(n))
     }
 
     fn powi_down(self, n: u16) -> f64 {
-        number::pow_down(self, n as u32)
+        number::pow_down(self, u32::from(n))
     }
 
     fn square(self) -> f64 {
@@ -605,11 +605,11 @@ impl DualNum for Enclosure {
     }
 
     fn powi(self, n: u16) -> Enclosure {
-        self.pow_up(n as u32)
+        self.pow_up(u32::from(n))
     }
 
     fn powi_down(self, n: u16) -> Enclosure {
-        self.pow_down(n as u32)
+        self.pow_down(u32::from(n))
     }
 
     fn square(self) -> Enclosure {
@@ -629,11 +629,11 @@ impl DualNum for Enclosure {
     }
 
     fn exp(self) -> Result<Enclosure, Refusal> {
-        enclosure::answered(elementary::exp(self.value), self)
+        elementary_ends::exp(self)
     }
 
     fn ln_1p(self) -> Result<Enclosure, Refusal> {
-        enclosure::answered(elementary::ln_1p(self.value), self)
+        elementary_ends::ln_1p(self)
     }
 
     fn recip(self) -> Enclosure {
@@ -661,7 +661,7 @@ impl DualNum for Enclosure {
     }
 
     fn plain_ln(a: Enclosure) -> Result<Enclosure, Refusal> {
-        enclosure::answered(elementary::ln(a.value), a)
+        elementary_ends::ln(a)
     }
 
     ghost can_add_law = { Prim.search rules };
@@ -828,7 +828,7 @@ impl DualNum for Dual {
     }
 
     fn plain_powf(a: f64, e: f64) -> Result<f64, Refusal> {
-        float_powf_at(float_base(a), e)
+        f64::plain_powf(a, e)
     }
 
     fn powi(self, n: u16) -> Dual {
@@ -881,15 +881,15 @@ impl DualNum for Dual {
     }
 
     fn pi() -> f64 {
-        3.141592653589793
+        f64::pi()
     }
 
     fn frac_pi_6() -> f64 {
-        0.5235987755982989
+        f64::frac_pi_6()
     }
 
     fn tau() -> f64 {
-        6.283185307179586
+        f64::tau()
     }
 
     fn re(self) -> f64 {

@@ -222,11 +222,11 @@ impl Arithmetic for Enclosure {
     }
 
     fn pow_up(self, n: u16) -> Enclosure {
-        self.pow_up(n as u32)
+        self.pow_up(u32::from(n))
     }
 
     fn pow_down(self, n: u16) -> Enclosure {
-        self.pow_down(n as u32)
+        self.pow_down(u32::from(n))
     }
 
     fn square(self) -> Enclosure {

@@ -64,7 +64,7 @@ pub fn leading_zeros(y: u64) -> u64
     ensures value { result ≡ count_leading_zeros 64 y }
     ensures small { result ≤ 64 }
 {
-    u64::leading_zeros(y) as u64
+    u64::from(u64::leading_zeros(y))
 }
 
 // The f64 nearest to y * 2^(e - 1085), a minus where s is 1. It is a normal number for such e, so the exponent's field needs no case.

@@ -9,6 +9,7 @@ use dual_num::DualNum;
 use enclosure::Enclosure;
 use number::Refusal;
 
+// `entered`, `value` and `ln` are `lit`, `re` and `plain_ln` at `Plain` = Self: said of Self, no caller needs that equation of types.
 pub trait PlainNum: DualNum {
     // An input.
     fn entered(x: f64) -> Self

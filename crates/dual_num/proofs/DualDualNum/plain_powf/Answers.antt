@@ -3,4 +3,4 @@ use Rattle.dual_num.proofs.Powers.{plain_is}
 use Rattle.dual_num.proofs.DualDualNum.plain_powf.Goals as goal
 
 pub returns : goal.returns
-returns c w = plain_is _ _ _ (rw (c.float_powf_at.ensures, c.float_base.ensures.power))
+returns c w = plain_is _ _ _ (c.plain_powf.ensures w)
