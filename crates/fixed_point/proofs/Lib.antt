@@ -1,5 +1,4 @@
 pub mod Polynomial
-pub mod Columns
 pub mod Powers
 pub mod Horner
 pub mod HornerTwo

@@ -1,4 +1,5 @@
 // Fixed point in u64, for the elementary functions: products, quotients, Horner's rule, and the way back to f64. Each result is rounded down, so an error is at most one unit a step and has one sign.
+// What is said of a number stays a plain premise (a significand from 2^52 to below 2^53, a shift below 64, a sign of 0 or 1): one step's arithmetic reads it, and a type would be taken apart at each. A sign is the number that the pattern's top bit is made of.
 #![tactic(auto)]
 
 ghost use Rattle.std.specs.Prelude.{◌≡◌, ◌+◌, ◌*◌, ◌/◌, ◌^◌, ◌≤◌, ◌<◌};
@@ -6,19 +7,12 @@ ghost use Rattle.std.specs.Int.Count.{count_leading_zeros};
 ghost use Rattle.fixed_point.specs.Quotient.{quotient};
 ghost use Rattle.fixed_point.specs.Pack.{packed};
 
-// The upper 64 bits of u * v. LLVM makes one `mul` of this text, and more of any other tried.
+// The upper 64 bits of u * v.
 pub fn high_product(u: u64, v: u64) -> u64
     ensures value { result ≡ u * v / 2 ^ 64 }
     ensures small { result ≤ v }
 {
-    let u0 = u & 0xffff_ffff;
-    let u1 = u >> 32;
-    let v0 = v & 0xffff_ffff;
-    let v1 = v >> 32;
-    let w0 = u0 * v0;
-    let t = u1 * v0 + (w0 >> 32);
-    let w1 = (t & 0xffff_ffff) + u0 * v1;
-    u1 * v1 + (t >> 32) + (w1 >> 32)
+    ((u128::from(u) * u128::from(v)) >> 64) as u64
 }
 
 // One step of Horner's rule. The sum fits because c and q are small.
