@@ -1,7 +1,7 @@
 // SAFT-VRQ Mie parameters (saftvrqmie/parameters.rs): from component lists to the set of pair values.
 #![tactic(auto)]
 
-ghost use Rattle.std.specs.Prelude.{Err, ◌≡◌, true, ◌*◌, ◌<◌, ◌≤◌, max, length};
+ghost use Rattle.std.specs.Prelude.{Err, ◌≡◌, true, ◌*◌, ◌<◌, ◌≤◌, ℕ, max, length, get_or};
 ghost use Rattle.number.specs.Answer.{answer};
 ghost use Rattle.number.specs.Arith.{floats};
 ghost use Rattle.number.specs.Lists.{at};
@@ -97,23 +97,21 @@ fn pair_orders(a: u8, b: u8) -> Result<(), Refusal>
     Ok(())
 }
 
-// A loop, which `?` leaves with the first refusal.
-fn order_row(n: usize, fh: &[u8], i: usize) -> Result<(), Refusal>
-    requires { (i < n) × (length fh.now ≡ n) }
-    ensures { outcome result true ≡ order_row n fh.now i }
+// The order of one component beside each of the list. A loop, which `?` leaves with the first refusal.
+fn order_row(a: u8, fh: &[u8]) -> Result<(), Refusal>
+    ensures { (i : ℕ) → a ≡ get_or fh.now i 0 → outcome result true ≡ order_row (length fh.now) fh.now i }
 {
-    for j in 0usize..n {
-        pair_orders(fh[i], fh[j])?;
+    for b in fh {
+        pair_orders(a, *b)?;
     }
     Ok(())
 }
 
-fn order_walk(n: usize, fh: &[u8]) -> Result<(), Refusal>
-    requires { length fh.now ≡ n }
-    ensures { outcome result true ≡ order_walk n fh.now }
+fn order_walk(fh: &[u8]) -> Result<(), Refusal>
+    ensures { outcome result true ≡ order_walk (length fh.now) fh.now }
 {
-    for i in 0usize..n {
-        order_row(n, fh, i)?;
+    for a in fh {
+        order_row(*a, fh)?;
     }
     Ok(())
 }
@@ -208,7 +206,7 @@ impl From<u8> for FeynmanHibbsOrder {
     }
 }
 
-// By index: an entry is of a pair, so there is no list to copy.
+// By index: an entry is of a pair, and rows of the sheet are longer than the list.
 fn orders_row(s: [OrderRecord; SHEET], n: usize, fh: &[u8], i: usize) -> [OrderRecord; SHEET]
     requires { (n ≤ side) × (i < n) × (length fh.now ≡ n) }
     ensures { result ≡ orders_row n fh.now i s }
@@ -288,7 +286,7 @@ pub fn saft_vrq_mie_pars(l: &ComponentLists) -> Result<SaftVRQMiePars, Refusal>
     if !limits::all_one(l.count, l.m) {
         return Err(Refusal::Segments);
     }
-    order_walk(l.count, l.fh)?;
+    order_walk(l.fh)?;
     let mut sheets = [0.0; SHEETS];
     sheets::fill_sheets(l, &mut sheets)?;
     let m = mie_parameters::in_places(l.count, l.m);

@@ -4,12 +4,12 @@ use Prim.Native.Nat.{◌≤◌, ◌-◌}
 use mathlib.Core.Path.{◌≡◌}
 use Rattle.number.specs.Ans.{held}
 use Rattle.number.specs.Walk.{walk}
-use lib.ListN.{get_or}
+use lib.ListN.{length, get_or}
 use mathlib.Core.Bool.{true}
 use Rattle.saftvrqmie_parameters.proofs.order_row.Given as goal
 
-abbrev pub invariant-loop-j : goal.invariant-loop-j
-invariant-loop-j l = (l.j ≤ l.n) × (held true ≡ walk l.j (λ j _. pair_orders (get_or l.fh l.i 0) (get_or l.fh j 0)) true)
+abbrev pub invariant-loop-b : goal.invariant-loop-b
+invariant-loop-b l = (l.b-index ≤ length l.fh) × (held true ≡ walk l.b-index (λ j _. pair_orders l.a (get_or l.fh j 0)) true)
 
-abbrev pub decreases-loop-j : goal.decreases-loop-j
-decreases-loop-j l = l.n - l.j
+abbrev pub decreases-loop-b : goal.decreases-loop-b
+decreases-loop-b l = length l.fh - l.b-index
