@@ -291,11 +291,7 @@ fn second_turn<D: DualNum, const ONE: bool>(
 fn turn_count(order: FeynmanHibbsOrder) -> u32
     ensures { result ≡ order_number order * 2 + 1 }
 {
-    match order {
-        FeynmanHibbsOrder::FH0 => 1,
-        FeynmanHibbsOrder::FH1 => 3,
-        FeynmanHibbsOrder::FH2 => 5,
-    }
+    order as u32 * 2 + 1
 }
 
 // The sum, scaled. The quantum contributions are worked at every order, used or not.

@@ -1,7 +1,5 @@
 -- `qmie_potential_ij` of saftvrqmie/eos/hard_sphere.rs: the Mie potential with Feynman-Hibbs corrections and its two derivatives (Aasen et al. 2019), over any arithmetic, in the Rust's order of operations.
-use Rattle.std.specs.Prelude.{ℕ, ◌+◌, ◌*◌, ltb, Float, get_or, List, Bool, false, cond, Result}
-use Rattle.number.specs.declared.refusal.Refusal.{Refusal}
-use Rattle.number.specs.Answer.{answer_by}
+use Rattle.std.specs.Prelude.{ℕ, ◌+◌, ◌*◌, ltb, Float, get_or, List, Bool, false, cond}
 use Rattle.number.specs.Ans.{Ans, held, ◌>>=◌}
 use Rattle.number.specs.Arith.{Arith, decimal, floats, whole}
 use Rattle.number.specs.Functions.{Functions}
@@ -87,12 +85,6 @@ pub record PotentialIn (N : Type 0) : Type 0 where
 -- a potential whose numbers are read by `of`
 abbrev pub potential_by : {D N : Type 0} → (D → N) → QMiePotential D → PotentialIn N
 potential_by of v = record { u = of v.u; u_r = of v.u_r; u_rr = of v.u_rr }
-
-abbrev pub potential_in : QMiePotential Float → PotentialIn Float
-potential_in = potential_by (λ x. x)
-
-abbrev pub potential_answer : Result (QMiePotential Float) Refusal → Ans (PotentialIn Float)
-potential_answer = answer_by potential_in
 
 -- `fh as usize`
 abbrev pub order_number : FeynmanHibbsOrder → ℕ
