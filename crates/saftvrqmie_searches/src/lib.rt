@@ -6,17 +6,19 @@ ghost use Rattle.std.proofs.Common.{rules};
 ghost use Rattle.number.specs.Answer.{answer, answer_by};
 ghost use Rattle.number.specs.Ans.{held};
 ghost use Rattle.number.specs.Arith.{floats};
-ghost use Rattle.number.specs.Functions.{calls, entry};
+ghost use Rattle.number.specs.Functions.{calls};
 ghost use Rattle.elementary.specs.Port.{port};
 ghost use Rattle.saftvrqmie_potential.specs.Potential.{PairIn, PotentialIn, pair_in, potential_by, potential};
 ghost use Rattle.saftvrqmie_potential.specs.Shared.{Sharing};
 ghost use Rattle.saftvrqmie_searches.specs.Searches.{search_answer, counted_by, small, clamped, sigma_step, depth_step, zero_step, zero_value, searched, sigma_search, zero_search, depth_search, sigma_eff, zero_integrand, epsilon_k_eff};
 ghost use Rattle.saftvrqmie_searches.specs.Steps.{Tests, Moves};
-ghost use Rattle.saftvrqmie_searches.specs.Diameter.{abscissas, weights, node_turn, diameter_by, diameter};
+ghost use Rattle.saftvrqmie_searches.specs.Diameter.{node_turn, diameter_by, diameter};
 
+pub mod rule;
+
+use crate::rule::Rule;
 use dual::Dual;
 use dual_num::DualNum;
-use mie_parameters::table_entry;
 use number::{Arithmetic, Refusal};
 use saftvrqmie_potential::{FloatPair, QMiePotential, Shared};
 
@@ -81,56 +83,16 @@ pub enum Search<D> {
 
 pub type FloatSearch = Search<f64>;
 
-// Read at a place worked at run time: a static stands in memory once.
-static ABSCISSAS: [f64; 21] = X_K21;
-
-static WEIGHTS: [f64; 21] = W_K21;
-
-// The tables' entries; beyond the nodes 0.
-pub fn abscissa(k: usize) -> f64
-    ensures { result ≡ entry (calls floats port) abscissas k }
-{
-    table_entry(&ABSCISSAS, k)
-}
-
-pub fn weight(k: usize) -> f64
-    ensures { result ≡ entry (calls floats port) weights k }
-{
-    table_entry(&WEIGHTS, k)
-}
-
-// Numbers of a run without ends: a node of the rule is one float, and work that nothing uses does not count.
-pub trait WithoutEnds: DualNum {
-    fn abscissa(k: usize) -> Self::Plain
-        ensures { (w : Bool) → Self.plain w result ≡ entry (Self.functions w) abscissas k };
-
-    fn weight(k: usize) -> Self::Plain
-        ensures { (w : Bool) → Self.plain w result ≡ entry (Self.functions w) weights k };
-
+// A run without ends: work that nothing uses does not count.
+pub trait WithoutEnds: Rule {
     ghost after_law: { (w : Bool) (u x : (Self.beside w).Num) → (Self.beside w).after u x ≡ x };
 }
 
 impl WithoutEnds for f64 {
-    fn abscissa(k: usize) -> f64 {
-        abscissa(k)
-    }
-
-    fn weight(k: usize) -> f64 {
-        weight(k)
-    }
-
     ghost after_law = { Prim.search rules };
 }
 
 impl WithoutEnds for Dual {
-    fn abscissa(k: usize) -> f64 {
-        abscissa(k)
-    }
-
-    fn weight(k: usize) -> f64 {
-        weight(k)
-    }
-
     ghost after_law = { Prim.search rules };
 }
 
@@ -263,7 +225,7 @@ pub fn calc_epsilon_k_eff(pair: FloatPair) -> Result<(FloatSearch, u8), Refusal>
     depth_search(&w, 1.0 * pair.sigma)
 }
 
-// One node's part, added. Nothing reads the derivatives there.
+// One node's part, added, by its index: each run has the rule's entries of its own. Nothing reads the derivatives there.
 fn node<D: WithoutEnds>(
     w: &Shared<D>,
     temperature: D,
@@ -272,7 +234,6 @@ fn node<D: WithoutEnds>(
     k: usize,
     d_hs: D,
 ) -> Result<D, Refusal>
-    requires { k < 21 }
     ensures { (p : PairIn (D.beside false).Num) → Sharing (D.beside false) (D.functions false) (D.plain false) (D.power_at false) (D.power_by false) (D.of false) D.exponent_in p w.now
         → answer_by (D.of false) result ≡ node_turn (D.beside false) (D.functions false) (potential (D.beside false) (D.functions false) p) (D.of false temperature) (D.of false sigma_eff) (D.of false r0) k (D.of false d_hs) }
 {

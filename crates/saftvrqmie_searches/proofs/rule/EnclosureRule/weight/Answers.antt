@@ -1,4 +1,4 @@
--- `saftvrqmie_diameter_ends::rule::weight` meets its contract. Assumes nothing.
+-- `saftvrqmie_searches::rule::EnclosureRule::weight` meets its contract. Assumes nothing.
 use lib.Dec.{T}
 use lib.Ieee.{of_bits, to_bits, fits, neg}
 use Rattle.std.proofs.Common.{◌∙◌}
@@ -12,7 +12,7 @@ use Rattle.enclosure.specs.Enclosure.{constant_e}
 use Rattle.enclosure.proofs.Entries.{sounds, entry_made}
 use Rattle.mie_parameters.proofs.Laws.{table_at}
 use Rattle.saftvrqmie_searches.specs.Diameter.{weights}
-use Rattle.saftvrqmie_diameter_ends.proofs.rule.weight.Goals as goal
+use Rattle.saftvrqmie_searches.proofs.rule.EnclosureRule.weight.Goals as goal
 
 all_sound : T (sounds weights)
 unfolding constant_e Constants.below Constants.above Interval.point next_up next_down step_up step_down to_bits decimal of_bits fits neg
@@ -20,7 +20,8 @@ all_sound = tt
 
 pub returns : goal.returns
 unfolding entry constant_e Constants.below Constants.above Interval.point next_up next_down step_up step_down to_bits decimal of_bits fits neg
-returns c =
-    entry_made port weights all_sound c.args.k _ _ _ c.weight.ensures
-    (c.table_entry.ensures ∙ table_at (λ e. Constants.below (node e.minus e.digits e.places)) weights c.args.k)
-    (c.table_entry-2.ensures ∙ table_at (λ e. Constants.above (node e.minus e.digits e.places)) weights c.args.k)
+returns c w =
+    entry_made port weights all_sound c.args.k _ _ _
+    (c.table_entry.ensures ∙ table_at (λ e. decimal e.minus e.digits e.places) weights c.args.k)
+    (c.table_entry-2.ensures ∙ table_at (λ e. Constants.below (node e.minus e.digits e.places)) weights c.args.k)
+    (c.table_entry-3.ensures ∙ table_at (λ e. Constants.above (node e.minus e.digits e.places)) weights c.args.k)

@@ -1,13 +1,30 @@
-// The 21-node rule of QUADPACK in the two-ended run: each abscissa and weight with the two floats that enclose its decimal.
-ghost use Rattle.std.specs.Prelude.{◌≡◌, ◌<◌};
-ghost use Rattle.number.specs.Functions.{calls, entry};
-ghost use Rattle.elementary.specs.Port.{port};
-ghost use Rattle.enclosure.specs.Enclosure.{enclosures};
+// The 21-node rule of QUADPACK: its decimals in each run; in the two-ended run each with the two floats that enclose it.
+#![tactic(auto)]
+
+ghost use Rattle.std.specs.Prelude.{◌≡◌, Bool};
+ghost use Rattle.number.specs.Functions.{entry};
 ghost use Rattle.saftvrqmie_searches.specs.Diameter.{abscissas, weights};
 
+use crate::{W_K21, X_K21};
+use dual::Dual;
+use dual_num::DualNum;
 use enclosure::Enclosure;
 use interval::Interval;
 use mie_parameters::table_entry;
+
+// The entries at k; beyond the nodes 0.
+pub trait Rule: DualNum {
+    fn abscissa(k: usize) -> Self::Plain
+        ensures { (w : Bool) → Self.plain w result ≡ entry (Self.functions w) abscissas k };
+
+    fn weight(k: usize) -> Self::Plain
+        ensures { (w : Bool) → Self.plain w result ≡ entry (Self.functions w) weights k };
+}
+
+// Read at a place worked at run time: a static stands in memory once.
+static ABSCISSAS: [f64; 21] = X_K21;
+
+static WEIGHTS: [f64; 21] = W_K21;
 
 // The greatest f64 not above each decimal, and the least not below it.
 static X_K21_BELOW: [f64; 21] = [
@@ -106,31 +123,46 @@ static W_K21_ABOVE: [f64; 21] = [
     0.011694638867371876,
 ];
 
-// Entries of the rule; k is the turn of a loop over its 21 nodes, and beyond them there is no entry.
-pub fn abscissa(k: usize) -> Enclosure
-    requires { k < 21 }
-    ensures { result ≡ entry (calls enclosures port) abscissas k }
-{
-    Enclosure {
-        value: saftvrqmie_searches::abscissa(k),
-        ends: Interval {
-            lower: table_entry(&X_K21_BELOW, k),
-            upper: table_entry(&X_K21_ABOVE, k),
-            sound: true,
-        },
+impl Rule for f64 {
+    fn abscissa(k: usize) -> f64 {
+        table_entry(&ABSCISSAS, k)
+    }
+
+    fn weight(k: usize) -> f64 {
+        table_entry(&WEIGHTS, k)
     }
 }
 
-pub fn weight(k: usize) -> Enclosure
-    requires { k < 21 }
-    ensures { result ≡ entry (calls enclosures port) weights k }
-{
-    Enclosure {
-        value: saftvrqmie_searches::weight(k),
-        ends: Interval {
-            lower: table_entry(&W_K21_BELOW, k),
-            upper: table_entry(&W_K21_ABOVE, k),
-            sound: true,
-        },
+impl Rule for Dual {
+    fn abscissa(k: usize) -> f64 {
+        f64::abscissa(k)
+    }
+
+    fn weight(k: usize) -> f64 {
+        f64::weight(k)
+    }
+}
+
+impl Rule for Enclosure {
+    fn abscissa(k: usize) -> Enclosure {
+        Enclosure {
+            value: table_entry(&ABSCISSAS, k),
+            ends: Interval {
+                lower: table_entry(&X_K21_BELOW, k),
+                upper: table_entry(&X_K21_ABOVE, k),
+                sound: true,
+            },
+        }
+    }
+
+    fn weight(k: usize) -> Enclosure {
+        Enclosure {
+            value: table_entry(&WEIGHTS, k),
+            ends: Interval {
+                lower: table_entry(&W_K21_BELOW, k),
+                upper: table_entry(&W_K21_ABOVE, k),
+                sound: true,
+            },
+        }
     }
 }
