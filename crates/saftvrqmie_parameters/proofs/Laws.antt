@@ -1,6 +1,5 @@
 -- Laws over plain values, cited at the returns. Assumes nothing.
 use Prim.Native.Nat.{ℕ, ◌*◌, ◌≤◌, ◌<◌, max}
-use native.Mathlib.Nat.{mul-le-mul}
 use native.Mathlib.Omega.{arith}
 use mathlib.Core.Path.{◌≡◌}
 use mathlib.Core.Bool.{true, false, ◌&&◌}
@@ -31,9 +30,6 @@ module _ (a b : ℕ) where
   pub allowed : a ≤ 2 → b ≤ 2 → (a * b ≡ 2 → ⊥) → held true ≡ pair_orders a b
   unfolding pair_orders demand ◌>>=◌
   allowed p q e = let h : max a b ≤ 2 = omega arith in rw (le-leb _ _ h, ne_eqb _ _ e)
-
-  pub product_small : a ≤ 2 → b ≤ 2 → a * b ≤ 4
-  product_small p q = mul-le-mul p q
 
 -- what right lengths say
 pub record Right (l : Lists) : Type 0 where

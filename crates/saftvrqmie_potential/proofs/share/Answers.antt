@@ -16,18 +16,3 @@ returns-in_err-a g c w =
     let d = g.D.DualNum in
     let q = subst (IsTerm (d.beside w) (d.functions w) (d.plain w) (d.power_at w) (d.power_by w) _ _) c.in_err-a.was (c.term_of-2.ensures w) in
     rw (handed_on _ c.from_residual-in_err-a.ensures) (λ x. second_outside (d.beside w) (d.functions w) (g.met.D.DualNum.powf_law w) _ x q)
-
-pub returns : goal.returns
-returns g c w =
-    let d = g.D.DualNum in
-    let m = g.met.D.DualNum in
-    record {
-      r = subst (IsTerm (d.beside w) (d.functions w) (d.plain w) (d.power_at w) (d.power_by w) _ _) c.in_ok-r.was (c.term_of.ensures w);
-      a = subst (IsTerm (d.beside w) (d.functions w) (d.plain w) (d.power_at w) (d.power_by w) _ _) c.in_ok-a.was (c.term_of-2.ensures w);
-      d = c.quantum_d-d.ensures w;
-      d2 = rw (c.quantum_d-d.ensures w) at (c.powi.ensures w);
-      ce = m.plain_mul_law w _ _ _ c.mul.ensures;
-      first = c.first_order-first.ensures;
-      second = c.second_order-second.ensures;
-      inside = c.exponents_inside-inside.ensures;
-    }

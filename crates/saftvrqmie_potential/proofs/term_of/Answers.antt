@@ -3,11 +3,8 @@ use lib.Ieee.{of_bits}
 use mathlib.Core.Path.{refl}
 use Rattle.number.specs.Answer.{answer_by}
 use Rattle.number.specs.Arith.{decimal}
-use Rattle.number.proofs.Walk.{via, handed_on}
+use Rattle.number.proofs.Walk.{via}
 use Rattle.saftvrqmie_potential.proofs.term_of.Goals as goal
-
-pub returns-in_err-power : goal.returns-in_err-power
-returns-in_err-power g c w = rw (handed_on _ c.from_residual.ensures) (via (answer_by (g.D.DualNum.plain w)) (c.plain_powf.ensures w) c.in_err-power.was)
 
 pub returns : goal.returns
 unfolding decimal of_bits
