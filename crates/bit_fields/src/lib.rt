@@ -2,7 +2,7 @@
 #![tactic(auto)]
 
 ghost use Rattle.std.specs.Prelude.{◌≡◌, false, cond, ◌+◌, ◌*◌, ◌%◌, ◌^◌, ◌<◌, ◌≤◌, length, get_or, take, drop};
-ghost use Rattle.bit_fields.specs.Bits.{numeral, digits, bits_of, over};
+ghost use Rattle.bit_fields.specs.Bits.{numeral, digits, bits_of, over, Reached};
 
 // The bit at a position, which the bytes reach to.
 fn bit_at(l: &[u8], at: usize) -> u64
@@ -15,7 +15,7 @@ fn bit_at(l: &[u8], at: usize) -> u64
 
 // A narrow field, bit by bit: the loop counts bits, of which there is no list.
 fn narrow(l: &[u8], at: usize, width: usize) -> u64
-    requires { (at + width ≤ 8 * length l.now) × (width < 64) × (at < 2 ^ 32) }
+    requires { (width < 64) × Reached l.now at width }
     ensures { result ≡ numeral (take width (drop at (bits_of l.now))) }
 {
     let mut value = 0;
@@ -53,7 +53,7 @@ fn long(l: &[u8], at: usize) -> u64
 
 // A field of at most 64 bits, which the bytes reach to: a card's length is tested before its field is read, and no card comes near 2^32 bits.
 pub fn field(l: &[u8], at: usize, width: usize) -> u64
-    requires { (at + width ≤ 8 * length l.now) × (width ≤ 64) × (at < 2 ^ 32) }
+    requires { Reached l.now at width }
     ensures { result ≡ numeral (take width (drop at (bits_of l.now))) }
 {
     if width == 64 {
@@ -85,7 +85,7 @@ fn placed(b: u8, s: usize, n: usize, v: u64) -> u8
 
 // A field of at most 64 bits, in place of what was there; all else keeps its bits. A card's length is tested before it is written. A turn takes what the byte in hand has room for, so the turns are no range.
 pub fn put(l: &mut [u8], at: usize, width: usize, value: u64)
-    requires { (at + width ≤ 8 * length l.old) × (width ≤ 64) × (at < 2 ^ 32) }
+    requires { Reached l.old at width }
     ensures { bits_of l.new ≡ over at (digits width value) (bits_of l.old) }
 {
     let mut left = width;

@@ -99,8 +99,8 @@ module _ (f : Form) (card : List ℕ) (first : Result FieldValue Refusal) (p : f
               let s = rw (c, k) at r in
               rw (headed, t, ← s, z)
 
-          pub whole : filling (drop end (bits_of card)) ≡ true → card_answer values (Ok (record { kind = kind; count = count.value })) ≡ read_card f card
+          pub whole : (newer : Bool) → filling (drop end (bits_of card)) ≡ true → card_answer values (Ok (record { kind = kind; count = count.value; newer = newer })) ≡ read_card f card
           unfolding read_card demand ◌>>=◌
-          whole z =
+          whole newer z =
               let s = rw (c, k) at r in
               rw (headed, t, ← s, z, k)

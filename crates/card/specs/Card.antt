@@ -1,5 +1,5 @@
 -- Slip 2's fuel card: its fields, and what reading it gives.
-use Rattle.std.specs.Prelude.{ℕ, ◌+◌, ◌*◌, ◌-◌, eqb, leb, ltb, length, get_or, take, drop, replicate, Bool, true, false, ◌&&◌, cond, List, [], ◌∷◌, ◌++◌, Err, Ok, Result}
+use Rattle.std.specs.Prelude.{◌≡◌, ◌≤◌, ℕ, ◌+◌, ◌*◌, ◌-◌, eqb, leb, ltb, length, get_or, take, drop, replicate, Bool, true, false, ◌&&◌, cond, List, [], ◌∷◌, ◌++◌, Err, Ok, Result}
 use Rattle.number.specs.declared.refusal.Refusal.{Refusal}
 use Rattle.number.specs.Answer.{code}
 use Rattle.card.specs.declared.Heading.{Heading}
@@ -103,6 +103,19 @@ number_of Mie = 1
 abbrev pub kind_of : ℕ → Kind
 kind_of n = cond (eqb n 0) Quantum Mie
 
+-- of a heading: its fields, how many they are, that its count is within the limits, and that these are its numbers
+abbrev pub fields_of : Heading → List Field
+fields_of h = layout (form_of h.newer) (number_of h.kind) h.count
+
+abbrev pub total_of : Heading → ℕ
+total_of h = value_count (number_of h.kind) h.count
+
+abbrev pub Within : Heading → Type 0
+Within h = (1 ≤ h.count) × (h.count ≤ most_components)
+
+abbrev pub Complete : Heading → List ℕ → Type 0
+Complete h values = (1 ≤ h.count) × (h.count ≤ most_components) × (length values ≡ total_of h)
+
 abbrev pub field_answer : List ℕ → Result FieldValue Refusal → Ans Read
 field_answer l (Ok v) = held (record { value = v.value; rest = drop v.end (bits_of l) })
 field_answer l (Err r) = refused (code r)
@@ -121,5 +134,10 @@ reach_of (Ok e) = e
 reach_of (Err r) = 0
 
 abbrev pub card_answer : List ℕ → Result Heading Refusal → Ans Card
-card_answer values (Ok c) = held (record { kind = number_of c.kind; count = c.count; values = take (value_count (number_of c.kind) c.count) values })
+card_answer values (Ok c) = held (record { kind = number_of c.kind; count = c.count; values = take (total_of c) values })
 card_answer values (Err r) = refused (code r)
+
+-- the form of a card that was read
+abbrev pub form_read : Bool → Result Heading Refusal → Bool
+form_read newer (Ok c) = c.newer
+form_read newer (Err r) = newer

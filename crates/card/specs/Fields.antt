@@ -1,5 +1,5 @@
 -- A card as a list of fields: reading follows from the list alone. Numbers are patterns, below 2 to the field's width.
-use Rattle.std.specs.Prelude.{ℕ, zero, suc, eqb, leb, length, take, drop, Bool, not, cond, List, [], ◌∷◌, ◌++◌}
+use Rattle.std.specs.Prelude.{ℕ, zero, suc, ◌<◌, ◌≤◌, eqb, leb, length, take, drop, Bool, not, cond, List, [], ◌∷◌, ◌++◌}
 use Rattle.number.specs.Ans.{Ans, held, ◌>>=◌, demand}
 use Rattle.bit_fields.specs.Bits.{numeral}
 use Rattle.card.specs.declared.Field.{Field}
@@ -8,6 +8,10 @@ use Rattle.card.specs.declared.Field.{Field}
 unfoldable pub joined : {S : Type 0} → ℕ → (ℕ → List S) → List S
 joined zero f = []
 joined (suc n) f = joined n f ++ f n
+
+-- a field's width: some bits, and no more than a pattern has
+abbrev pub IsWidth : ℕ → Type 0
+IsWidth width = (0 < width) × (width ≤ 64)
 
 -- a field's number, and the bits behind it
 pub record Read : Type 0 where

@@ -3,8 +3,8 @@
 
 ghost use Rattle.std.specs.Prelude.{◌≡◌, ◌+◌, ◌*◌, ◌-◌, ◌^◌, ◌<◌, ◌≤◌, length, get_or, drop};
 ghost use Rattle.bit_fields.specs.Bits.{bits_of};
-ghost use Rattle.card.specs.Fields.{read_plain, read_spared, read_field, read_fields};
-ghost use Rattle.card.specs.Card.{form_of, float, kind_of, number_of, layout, value_count, read_card, field_answer, end_of, end_answer, reach_of, card_answer, known, filling};
+ghost use Rattle.card.specs.Fields.{IsWidth, read_plain, read_spared, read_field, read_fields};
+ghost use Rattle.card.specs.Card.{form_of, float, most_components, kind_of, fields_of, total_of, Within, read_card, field_answer, end_of, end_answer, reach_of, card_answer, form_read, known, filling};
 
 use number::Refusal;
 
@@ -17,7 +17,7 @@ pub const NEWER_MOST: usize = 12;
 // The most numbers behind a heading: twelve components of the quantum model, six each, and two for each pair.
 pub const VALUES: usize = 204;
 
-// How a field is stored: its width, and whether a bit first says that it is 0. A yes or no, as is `newer` of the functions below, the form of card: the exported functions have each form under its own name.
+// How a field is stored: its width, and whether a bit first says that it is 0. A yes or no, as is `newer` below, the form of card: the exported functions have each form under its own name.
 #[derive(Clone, Copy)]
 pub struct Field {
     pub width: usize,
@@ -51,15 +51,17 @@ impl From<usize> for Kind {
     }
 }
 
+// What a card's fields hang on: its kind, how many components it has, and its form.
 #[derive(Clone, Copy)]
 pub struct Heading {
     pub kind: Kind,
     pub count: usize,
+    pub newer: bool,
 }
 
 // No card comes near 2^16 bits.
 fn plain(card: &[u8], at: usize, width: usize) -> Result<FieldValue, Refusal>
-    requires { (at < 2 ^ 16) × (0 < width) × (width ≤ 64) }
+    requires { (at < 2 ^ 16) × IsWidth width }
     ensures { (field_answer card.now result ≡ read_plain width (drop at (bits_of card.now))) × (end_of result ≤ at + width) }
 {
     if card.len() < (at + width + 7) / 8 {
@@ -74,7 +76,7 @@ fn plain(card: &[u8], at: usize, width: usize) -> Result<FieldValue, Refusal>
 
 // A field that is spared where its number is 0: a bit first says so.
 fn spared(card: &[u8], at: usize, width: usize) -> Result<FieldValue, Refusal>
-    requires { (at + 1 < 2 ^ 16) × (0 < width) × (width ≤ 64) }
+    requires { (at + 1 < 2 ^ 16) × IsWidth width }
     ensures { (field_answer card.now result ≡ read_spared width (drop at (bits_of card.now))) × (end_of result ≤ at + 1 + width) }
 {
     let flag = plain(card, at, 1)?;
@@ -89,7 +91,7 @@ fn spared(card: &[u8], at: usize, width: usize) -> Result<FieldValue, Refusal>
 }
 
 fn read_field(card: &[u8], at: usize, field: Field) -> Result<FieldValue, Refusal>
-    requires { (at + 1 < 2 ^ 16) × (0 < field.width) × (field.width ≤ 64) }
+    requires { (at + 1 < 2 ^ 16) × IsWidth field.width }
     ensures { (field_answer card.now result ≡ read_field field (drop at (bits_of card.now))) × (end_of result ≤ at + 65) }
 {
     if field.spared {
@@ -98,71 +100,71 @@ fn read_field(card: &[u8], at: usize, field: Field) -> Result<FieldValue, Refusa
     plain(card, at, field.width)
 }
 
-// Field k behind a heading. Readers and writers have tested the count and go no further than the last field.
-pub fn field_at(kind: Kind, count: usize, newer: bool, k: usize) -> Field
-    requires { (count ≤ 12) × (k < value_count (number_of kind) count) }
-    ensures { (result ≡ get_or (layout (form_of newer) (number_of kind) count) k float) × (0 < result.width) × (result.width ≤ 64) }
-{
-    match kind {
-        Kind::Quantum => {
-            if k < 6 * count {
-                if k % 6 == 5 {
+impl Heading {
+    // Field k behind a heading. Readers and writers have tested the count and go no further than the last field.
+    pub fn field_at(self, k: usize) -> Field
+        requires { (self.count ≤ most_components) × (k < total_of self) }
+        ensures { (result ≡ get_or (fields_of self) k float) × IsWidth result.width }
+    {
+        match self.kind {
+            Kind::Quantum => {
+                if k < 6 * self.count {
+                    if k % 6 == 5 {
+                        return Field {
+                            width: 2,
+                            spared: false,
+                        };
+                    }
                     return Field {
-                        width: 2,
+                        width: 64,
                         spared: false,
                     };
                 }
-                return Field {
-                    width: 64,
-                    spared: false,
-                };
+            }
+            Kind::Mie => {
+                if k < 5 * self.count {
+                    return Field {
+                        width: 64,
+                        spared: false,
+                    };
+                }
             }
         }
-        Kind::Mie => {
-            if k < 5 * count {
-                return Field {
-                    width: 64,
-                    spared: false,
-                };
-            }
+        Field {
+            width: 64,
+            spared: self.newer,
         }
     }
-    Field {
-        width: 64,
-        spared: newer,
-    }
-}
 
-// How many numbers a card has behind its heading, of a count within the limits: a heading outside them was refused with 10, so that no product wraps.
-pub fn value_count(kind: Kind, count: usize) -> usize
-    requires { (1 ≤ count) × (count ≤ 12) }
-    ensures { result ≡ value_count (number_of kind) count }
-{
-    let size = match kind {
-        Kind::Quantum => 6,
-        Kind::Mie => 5,
-    };
-    count * size + count * (count - 1)
+    // How many numbers a card has behind its heading, of a count within the limits: a heading outside them was refused with 10, so that no product wraps.
+    pub fn value_count(self) -> usize
+        requires { Within self }
+        ensures { result ≡ total_of self }
+    {
+        let size = match self.kind {
+            Kind::Quantum => 6,
+            Kind::Mie => 5,
+        };
+        self.count * size + self.count * (self.count - 1)
+    }
 }
 
 // The numbers behind a heading, whose count is within the card's limits.
 fn read_values(
     card: &[u8],
     at: usize,
-    kind: Kind,
-    count: usize,
-    newer: bool,
-    values: &mut [u64],
+    head: Heading,
+    values: &mut [u64; VALUES],
 ) -> Result<usize, Refusal>
-    requires { (at ≤ 6) × (1 ≤ count) × (count ≤ 12) × (length values.old ≡ 204) }
+    requires { (at ≤ 6) × Within head }
     ensures { let l = card.now in
-        (end_answer l (value_count (number_of kind) count) values.new result ≡ read_fields (layout (form_of newer) (number_of kind) count) (drop at (bits_of l)))
+        (end_answer l (total_of head) values.new result ≡ read_fields (fields_of head) (drop at (bits_of l)))
         × (reach_of result < 2 ^ 16) × (length values.new ≡ 204) }
 {
-    let total = value_count(kind, count);
+    let total = head.value_count();
     let mut end = at;
     for k in 0usize..total {
-        let field = field_at(kind, count, newer, k);
+        let field = head.field_at(k);
         let v = read_field(card, end, field)?;
         values[k] = v.value;
         end = v.end;
@@ -203,10 +205,9 @@ fn kind_of(newer: bool, model: u64) -> Kind
     Kind::from(model as usize - first)
 }
 
-// A card's heading, its numbers in a list that is lent; of a card that is refused the list holds what was read before. The list is the caller's own array of 204 places, never one that a user lends.
-pub fn read(card: &[u8], newer: bool, values: &mut [u64]) -> Result<Heading, Refusal>
-    requires { length values.old ≡ 204 }
-    ensures { (card_answer values.new result ≡ read_card (form_of newer) card.now) × (length values.new ≡ 204) }
+// A card's heading, its numbers in an array that is lent; of a card that is refused the array holds what was read before.
+pub fn read(card: &[u8], newer: bool, values: &mut [u64; VALUES]) -> Result<Heading, Refusal>
+    ensures { (card_answer values.new result ≡ read_card (form_of newer) card.now) × (length values.new ≡ 204) × (form_read newer result ≡ newer) }
 {
     let model = plain(card, 0, 2)?;
     let count = plain(card, model.end, 4)?;
@@ -214,10 +215,14 @@ pub fn read(card: &[u8], newer: bool, values: &mut [u64]) -> Result<Heading, Ref
         return Err(Refusal::Heading);
     }
     let kind = kind_of(newer, model.value);
-    let n = count.value as usize;
-    let end = read_values(card, count.end, kind, n, newer, values)?;
+    let head = Heading {
+        kind,
+        count: count.value as usize,
+        newer,
+    };
+    let end = read_values(card, count.end, head, values)?;
     if !filling(card, end) {
         return Err(Refusal::Filling);
     }
-    Ok(Heading { kind, count: n })
+    Ok(head)
 }

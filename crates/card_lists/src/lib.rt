@@ -4,7 +4,7 @@
 ghost use Rattle.std.specs.Prelude.{◌≡◌, [], ◌∷◌, ◌++◌, ◌+◌, ◌*◌, ◌-◌, ◌<◌, ◌≤◌, length, take};
 ghost use Rattle.sizes.specs.Sizes.{side, sheet};
 ghost use Rattle.card.specs.Fields.{joined};
-ghost use Rattle.card_lists.specs.Lists.{column, orders, ones, pairs_before, pair_entry, pair_list};
+ghost use Rattle.card_lists.specs.Lists.{column, orders, ones, pairs_before, pair_entry, pair_list, HasPairs};
 
 use sizes::{SHEET, SIDE};
 
@@ -52,7 +52,7 @@ fn pairs_before(n: usize, i: usize) -> usize
 
 // Number e of a pair; the card's numbers reach to the last pair's.
 fn pair_entry(values: &[u64], start: usize, n: usize, e: usize, i: usize, j: usize) -> f64
-    requires { (n ≤ side) × (i < n) × (j < n) × (e < 2) × (start ≤ 72) × (start + n * (n - 1) ≤ length values.now) }
+    requires { (n ≤ side) × (i < n) × (j < n) × HasPairs values.now start n e }
     ensures { result ≡ pair_entry values.now start n e i j }
 {
     if i == j {
@@ -65,7 +65,7 @@ fn pair_entry(values: &[u64], start: usize, n: usize, e: usize, i: usize, j: usi
 }
 
 fn pair_row(values: &[u64], start: usize, n: usize, e: usize, i: usize, list: &mut [f64])
-    requires { (n ≤ side) × (i < n) × (e < 2) × (start ≤ 72) × (start + n * (n - 1) ≤ length values.now) × (length list.old ≡ sheet) }
+    requires { (n ≤ side) × (i < n) × (length list.old ≡ sheet) × HasPairs values.now start n e }
     ensures { let row = joined n (λ j. pair_entry values.now start n e i j ∷ []) in
         (length list.new ≡ sheet) × (take (n * i + n) list.new ≡ take (n * i) list.old ++ row) }
 {
@@ -76,7 +76,7 @@ fn pair_row(values: &[u64], start: usize, n: usize, e: usize, i: usize, list: &m
 
 // Number e of all pairs, as a square.
 pub fn pair_list(values: &[u64], start: usize, n: usize, e: usize) -> [f64; SHEET]
-    requires { (n ≤ side) × (e < 2) × (start ≤ 72) × (start + n * (n - 1) ≤ length values.now) }
+    requires { (n ≤ side) × HasPairs values.now start n e }
     ensures { take (n * n) result ≡ pair_list values.now start n e }
 {
     let mut list = [0.0; SHEET];

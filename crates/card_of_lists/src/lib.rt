@@ -11,7 +11,7 @@ ghost use Rattle.card.specs.Fields.{joined};
 ghost use Rattle.card_writer.specs.Writing.{CardRoom};
 ghost use Rattle.card_of_lists.specs.Cards.{quantum_component_of, mie_component_of, pair_row, pair_rows, passed_by, vrq_card, vr_card};
 
-use card::{Kind, MOST, VALUES};
+use card::{Heading, Kind, MOST, VALUES};
 use number::Refusal;
 use saftvrmie_parameters::ComponentLists as MieLists;
 use saftvrqmie_parameters::ComponentLists as QuantumLists;
@@ -95,8 +95,13 @@ pub fn vrq_card(l: &QuantumLists, card: &mut [u8], told: &mut usize) -> Result<(
     let mut values = [0; VALUES];
     quantum_components(&mut values, l);
     pair_rows(&mut values, l.count * 6, l.count, l.k_ij, l.l_ij);
-    let total = card::value_count(Kind::Quantum, l.count);
-    card_writer::store(Kind::Quantum, l.count, false, &values[0..total], card, told)
+    let head = Heading {
+        kind: Kind::Quantum,
+        count: l.count,
+        newer: false,
+    };
+    let total = head.value_count();
+    card_writer::store(head, &values[0..total], card, told)
 }
 
 // The card of a fluid of SAFT-VR Mie likewise: the parameters' 1 and 2, 10, 12.
@@ -112,6 +117,11 @@ pub fn vr_card(l: &MieLists, card: &mut [u8], told: &mut usize) -> Result<(), Re
     let mut values = [0; VALUES];
     mie_components(&mut values, l);
     pair_rows(&mut values, l.count * 5, l.count, l.k_ij, l.gamma_ij);
-    let total = card::value_count(Kind::Mie, l.count);
-    card_writer::store(Kind::Mie, l.count, false, &values[0..total], card, told)
+    let head = Heading {
+        kind: Kind::Mie,
+        count: l.count,
+        newer: false,
+    };
+    let total = head.value_count();
+    card_writer::store(head, &values[0..total], card, told)
 }

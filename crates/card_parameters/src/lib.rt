@@ -119,7 +119,7 @@ fn card_lengths(m: &[f64], lists: &[f64], sheets: &[f64], orders: &[u8]) -> bool
     set_lists::quantum_lengths(m, sheets, orders) & set_lists::mie_lengths(lists, sheets)
 }
 
-// A card's model and count, and its set in the lists of that model. 1, then the card's refusals, then the parameters'.
+// A card's model and count, and its set in the lists of that model. 1, then the card's refusals, then the parameters'. The lent lists are the C call's own, one by one, as in `quantum_stored`: in a struct of six `&mut` each would be named once more at both calls and in this contract.
 pub fn parameters(
     card: &[u8],
     newer: bool,
@@ -149,7 +149,7 @@ pub fn parameters(
     let mut values = [0; VALUES];
     let head = card::read(card, newer, &mut values)?;
     let n = head.count;
-    let total = card::value_count(head.kind, n);
+    let total = head.value_count();
     match head.kind {
         Kind::Quantum => quantum_stored(&values[0..total], n, m, sheets, orders)?,
         Kind::Mie => mie_stored(&values[0..total], n, lists, sheets)?,

@@ -4,10 +4,10 @@
 ghost use Rattle.std.specs.Prelude.{true, ◌≡◌, not, ◌++◌, ◌+◌, ◌*◌, ◌^◌, ◌<◌, ◌≤◌, length, drop};
 ghost use Rattle.bit_fields.specs.Bits.{bits_of, over};
 ghost use Rattle.mie_parameters.specs.Answer.{outcome, verdict, stored};
-ghost use Rattle.card.specs.Card.{Card, form_of, number_of, layout, most_components, value_count};
+ghost use Rattle.card.specs.Card.{Card, form_of, number_of, fields_of, Complete};
 ghost use Rattle.card_writer.specs.Writing.{write_field, write_fields, card_bits, byte_count, card_bytes, CardRoom, card_stored, card_moved};
 
-use card::{Field, Kind, MOST, VALUES};
+use card::{Field, Heading, MOST, VALUES};
 use number::Refusal;
 
 // How many bits a number takes.
@@ -25,13 +25,13 @@ fn field_length(field: Field, value: u64) -> usize
 }
 
 // How many bits a card takes, whose count is within the limits.
-fn card_length(kind: Kind, count: usize, newer: bool, values: &[u64]) -> usize
-    requires { (1 ≤ count) × (count ≤ most_components) × (length values.now ≡ value_count (number_of kind) count) }
-    ensures { (result ≡ 6 + length (write_fields (layout (form_of newer) (number_of kind) count) values.now)) × (result < 2 ^ 16) }
+fn card_length(head: Heading, values: &[u64]) -> usize
+    requires { Complete head values.now }
+    ensures { (result ≡ 6 + length (write_fields (fields_of head) values.now)) × (result < 2 ^ 16) }
 {
     let mut bits = 6;
     for (k, value) in values.iter().enumerate() {
-        let field = card::field_at(kind, count, newer, k);
+        let field = head.field_at(k);
         bits = bits + field_length(field, *value);
     }
     bits
@@ -56,51 +56,48 @@ fn write_field(card: &mut [u8], at: usize, field: Field, value: u64) -> usize
 }
 
 // The numbers behind a heading, of a card that is long enough.
-fn write_values(card: &mut [u8], kind: Kind, count: usize, newer: bool, values: &[u64])
-    requires { (1 ≤ count) × (count ≤ most_components) × (length values.now ≡ value_count (number_of kind) count)
-        × (6 + length (write_fields (layout (form_of newer) (number_of kind) count) values.now) ≤ 8 * length card.old) }
-    ensures { bits_of card.new ≡ over 6 (write_fields (layout (form_of newer) (number_of kind) count) values.now) (bits_of card.old) }
+fn write_values(card: &mut [u8], head: Heading, values: &[u64])
+    requires { (6 + length (write_fields (fields_of head) values.now) ≤ 8 * length card.old) × Complete head values.now }
+    ensures { bits_of card.new ≡ over 6 (write_fields (fields_of head) values.now) (bits_of card.old) }
 {
     let mut end = 6;
     for (k, value) in values.iter().enumerate() {
-        let field = card::field_at(kind, count, newer, k);
+        let field = head.field_at(k);
         end = write_field(card, end, field, *value);
     }
 }
 
-// The model's number of a kind of card.
-fn model_of(kind: Kind, newer: bool) -> u64
-    ensures { result ≡ (form_of newer).first + number_of kind }
+// The model's number of a card's kind and form.
+fn model_of(head: Heading) -> u64
+    ensures { result ≡ (form_of head.newer).first + number_of head.kind }
 {
-    if newer {
-        return 2 + kind as u64;
+    if head.newer {
+        return 2 + head.kind as u64;
     }
-    kind as u64
+    head.kind as u64
 }
 
 // A card of a known count into a lent list, and its length; 12.
 pub fn store(
-    kind: Kind,
-    count: usize,
-    newer: bool,
+    head: Heading,
     values: &[u64],
     card: &mut [u8],
     told: &mut usize,
 ) -> Result<(), Refusal>
-    requires { (1 ≤ count) × (count ≤ most_components) × (length values.now ≡ value_count (number_of kind) count) }
-    ensures { let c : Card = record { kind = number_of kind; count = count; values = values.now } in
+    requires { Complete head values.now }
+    ensures { let c : Card = record { kind = number_of head.kind; count = head.count; values = values.now } in
         let l : CardRoom = record { card = card.entry.now; length = told.old } in
-        let q = card_stored (card_bytes (form_of newer) c) l in
+        let q = card_stored (card_bytes (form_of head.newer) c) l in
         (outcome result true ≡ verdict q) × (card.exit.now ≡ (stored l q).card) × (told.new ≡ (stored l q).length) }
 {
-    let bits = card_length(kind, count, newer, values);
+    let bits = card_length(head, values);
     let bytes = (bits + 7) / 8;
     if card.len() < bytes {
         return Err(Refusal::Room);
     }
-    bit_fields::put(card, 0, 2, model_of(kind, newer));
-    bit_fields::put(card, 2, 4, count as u64);
-    write_values(card, kind, count, newer, values);
+    bit_fields::put(card, 0, 2, model_of(head));
+    bit_fields::put(card, 2, 4, head.count as u64);
+    write_values(card, head, values);
     bit_fields::put(card, bits, 8 * bytes - bits, 0);
     *told = bytes;
     Ok(())
@@ -114,11 +111,15 @@ pub fn moved(card: &[u8], newer: bool, to: &mut [u8], told: &mut usize) -> Resul
 {
     let mut values = [0; VALUES];
     let head = card::read(card, newer, &mut values)?;
-    let kind = head.kind;
     let n = head.count;
     if newer & (MOST < n) {
         return Err(Refusal::Components);
     }
-    let total = card::value_count(kind, n);
-    store(kind, n, !newer, &values[0..total], to, told)
+    let total = head.value_count();
+    let other = Heading {
+        kind: head.kind,
+        count: n,
+        newer: !newer,
+    };
+    store(other, &values[0..total], to, told)
 }

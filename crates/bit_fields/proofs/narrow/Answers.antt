@@ -18,4 +18,4 @@ pub overflow_add-value : goal.overflow_add-value
 overflow_add-value c = let h : c.loop-i.i < 63 = omega arith in omega (arith, narrow_fits c.args.l.now c.args.at c.loop-i.i c.loop-i.value h c.loop-i.invariant.1, bit_below (bits_of c.args.l.now) (c.args.at + c.loop-i.i) _ c.bit_at.ensures)
 
 pub loop-i-preserved : goal.loop-i-preserved
-loop-i-preserved c = (search rules, narrow_next _ _ _ _ _ _ c.requires.0 c.loop-i-test.true c.loop-i.invariant.1 c.bit_at.ensures)
+loop-i-preserved c = (search rules, narrow_next _ _ _ _ _ _ c.requires.1.0 c.loop-i-test.true c.loop-i.invariant.1 c.bit_at.ensures)

@@ -8,7 +8,7 @@ use Rattle.card.proofs.plain.Goals as goal
 -- src/lib.rt:53:9
 
 pub returns-then-card-at : goal.returns-then-card-at
-returns-then-card-at c = (plain_short _ _ _ c.requires.1 c.if-card-at.true, search rules)
+returns-then-card-at c = (plain_short _ _ _ c.requires.1.0 c.if-card-at.true, search rules)
 
 -- src/lib.rt:48:1
 pub returns : goal.returns

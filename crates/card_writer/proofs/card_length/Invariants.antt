@@ -7,7 +7,7 @@ use Rattle.card_writer.proofs.Writing.{part}
 use Rattle.card_writer.proofs.card_length.Given as goal
 
 abbrev pub invariant-loop-k : goal.invariant-loop-k
-invariant-loop-k l = (l.k ≤ length l.values) × (l.bits ≡ 6 + length (part (layout (form_of l.newer) (number_of l.kind) l.count) l.values l.k)) × (l.bits ≤ 6 + 65 * l.k)
+invariant-loop-k l = (l.k ≤ length l.values) × (l.bits ≡ 6 + length (part (layout (form_of l.head.newer) (number_of l.head.kind) l.head.count) l.values l.k)) × (l.bits ≤ 6 + 65 * l.k)
 
 abbrev pub decreases-loop-k : goal.decreases-loop-k
 decreases-loop-k l = length l.values - l.k

@@ -8,7 +8,7 @@ use Rattle.card_writer.proofs.Writing.{part}
 use Rattle.card_writer.proofs.write_values.Given as goal
 
 abbrev pub invariant-loop-k : goal.invariant-loop-k
-invariant-loop-k l = (l.k ≤ length l.values) × (length l.card ≡ length l.initial.card) × (l.end ≡ 6 + length (part (layout (form_of l.newer) (number_of l.kind) l.count) l.values l.k)) × (bits_of l.card ≡ over 6 (part (layout (form_of l.newer) (number_of l.kind) l.count) l.values l.k) (bits_of l.initial.card)) × (l.end ≤ 6 + 65 * l.k)
+invariant-loop-k l = (l.k ≤ length l.values) × (length l.card ≡ length l.initial.card) × (l.end ≡ 6 + length (part (layout (form_of l.head.newer) (number_of l.head.kind) l.head.count) l.values l.k)) × (bits_of l.card ≡ over 6 (part (layout (form_of l.head.newer) (number_of l.head.kind) l.head.count) l.values l.k) (bits_of l.initial.card)) × (l.end ≤ 6 + 65 * l.k)
 
 abbrev pub decreases-loop-k : goal.decreases-loop-k
 decreases-loop-k l = length l.values - l.k
