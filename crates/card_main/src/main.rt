@@ -113,7 +113,7 @@ fn mie_card(f: &[f64], room: &mut [u8], length: &mut usize) -> u8 {
     mie_parameters::number(answer)
 }
 
-// One card; false where the list that it goes to is longer than this program has.
+// One card; false where the list that it goes to is longer than this program has. The model's number is asked in this place only, so an enum would say it a second time.
 fn written(rt: &impl Print, record: &[u8; RECORD]) -> io::Result<bool> {
     let f: [f64; WORDS] = floats(record);
     let mut list = [0xa5u8; 1600];

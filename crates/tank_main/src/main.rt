@@ -168,7 +168,7 @@ fn energies(f: &[f64], set: &Set, k: usize, at: usize) -> [f64; 3]
     e.map(|x| x * v * t)
 }
 
-// The sums over the layers, from the bottom up from +0.
+// The sums over the layers, from the bottom up from +0. By number: a layer's parts stand at its number in four lists of the record, and zipped they would be cut four times first.
 fn layers(f: &[f64], set: &Set) -> [f64; 3] {
     let n = whole_at(f, 2);
     let most = whole_at(f, 3);
