@@ -1,4 +1,5 @@
 // Operations of SAFT-VR Mie on a set: the components' diameters, and a pair's lower limit and diameter.
+// n ≤ side and e < sheet stand plain: each bounds an index into an array of that length, and a name for one comparison would be longer.
 #![tactic(auto)]
 
 ghost use Rattle.std.specs.Prelude.{true, ◌≡◌, ◌+◌, ◌*◌, ◌<◌, ◌≤◌, length, Bool};
@@ -37,6 +38,7 @@ fn diameter_at(sheets: &[f64; SHEETS], temperature: f64, i: usize) -> Result<f64
     saftvrmie_diameter::hs_diameter_ij(la, lr, c, epsilon_k, sigma, temperature)
 }
 
+// By index: a turn reads five sheets at the pair (i, i).
 fn work(
     n: usize,
     sheets: &[f64; SHEETS],

@@ -1,94 +1,58 @@
--- The powers of one radius share its logarithm, ln of EPSILON is a constant, and the nodes go two by two: the same values and refusals. Assumes nothing.
-use Prim.Native.Nat.{ℕ, zero, suc, ◌/◌, ◌^◌, ◌≤◌, ◌<◌}
+-- The powers of one radius share its base, ln of EPSILON is a constant, and the nodes go stage by stage: the same values and refusals. Assumes nothing.
+use Prim.Native.Nat.{ℕ, ◌+◌, ◌<◌}
 use native.Mathlib.Omega.{arith}
-use native.Mathlib.Nat.{not-suc-le-zero}
 use borrow.Author.Tests.{ltb-true, ltb-false}
 use lib.Count.{count_leading_zeros}
-use lib.Dec.{ltb, leb}
-use lib.ListN.{get_or, length, set, replicate, length-set}
+use lib.Dec.{ltb}
+use lib.ListN.{get_or, length, set}
 use lib.Seq.{get_or-set_same, get_or-set_other}
-use lib.Ieee.{binary64, nan, Float, of_bits, to_bits, le}
+use lib.Ieee.{of_bits, to_bits, le}
 use mathlib.Core.Path.{◌≡◌, refl, sym, ap, ◌∙◌}
 use mathlib.Core.Bool.{Bool, true, false, ◌&&◌, cond}
-use mathlib.Core.List.{List}
+use mathlib.Core.List.{List, [], ◌∷◌}
+use Rattle.std.specs.Prelude.{Result, Ok, Err}
+use Rattle.number.specs.declared.refusal.Refusal.{Refusal}
+use Rattle.number.specs.Answer.{answer, answer_by}
 use Rattle.number.specs.Ans.{Ans, held, refused, ◌>>=◌, demand}
-use Rattle.number.specs.Arith.{floats, bits, decimal, zero64}
-use Rattle.number.specs.Functions.{calls, answered, answered₂}
-use Rattle.number.specs.Walk.{turns}
+use Rattle.number.specs.Arith.{Arith, floats, bits}
+use Rattle.number.specs.Functions.{Functions, calls, answered}
 use Rattle.number.proofs.Walk.{walk_none, walk_stop}
-use Rattle.number.specs.Domain.{base_inside, exponent_inside}
 use Rattle.elementary.specs.Port.{port}
 use Rattle.fixed_point.specs.Horner.{horner}
 use Rattle.fixed_point.specs.Quotient.{quotient}
 use Rattle.fixed_point.specs.Pack.{packed}
 use Rattle.logarithm.specs.Logarithm.{core, multiple, far, join, signed, reduced, ln_bits, ln_of}
-use Rattle.binary_log.specs.declared.Log.{Log}
-use Rattle.binary_log.specs.BinaryLog.{log_of}
-use Rattle.power.specs.Power.{exponent_of, power_of, powf_of}
-use Rattle.saftvrmie_diameter.specs.Diameter.{Halley, halley_step, halley, beta_u_mie, node_turn, diameter_from}
-use Rattle.saftvrmie_diameter.specs.Staged.{exponents_inside, exponents_of, inverse_at, beta_u_at, no_log, beyond, logs_of, betas_of, node_at}
+use Rattle.saftvrmie_diameter.specs.Diameter.{beta_u_from, beta_u_mie, node_turn, diameter_from}
+use Rattle.saftvrmie_diameter.specs.Staged.{Fixed, inverse_at, node_at}
 use Rattle.saftvrmie_diameter.specs.declared.Exponents.{Exponents}
+
+-- ---- numbers that a run holds as they are
+pub as_it_is : {T : Type 0} (r : Result T Refusal) → answer r ≡ answer_by (λ x. x) r
+as_it_is (Ok x) = refl
+as_it_is (Err r) = refl
 
 -- ---- ln of f64::EPSILON
 pub ln_epsilon : (calls floats port).ln (bits 0x3cb0_0000_0000_0000) ≡ held (bits 0xc042_0596_6f2b_4f12)
 unfolding answered ◌>>=◌ ln_of ln_bits reduced signed join far multiple core quotient horner packed of_bits to_bits le count_leading_zeros
 ln_epsilon = refl
 
-once : (a : Ans Float) (x : Float) → answered floats a x ≡ a
-unfolding answered ◌>>=◌
-once (held v) x = refl
-once (refused n) x = refl
+-- ---- a list's first
+pub first : {S : Type 0} (l : List S) → 0 < length l → S
+first [] h = absurd (omega (arith, h))
+first (x ∷ l) h = x
 
--- ---- the power in its stages
-once₂ : (a : Ans Float) (x y : Float) → answered₂ floats a x y ≡ a
-unfolding answered₂ ◌>>=◌
-once₂ (held v) x y = refl
-once₂ (refused n) x y = refl
-
-power_held : (x y : Float) → base_inside x ≡ true → exponent_inside y ≡ true → (calls floats port).powf x y ≡ held (power_of (log_of x) (exponent_of y))
-unfolding powf_of demand ◌>>=◌
-power_held x y p q = rw (once₂, p, q)
-
-no_base : (x y : Float) → base_inside x ≡ false → (calls floats port).powf x y ≡ refused 6
-unfolding powf_of demand ◌>>=◌
-no_base x y p = rw (once₂, p)
-
-no_exponent : (x y : Float) (b : Bool) → base_inside x ≡ b → exponent_inside y ≡ false → (calls floats port).powf x y ≡ refused 6
-unfolding powf_of demand ◌>>=◌
-no_exponent x y true p q = rw (once₂, p, q)
-no_exponent x y false p q = rw (once₂, p)
-
--- ---- a list that is filled place by place
-filled_length : {S : Type 0} (f : ℕ → S) (n : ℕ) (l : List S) → length (turns n (λ i s. set s i (f i)) l) ≡ length l
-unfolding turns
-filled_length f zero l = refl
-filled_length f (suc n) l = length-set (turns n (λ i s. set s i (f i)) l) n (f n) ∙ filled_length f n l
-
-filled : {S : Type 0} (f : ℕ → S) (z : S) (n j : ℕ) (l : List S) → j < n → n ≤ length l → get_or (turns n (λ i s. set s i (f i)) l) j z ≡ f j
-unfolding turns
-filled f z zero j l h q = absurd (not-suc-le-zero h)
-filled f z (suc n) j l h q = either (λ k. filled f z n j l k (omega arith)) (ltb j n) refl
+-- ---- a list that is filled place by place, whatever is read beyond it
+pub filled_next : {S : Type 0} (P : ℕ → S → Type 0) (k : ℕ) (l : List S) (x : S) → k < length l → ((j : ℕ) (z : S) → j < k → P j (get_or l j z)) → P k x
+    → (j : ℕ) (z : S) → j < k + 1 → P j (get_or (set l k x) j z)
+filled_next P k l x q h p j z i = ways (ltb j k) refl
   where
-    either : (j < n → get_or (turns n (λ i s. set s i (f i)) l) j z ≡ f j) → (t : Bool) → ltb j n ≡ t → get_or (set (turns n (λ i s. set s i (f i)) l) n (f n)) j z ≡ f j
-    either before true e =
-        let k = ltb-true j n e in
-        get_or-set_other (turns n (λ i s. set s i (f i)) l) n j (f n) z (λ (i : j ≡ n). omega (arith, i, k)) ∙ before k
-    either before false e =
-        let i : j ≡ n = (let k = ltb-false j n e in omega arith) in
-        rw i (get_or-set_same (turns n (λ i s. set s i (f i)) l) n (f n) z (rw (filled_length f n l) q))
+    ways : (t : Bool) → ltb j k ≡ t → P j (get_or (set l k x) j z)
+    ways true e = let b = ltb-true j k e in rw (get_or-set_other l k j x z (λ (s : j ≡ k). omega (arith, s, b))) (h j z b)
+    ways false e =
+        let s : j ≡ k = (let b = ltb-false j k e in omega arith) in
+        rw (s, get_or-set_same l k x z q) p
 
--- the base stays beside its logarithm
-log_base : (x : Float) → (log_of x).base ≡ x
-unfolding log_of
-log_base x = ways (base_inside x) (leb 1023 (to_bits binary64 x / 2 ^ 52)) _ _ _ _
-  where
-    ways : (b c : Bool) (s t : ℕ) (p q : Bool)
-        → (cond {A = Log} b (cond c (record { base = x; size = s; negative = p }) (record { base = x; size = t; negative = q })) (record { base = x; size = 0; negative = false })).base ≡ x
-    ways true true s t p q = refl
-    ways true false s t p q = refl
-    ways false c s t p q = refl
-
--- ---- a pair's two exponents
+-- ---- a power where its base and its exponent were tested
 and_left : (a b : Bool) → (a && b) ≡ true → a ≡ true
 and_left true b p = refl
 and_left false b p = p
@@ -97,98 +61,54 @@ and_right : (a b : Bool) → (a && b) ≡ true → b ≡ true
 and_right true b p = p
 and_right false b p = absurd (mathlib.Core.Bool.false≢true p)
 
-module _ (la lr : Float) where
-  both_held : {S : Type 0} (x : Float) (f : Float → Float → Ans S) → exponents_inside la lr ≡ true → base_inside x ≡ true
-      → ((calls floats port).powf x lr >>= λ p. (calls floats port).powf x la >>= λ q. f p q) ≡ f (power_of (log_of x) (exponents_of la lr).lr) (power_of (log_of x) (exponents_of la lr).la)
-  unfolding exponents_inside exponents_of ◌>>=◌
-  both_held x f h p = rw (power_held x lr p (and_left (exponent_inside lr) (exponent_inside la) h), power_held x la p (and_right (exponent_inside lr) (exponent_inside la) h))
+exponent_tested : {N : Type 0} (b e : Bool) (x : N) (a : Ans N) → a ≡ cond (b && e) (held x) (refused 6) → e ≡ true → a ≡ cond b (held x) (refused 6)
+exponent_tested true e x a p q = rw q at p
+exponent_tested false e x a p q = p
 
-  base_refused : {S : Type 0} (x : Float) (f : Float → Float → Ans S) → base_inside x ≡ false
-      → ((calls floats port).powf x lr >>= λ p. (calls floats port).powf x la >>= λ q. f p q) ≡ refused 6
-  unfolding ◌>>=◌
-  base_refused x f p = rw (no_base x lr p)
+module _ (A : Arith) (F : Functions A.Num) (la lr c r0 : A.Num) where
+  open A use {Num}
 
-  both_refused : {S : Type 0} (x : Float) (f : Float → Float → Ans S) → exponents_inside la lr ≡ false
-      → ((calls floats port).powf x lr >>= λ p. (calls floats port).powf x la >>= λ q. f p q) ≡ refused 6
-  unfolding exponents_inside ◌>>=◌
-  both_refused x f h = ways (base_inside x) (exponent_inside lr) refl refl h
-    where
-      ways : (b e : Bool) → base_inside x ≡ b → exponent_inside lr ≡ e → (e && exponent_inside la) ≡ false
-          → ((calls floats port).powf x lr >>= λ p. (calls floats port).powf x la >>= λ q. f p q) ≡ refused 6
-      ways false e p q k = rw (no_base x lr p)
-      ways true false p q k = rw (no_exponent x lr true p q)
-      ways true true p q k = rw (power_held x lr p q, no_exponent x la true p k)
+  -- ---- a node, from its two powers
+  module _ (k : ℕ) (base er ea : Bool) (plr pla : Num)
+      (h : F.powf (inverse_at A F r0 k) lr ≡ cond (base && er) (held plr) (refused 6))
+      (g : F.powf (inverse_at A F r0 k) la ≡ cond (base && ea) (held pla) (refused 6)) where
+    node_is : (er && ea) ≡ true → (u d : Num) (a : Ans Num) → u ≡ beta_u_from A plr pla c → a ≡ node_at A F r0 k base u d → node_turn A F la lr c r0 k d ≡ a
+    unfolding node_turn beta_u_mie inverse_at node_at demand ◌>>=◌
+    node_is e u d a i j = ways base refl (exponent_tested base er plr _ h (and_left er ea e)) (exponent_tested base ea pla _ g (and_right er ea e)) j
+      where
+        ways : (b : Bool) → base ≡ b → F.powf (inverse_at A F r0 k) lr ≡ cond b (held plr) (refused 6) → F.powf (inverse_at A F r0 k) la ≡ cond b (held pla) (refused 6)
+            → a ≡ node_at A F r0 k b u d → node_turn A F la lr c r0 k d ≡ a
+        ways true p m n l = rw (m, n, l, i)
+        ways false p m n l = rw (m, l)
 
-  module _ (c : Float) where
-    -- ---- Halley's step
-    pub step_outside : (r : Float) → base_inside (floats.div (decimal false 1 0) r) ≡ false → refused 6 ≡ halley_step floats (calls floats port) la lr c r
-    unfolding halley_step
-    step_outside r p = sym (base_refused _ _ p)
+    node_refused : (er && ea) ≡ false → (d : Num) → node_turn A F la lr c r0 k d ≡ refused 6
+    unfolding node_turn beta_u_mie inverse_at ◌>>=◌
+    node_refused e d = ways base er h g e
+      where
+        ways : (b t : Bool) → F.powf (inverse_at A F r0 k) lr ≡ cond (b && t) (held plr) (refused 6) → F.powf (inverse_at A F r0 k) la ≡ cond (b && ea) (held pla) (refused 6)
+            → (t && ea) ≡ false → node_turn A F la lr c r0 k d ≡ refused 6
+        ways false t m n p = rw m
+        ways true false m n p = rw m
+        ways true true m n p = let e : ea ≡ false = p in rw (m, n, e)
 
-    step_refused : (r : Float) → exponents_inside la lr ≡ false → halley_step floats (calls floats port) la lr c r ≡ refused 6
-    unfolding halley_step
-    step_refused r h = both_refused _ _ h
+  -- the same from the base that was worked
+  module _ {B E : Type 0} (power_at : B → Num → Ans Num) (power_by : B → E → Ans Num) (base_in : B → Bool) (exponent_in : E → Bool) (raised : B → E → Num)
+      (law : (b : B) (n : E) → power_by b n ≡ cond (base_in b && exponent_in n) (held (raised b n)) (refused 6))
+      (e : Exponents E) (fixed : Fixed power_by power_at e la lr) (k : ℕ) (b : B) (base : power_at b ≡ F.powf (inverse_at A F r0 k)) where
+    of_lr : F.powf (inverse_at A F r0 k) lr ≡ cond (base_in b && exponent_in e.lr) (held (raised b e.lr)) (refused 6)
+    of_lr = sym ((fixed b).0 ∙ ap (λ f. f lr) base) ∙ law b e.lr
 
-    -- what the step makes of the two powers
-    abbrev step_of : Float → Float → Float → Halley Float
-    step_of ri plr pla =
-        let u = floats.sub plr pla in
-        let dplr = floats.mul (floats.mul plr (floats.neg lr)) ri in
-        let dpla = floats.mul (floats.mul pla (floats.neg la)) ri in
-        let du = floats.sub dplr dpla in
-        let d2u = floats.mul (floats.sub (floats.mul dplr (floats.sub (floats.neg lr) (decimal false 1 0))) (floats.mul dpla (floats.sub (floats.neg la) (decimal false 1 0)))) ri in
-        let f = floats.sub (floats.mul (floats.neg c) u) (bits 0xc042_0596_6f2b_4f12) in
-        let df = floats.mul (floats.neg c) du in
-        let d2f = floats.mul (floats.neg c) d2u in
-        let u-du = floats.div f df in
-        let du-d2u = floats.div df d2f in
-        record { f = f; dr = floats.div u-du (floats.add (floats.mul (floats.div (floats.neg u-du) du-d2u) (decimal false 5 1)) (decimal false 1 0)) }
+    of_la : F.powf (inverse_at A F r0 k) la ≡ cond (base_in b && exponent_in e.la) (held (raised b e.la)) (refused 6)
+    of_la = sym ((fixed b).1 ∙ ap (λ f. f la) base) ∙ law b e.la
 
-    pub step_is : (e : Exponents) (r plr pla : Float) (log : Log) → exponents_inside la lr ≡ true → e ≡ exponents_of la lr → base_inside (floats.div (decimal false 1 0) r) ≡ true
-        → log ≡ log_of (floats.div (decimal false 1 0) r) → plr ≡ power_of log e.lr → pla ≡ power_of log e.la
-        → held (step_of (floats.div (decimal false 1 0) r) plr pla) ≡ halley_step floats (calls floats port) la lr c r
-    unfolding halley_step ◌>>=◌
-    step_is e r plr pla log h i p j k l = sym (both_held _ _ h p ∙ rw (ln_epsilon, k, l, i, j))
+    pub turn_is : (exponent_in e.lr && exponent_in e.la) ≡ true → (u d : Num) (a : Ans Num) → u ≡ beta_u_from A (raised b e.lr) (raised b e.la) c → a ≡ node_at A F r0 k (base_in b) u d
+        → node_turn A F la lr c r0 k d ≡ a
+    turn_is = node_is k (base_in b) (exponent_in e.lr) (exponent_in e.la) (raised b e.lr) (raised b e.la) of_lr of_la
 
-    -- ---- the lower limit
-    pub halley_refused : (r : Float) → exponents_inside la lr ≡ false → halley floats (calls floats port) la lr c 4 r ≡ refused 6
-    unfolding halley ◌>>=◌
-    halley_refused r h = rw (step_refused r h)
+    pub turn_refused : (exponent_in e.lr && exponent_in e.la) ≡ false → (d : Num) → node_turn A F la lr c r0 k d ≡ refused 6
+    turn_refused = node_refused k (base_in b) (exponent_in e.lr) (exponent_in e.la) (raised b e.lr) (raised b e.la) of_lr of_la
 
-    -- ---- a node
-    beta_refused : (r : Float) → exponents_inside la lr ≡ false → beta_u_mie floats (calls floats port) la lr c r ≡ refused 6
-    unfolding beta_u_mie
-    beta_refused r h = both_refused _ _ h
-
-    module _ (r0 : Float) where
-      node_refused : (k : ℕ) (d : Float) → exponents_inside la lr ≡ false → node_turn floats (calls floats port) la lr c r0 k d ≡ refused 6
-      unfolding node_turn ◌>>=◌
-      node_refused k d h = rw (beta_refused _ h)
-
-      node_is : (k : ℕ) (d : Float) → exponents_inside la lr ≡ true
-          → node_turn floats (calls floats port) la lr c r0 k d ≡ node_at r0 k (inverse_at r0 k) (beta_u_at (exponents_of la lr) c (log_of (inverse_at r0 k))) d
-      unfolding node_turn beta_u_mie inverse_at beta_u_at node_at exponents_inside exponents_of demand ◌>>=◌
-      node_is k d h = ways (base_inside (inverse_at r0 k)) refl
-        where
-          ways : (b : Bool) → base_inside (inverse_at r0 k) ≡ b → node_turn floats (calls floats port) la lr c r0 k d ≡ node_at r0 k (inverse_at r0 k) (beta_u_at (exponents_of la lr) c (log_of (inverse_at r0 k))) d
-          ways true p = rw (power_held _ lr p (and_left (exponent_inside lr) (exponent_inside la) h), power_held _ la p (and_right (exponent_inside lr) (exponent_inside la) h), once, p)
-          ways false p = rw (no_base _ lr p, p)
-
-      -- a node of the ten, from the lists
-      module _ (e : Exponents) (logs : List Log) (betas : List Float) (h : exponents_inside la lr ≡ true) (i : e ≡ exponents_of la lr) (is-logs : logs ≡ logs_of r0) (are-betas : betas ≡ betas_of e c logs) where
-        pub node_turn_is : (k : ℕ) (d : Float) (a : Ans Float) → k < 10 → node_at r0 k (get_or logs k beyond).base (get_or betas k nan) d ≡ a → node_turn floats (calls floats port) la lr c r0 k d ≡ a
-        unfolding logs_of betas_of
-        node_turn_is k d a q r = node_is k d h ∙ sym (rw (ri, u)) ∙ r
-          where
-            log : get_or logs k beyond ≡ log_of (inverse_at r0 k)
-            log = rw is-logs (filled (λ k. log_of (inverse_at r0 k)) beyond 10 k (replicate 10 no_log) q (omega arith))
-
-            ri : (get_or logs k beyond).base ≡ inverse_at r0 k
-            ri = ap (λ (l : Log). l.base) log ∙ log_base _
-
-            u : get_or betas k nan ≡ beta_u_at (exponents_of la lr) c (log_of (inverse_at r0 k))
-            u = (let n : get_or betas k nan ≡ beta_u_at e c (get_or logs k beyond) = rw are-betas (filled (λ k. beta_u_at e c (get_or logs k beyond)) nan 10 k (replicate 10 zero64) q (omega arith)) in n ∙ rw (i, log))
-
-      pub from_refused : (sigma : Float) → exponents_inside la lr ≡ false → refused 6 ≡ diameter_from floats (calls floats port) la lr c sigma r0
-      unfolding diameter_from ◌>>=◌
-      from_refused sigma h = rw (← walk_stop (node_turn floats (calls floats port) la lr c r0) r0 10 0 6 r0 (omega arith) (walk_none _ _) (node_refused 0 r0 h))
+  -- the first node refuses, so the diameter does
+  pub from_refused : (sigma : Num) → node_turn A F la lr c r0 0 r0 ≡ refused 6 → refused 6 ≡ diameter_from A F la lr c sigma r0
+  unfolding diameter_from ◌>>=◌
+  from_refused sigma h = rw (← walk_stop (node_turn A F la lr c r0) r0 10 0 6 r0 (omega arith) (walk_none _ _) h)

@@ -1,31 +1,32 @@
 // The temperature-dependent diameter of SAFT-VR Mie (saftvrmie/parameters.rs): lower limit by Halley's method, 10-node rule.
 #![tactic(auto)]
 
-ghost use Rattle.std.specs.Prelude.{◌≡◌, Bool, true, ◌<◌};
-ghost use Rattle.number.specs.Answer.{answer};
+ghost use Rattle.std.specs.Prelude.{◌≡◌, Bool, ◌<◌, ℕ, slice_index_or};
+ghost use Rattle.number.specs.Answer.{answer, answer_by};
 ghost use Rattle.number.specs.Arith.{floats};
-ghost use Rattle.number.specs.Functions.{calls, entry};
+ghost use Rattle.number.specs.Functions.{calls};
 ghost use Rattle.elementary.specs.Port.{port};
+ghost use Rattle.dual_num.specs.Base.{float_power, float_power_by};
 ghost use Rattle.saftvrmie_diameter.specs.Answer.{halley_answer};
-ghost use Rattle.saftvrmie_diameter.specs.Diameter.{positions, weights, c_eps_t, halley_step, halley, lower_limit, diameter_from, hs_diameter};
-ghost use Rattle.saftvrmie_diameter.specs.Staged.{exponents_inside, exponents_of, inverse_at, beta_u_at, logs_of, betas_of, node_at};
+ghost use Rattle.saftvrmie_diameter.specs.Diameter.{beta_u_from, c_eps_t, halley_step, halley, lower_limit, diameter_from, hs_diameter};
+ghost use Rattle.saftvrmie_diameter.specs.Staged.{Fixed, inverse_at, node_at};
 
 pub mod rule;
 
 use crate::rule::Rule;
 use binary_log::Log;
-use dual_num::DualNum;
-use number::Refusal;
-use power::FixedExponent;
+use dual_num::{DualNum, FloatBase, FloatExponent};
+use number::{Arithmetic, Refusal};
+use plain_num::PlainNum;
 
 // ln of f64::EPSILON.
 const LN_EPSILON: f64 = -36.04365338911715;
 
-// A pair's exponents in fixed point: its powers at one radius share the radius' logarithm.
+// A pair's exponents, their fixed points worked once.
 #[derive(Clone, Copy)]
-pub struct Exponents {
-    pub lr: FixedExponent,
-    pub la: FixedExponent,
+pub struct Exponents<E> {
+    pub lr: E,
+    pub la: E,
 }
 
 // 10-point Gauss-Legendre quadrature: positions and weights.
@@ -49,34 +50,30 @@ pub fn c_eps_t<D: DualNum>(temperature: D, c: D::Plain, epsilon_k: D::Plain) -> 
     temperature.recip() * c * epsilon_k
 }
 
-// Outside, no radius has its two powers.
-fn exponents_inside(la: f64, lr: f64) -> bool
-    ensures { result ≡ exponents_inside la lr }
-{
-    power::exponent_inside(lr) & power::exponent_inside(la)
-}
-
-fn exponents_of(la: f64, lr: f64) -> Exponents
-    ensures { result ≡ exponents_of la lr }
+fn exponents_of<D: DualNum>(la: D::Plain, lr: D::Plain) -> Exponents<D::Exponent>
+    ensures { (w : Bool) → Fixed (D.power_by w) (D.power_at w) result (D.plain w la) (D.plain w lr) }
 {
     Exponents {
-        lr: power::exponent(lr),
-        la: power::exponent(la),
+        lr: D::exponent(lr),
+        la: D::exponent(la),
     }
 }
 
-// `mie_potential_halley`, and the step.
-fn halley_step(la: f64, lr: f64, e: Exponents, c_eps_t: f64, r: f64) -> Result<(f64, f64), Refusal>
-    requires { (exponents_inside la lr ≡ true) × (e ≡ exponents_of la lr) }
+// `mie_potential_halley`, and the step. Of floats alone: no two-ended operation works the limit.
+fn halley_step(
+    la: f64,
+    lr: f64,
+    e: Exponents<FloatExponent>,
+    c_eps_t: f64,
+    r: f64,
+) -> Result<(f64, f64), Refusal>
+    requires { Fixed float_power_by float_power e la lr }
     ensures { halley_answer result ≡ halley_step floats (calls floats port) la lr c_eps_t r }
 {
     let ri = 1.0 / r;
-    if !binary_log::base_inside(ri) {
-        return Err(Refusal::Domain);
-    }
-    let log = binary_log::log_base(ri);
-    let plr = power::raise(log, e.lr);
-    let pla = power::raise(log, e.la);
+    let base = ri.inverse_base();
+    let plr = f64::raise(base, e.lr)?;
+    let pla = f64::raise(base, e.la)?;
     let u = plr - pla;
     let dplr = plr * (-lr) * ri;
     let dpla = pla * (-la) * ri;
@@ -91,12 +88,18 @@ fn halley_step(la: f64, lr: f64, e: Exponents, c_eps_t: f64, r: f64) -> Result<(
 }
 
 // At most 4 steps; a negative function value returns the radius as it is.
-fn halley(la: f64, lr: f64, e: Exponents, c_eps_t: f64, start: f64) -> Result<f64, Refusal>
-    requires { (exponents_inside la lr ≡ true) × (e ≡ exponents_of la lr) }
+fn halley(
+    la: f64,
+    lr: f64,
+    e: Exponents<FloatExponent>,
+    c_eps_t: f64,
+    start: f64,
+) -> Result<f64, Refusal>
+    requires { Fixed float_power_by float_power e la lr }
     ensures { answer result ≡ halley floats (calls floats port) la lr c_eps_t 4 start }
 {
     let mut r = start;
-    for done in 0u8..4u8 {
+    for _ in 0u8..4u8 {
         let (f, dr) = halley_step(la, lr, e, c_eps_t, r)?;
         if f < 0.0 {
             return Ok(r);
@@ -112,80 +115,105 @@ pub fn lower_integratal_limit(la: f64, lr: f64, c_eps_t: f64) -> Result<f64, Ref
 {
     let k = elementary::ln(-(1.0 / c_eps_t) * LN_EPSILON)?;
     let r = elementary::exp(-k / lr)?;
-    if !exponents_inside(la, lr) {
-        return Err(Refusal::Domain);
-    }
-    halley(la, lr, exponents_of(la, lr), c_eps_t, r)
+    halley(la, lr, exponents_of::<f64>(la, lr), c_eps_t, r)
 }
 
 // The inverse radius of node k.
-fn inverse_at(r0: f64, k: usize) -> f64
-    requires { k < 10 }
-    ensures { result ≡ inverse_at r0 k }
+fn inverse_at<D: Rule>(r0: D, k: usize) -> D
+    ensures { (w : Bool) → D.of w result ≡ inverse_at (D.beside w) (D.functions w) (D.of w r0) k }
 {
-    let width = (-r0 + 1.0) * 0.5;
-    1.0 / (width * f64::position(k) + width + r0) * 1.0
+    let one = D::Plain::lit(1.0);
+    let width = (-r0 + one) * D::Plain::lit(0.5);
+    (width * D::position(k) + width + r0).recip() * one
 }
 
-// `beta_u_mie`, from the logarithm of the inverse radius.
-fn beta_u_mie(e: Exponents, c_eps_t: f64, log: Log) -> f64
-    ensures { result ≡ beta_u_at e c_eps_t log }
+// `beta_u_mie`, from the inverse radius' base of powers: where base and exponents are inside.
+fn beta_u_mie<D: DualNum>(e: Exponents<D::Exponent>, c_eps_t: D, base: D::Base) -> D
+    ensures { (w : Bool) → D.of w result ≡ beta_u_from (D.beside w) (D.raised w base e.lr) (D.raised w base e.la) (D.of w c_eps_t) }
 {
-    (power::raise(log, e.lr) - power::raise(log, e.la)) * c_eps_t
+    (D::raise_inside(base, e.lr) - D::raise_inside(base, e.la)) * c_eps_t
 }
 
-// The logarithms of the nodes' inverse radii. The nodes' work goes stage by stage, each stage for all ten: so it goes side by side. Node by node, as saftvrmie_diameter_ends has it, the diameter takes 29 % longer; over both runs' numbers the stages' lists would be a generic function's own, which it cannot have.
-fn logs_of(r0: f64) -> [Log; 10]
-    ensures { result ≡ logs_of r0 }
+// The nodes' work goes stage by stage, each stage for all ten: so it goes side by side. Node by node the diameter takes 29 % longer in floats.
+// By index: k says which node, and of what an adapter of iter_mut writes a proof knows nothing.
+fn bases_of<D: Rule>(r0: D, bases: &mut [D::Base; 10])
+    ensures { (w : Bool) (k : ℕ) (b : D.Base) → k < 10 → let ri = inverse_at (D.beside w) (D.functions w) (D.of w r0) k in
+        D.power_at w (slice_index_or bases.new k b) ≡ (D.functions w).powf ri }
 {
-    let mut logs = [Log {
+    for k in 0usize..10usize {
+        bases[k] = inverse_at(r0, k).inverse_base();
+    }
+}
+
+fn betas_of<D: DualNum>(
+    e: Exponents<D::Exponent>,
+    c_eps_t: D,
+    bases: &[D::Base; 10],
+    betas: &mut [D; 10],
+)
+    ensures { (w : Bool) (k : ℕ) (b : D.Base) (u : D) → k < 10 → let b = slice_index_or bases.now k b in
+        D.of w (slice_index_or betas.new k u) ≡ beta_u_from (D.beside w) (D.raised w b e.lr) (D.raised w b e.la) (D.of w c_eps_t) }
+{
+    for (k, base) in bases.iter().enumerate() {
+        betas[k] = beta_u_mie(e, c_eps_t, *base);
+    }
+}
+
+// Node k's part, added, from the base of its inverse radius and the potential there.
+fn node<D: Rule>(r0: D, k: usize, base: D::Base, u: D, d: D) -> Result<D, Refusal>
+    ensures { (w : Bool) → answer_by (D.of w) result ≡ node_at (D.beside w) (D.functions w) (D.of w r0) k (D.base_in base) (D.of w u) (D.of w d) }
+{
+    if !D::base_inside(base) {
+        return Err(Refusal::Domain);
+    }
+    let e = (-u).exp_m1()?;
+    let width = (-r0 + D::Plain::lit(1.0)) * D::Plain::lit(0.5);
+    Ok(d + width * (-e) * D::weight(k))
+}
+
+// A pair's diameter from its reduced lower limit, in any run. Bases and betas are room: an array of any run's numbers has no known size.
+pub fn diameter_staged<D: Rule>(
+    la: D::Plain,
+    lr: D::Plain,
+    c_eps_t: D,
+    sigma: D::Plain,
+    r0: D,
+    bases: &mut [D::Base; 10],
+    betas: &mut [D; 10],
+) -> Result<D, Refusal>
+    ensures { (w : Bool) → let A = D.beside w in
+        answer_by (D.of w) result ≡ diameter_from A (D.functions w) (D.plain w la) (D.plain w lr) (D.of w c_eps_t) (D.plain w sigma) (D.of w r0) }
+{
+    let e = exponents_of::<D>(la, lr);
+    bases_of(r0, bases);
+    if !(D::exponent_inside(e.lr) & D::exponent_inside(e.la)) {
+        return Err(Refusal::Domain);
+    }
+    betas_of(e, c_eps_t, bases, betas);
+    let mut d = r0;
+    for (k, base) in bases.iter().enumerate() {
+        d = node(r0, k, *base, betas[k], d)?;
+    }
+    Ok(d * sigma)
+}
+
+// What stands in a place of the room before it is filled.
+pub const NO_BASE: FloatBase = FloatBase {
+    log: Log {
         base: 0.0,
         size: 0,
         negative: false,
-    }; 10];
-    for k in 0usize..10usize {
-        logs[k] = binary_log::log_base(inverse_at(r0, k));
-    }
-    logs
-}
-
-fn betas_of(e: Exponents, c_eps_t: f64, logs: [Log; 10]) -> [f64; 10]
-    ensures { result ≡ betas_of e c_eps_t logs }
-{
-    let mut betas = [0.0; 10];
-    for k in 0usize..10usize {
-        betas[k] = beta_u_mie(e, c_eps_t, logs[k]);
-    }
-    betas
-}
-
-// Node k's part, added, from the inverse radius and the potential there.
-fn node(r0: f64, k: usize, ri: f64, u: f64, d: f64) -> Result<f64, Refusal>
-    requires { k < 10 }
-    ensures { answer result ≡ node_at r0 k ri u d }
-{
-    if !binary_log::base_inside(ri) {
-        return Err(Refusal::Domain);
-    }
-    let e = elementary::exp_m1(-u)?;
-    Ok(d + (-r0 + 1.0) * 0.5 * (-e) * f64::weight(k))
-}
+    },
+    inside: false,
+};
 
 // A pair's diameter from its reduced lower limit.
 pub fn diameter_from(la: f64, lr: f64, c_eps_t: f64, sigma: f64, r0: f64) -> Result<f64, Refusal>
     ensures { answer result ≡ diameter_from floats (calls floats port) la lr c_eps_t sigma r0 }
 {
-    if !exponents_inside(la, lr) {
-        return Err(Refusal::Domain);
-    }
-    let logs = logs_of(r0);
-    let betas = betas_of(exponents_of(la, lr), c_eps_t, logs);
-    let mut d = r0;
-    for k in 0usize..10usize {
-        let log = logs[k];
-        d = node(r0, k, log.base, betas[k], d)?;
-    }
-    Ok(d * sigma)
+    let mut bases = [NO_BASE; 10];
+    let mut betas = [0.0; 10];
+    diameter_staged(la, lr, c_eps_t, sigma, r0, &mut bases, &mut betas)
 }
 
 // `hs_diameter_ij`.

@@ -1,14 +1,15 @@
 -- `saftvrmie_diameter::betas_of` meets its contract. Assumes nothing.
+use Prim.Native.Nat.{ℕ, ◌<◌, ◌≤◌, ◌-◌}
+use lib.ListN.{get_or}
+use mathlib.Core.Bool.{Bool}
 use mathlib.Core.Path.{◌≡◌}
-use Prim.Native.Nat.{◌≤◌, ◌-◌}
-use Rattle.number.specs.Walk.{turns}
-use lib.ListN.{get_or, set, replicate}
-use Rattle.number.specs.Arith.{zero64}
-use Rattle.saftvrmie_diameter.specs.Staged.{beta_u_at, beyond}
+use Rattle.saftvrmie_diameter.specs.Diameter.{beta_u_from}
 use Rattle.saftvrmie_diameter.proofs.betas_of.Given as goal
 
 abbrev pub invariant-loop-k : goal.invariant-loop-k
-invariant-loop-k l = (l.k ≤ 10) × (l.betas ≡ turns l.k (λ k s. set s k (beta_u_at l.e l.c_eps_t (get_or l.logs k beyond))) (replicate 10 zero64))
+invariant-loop-k g l =
+    (l.k ≤ 10) × ((w : Bool) (j : ℕ) (u : _) → j < l.k → let D = g.D.DualNum in (b : _)
+    → D.of w (get_or l.betas j u) ≡ beta_u_from (D.beside w) (D.raised w (get_or l.bases j b) l.e.lr) (D.raised w (get_or l.bases j b) l.e.la) (D.of w l.c_eps_t))
 
 abbrev pub decreases-loop-k : goal.decreases-loop-k
-decreases-loop-k l = 10 - l.k
+decreases-loop-k g l = 10 - l.k

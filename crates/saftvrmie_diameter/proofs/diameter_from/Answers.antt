@@ -1,25 +1,8 @@
 -- `saftvrmie_diameter::diameter_from` meets its contract. Assumes nothing.
-use Rattle.saftvrmie_diameter.specs.Diameter.{diameter_from}
-use Rattle.saftvrmie_diameter.proofs.Staged.{node_turn_is, from_refused}
-use Rattle.number.specs.Answer.{answer}
-use Rattle.number.proofs.Walk.{via, told, walk_none, walk_next, walk_stop, walk_end, handed_on}
-use borrow.Author.Rules.{rules}
-use Rattle.number.specs.Ans.{◌>>=◌}
+use mathlib.Core.Bool.{true}
+use mathlib.Core.Path.{◌∙◌}
+use Rattle.saftvrmie_diameter.proofs.Staged.{as_it_is}
 use Rattle.saftvrmie_diameter.proofs.diameter_from.Goals as goal
 
-pub returns-then-not-exponents_inside : goal.returns-then-not-exponents_inside
-returns-then-not-exponents_inside c = from_refused _ _ _ _ _ (told c.exponents_inside.ensures c.if-not-exponents_inside.true)
-
-pub loop-k-init : goal.loop-k-init
-loop-k-init c = (search rules, walk_none _ _)
-
-pub returns-in_err-d : goal.returns-in_err-d
-unfolding diameter_from ◌>>=◌
-returns-in_err-d c = rw (handed_on _ c.from_residual.ensures, ← walk_stop _ _ 10 _ _ _ c.loop-k-test.true c.loop-k.invariant.1 (node_turn_is _ _ _ _ _ _ _ (told c.exponents_inside.ensures c.if-not-exponents_inside.false) c.exponents_of.ensures c.logs_of-logs.ensures c.betas_of-betas.ensures _ _ _ c.loop-k-test.true (via answer c.node.ensures c.in_err-d.was)))
-
-pub loop-k-preserved : goal.loop-k-preserved
-loop-k-preserved c = (search rules, walk_next _ _ _ _ _ c.loop-k.invariant.1 (node_turn_is _ _ _ _ _ _ _ (told c.exponents_inside.ensures c.if-not-exponents_inside.false) c.exponents_of.ensures c.logs_of-logs.ensures c.betas_of-betas.ensures _ _ _ c.loop-k-test.true (via answer c.node.ensures c.in_ok-d.was)))
-
 pub returns : goal.returns
-unfolding diameter_from ◌>>=◌
-returns c = rw (← walk_end _ _ 10 _ _ c.loop-k.invariant.0 c.loop-k-test.false c.loop-k.invariant.1)
+returns c = as_it_is _ ∙ c.diameter_staged.ensures true

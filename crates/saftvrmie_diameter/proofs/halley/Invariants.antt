@@ -7,8 +7,8 @@ use Prim.Native.Nat.{◌≤◌, ◌-◌}
 use mathlib.Core.Path.{◌≡◌}
 use Rattle.saftvrmie_diameter.proofs.halley.Given as goal
 
-abbrev pub invariant-loop-done : goal.invariant-loop-done
-invariant-loop-done l = (l.done ≤ 4) × (halley floats (calls floats port) l.la l.lr l.c_eps_t (4 - l.done) l.r ≡ halley floats (calls floats port) l.la l.lr l.c_eps_t 4 l.initial.r)
+abbrev pub invariant-loop : goal.invariant-loop
+invariant-loop l = (l.counter ≤ 4) × (halley floats (calls floats port) l.la l.lr l.c_eps_t (4 - l.counter) l.r ≡ halley floats (calls floats port) l.la l.lr l.c_eps_t 4 l.initial.r)
 
-abbrev pub decreases-loop-done : goal.decreases-loop-done
-decreases-loop-done l = 4 - l.done
+abbrev pub decreases-loop : goal.decreases-loop
+decreases-loop l = 4 - l.counter

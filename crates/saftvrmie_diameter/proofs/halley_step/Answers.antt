@@ -1,14 +1,31 @@
 -- `saftvrmie_diameter::halley_step` meets its contract. Assumes nothing.
+use mathlib.Core.Bool.{true}
+use mathlib.Core.Path.{ap, ◌∙◌}
 use lib.Ieee.{of_bits}
+use Rattle.number.specs.Ans.{◌>>=◌}
+use Rattle.number.specs.Answer.{answer_by}
 use Rattle.number.specs.Arith.{decimal}
-use Rattle.saftvrmie_diameter.proofs.Staged.{step_outside, step_is}
-use Rattle.number.proofs.Walk.{told}
+use Rattle.number.proofs.Walk.{via, handed_on}
+use Rattle.saftvrmie_diameter.specs.Diameter.{halley_step}
+use Rattle.saftvrmie_diameter.proofs.Staged.{ln_epsilon}
 use Rattle.saftvrmie_diameter.proofs.halley_step.Goals as goal
 
-pub returns-then-not-base_inside : goal.returns-then-not-base_inside
-unfolding decimal of_bits
-returns-then-not-base_inside c = step_outside _ _ _ _ (told c.base_inside.ensures c.if-not-base_inside.true)
+pub returns-in_err-plr : goal.returns-in_err-plr
+unfolding halley_step ◌>>=◌ decimal of_bits
+returns-in_err-plr c =
+    let r = c.raise.ensures true ∙ (c.requires _).0 ∙ ap (λ f. f c.args.lr) (c.inverse_base-base.ensures true) in
+    rw (handed_on _ c.from_residual.ensures, via (answer_by (λ x. x)) r c.in_err-plr.was)
+
+pub returns-in_err-pla : goal.returns-in_err-pla
+unfolding halley_step ◌>>=◌ decimal of_bits
+returns-in_err-pla c =
+    let r = c.raise.ensures true ∙ (c.requires _).0 ∙ ap (λ f. f c.args.lr) (c.inverse_base-base.ensures true) in
+    let a = c.raise-2.ensures true ∙ (c.requires _).1 ∙ ap (λ f. f c.args.la) (c.inverse_base-base.ensures true) in
+    rw (handed_on _ c.from_residual-in_err-pla.ensures, via (answer_by (λ x. x)) r c.in_ok-plr.was, via (answer_by (λ x. x)) a c.in_err-pla.was)
 
 pub returns : goal.returns
-unfolding decimal of_bits
-returns c = step_is _ _ _ _ _ _ _ _ c.requires.0 c.requires.1 (told c.base_inside.ensures c.if-not-base_inside.false) c.log_base-log.ensures c.raise-plr.ensures c.raise-pla.ensures
+unfolding halley_step ◌>>=◌ decimal of_bits
+returns c =
+    let r = c.raise.ensures true ∙ (c.requires _).0 ∙ ap (λ f. f c.args.lr) (c.inverse_base-base.ensures true) in
+    let a = c.raise-2.ensures true ∙ (c.requires _).1 ∙ ap (λ f. f c.args.la) (c.inverse_base-base.ensures true) in
+    rw (via (answer_by (λ x. x)) r c.in_ok-plr.was, via (answer_by (λ x. x)) a c.in_ok-pla.was, ln_epsilon)

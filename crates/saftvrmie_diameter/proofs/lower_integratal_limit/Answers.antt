@@ -1,11 +1,12 @@
 -- `saftvrmie_diameter::lower_integratal_limit` meets its contract. Assumes nothing.
 use Rattle.saftvrmie_diameter.specs.Diameter.{lower_limit}
 use lib.Ieee.{of_bits}
+use mathlib.Core.Bool.{true}
 use Rattle.number.specs.Arith.{decimal}
 use Rattle.number.specs.Answer.{answer}
 use Rattle.number.specs.Functions.{answered}
-use Rattle.number.proofs.Walk.{via, told, handed_on}
-use Rattle.saftvrmie_diameter.proofs.Staged.{ln_epsilon, halley_refused}
+use Rattle.number.proofs.Walk.{via, handed_on}
+use Rattle.saftvrmie_diameter.proofs.Staged.{ln_epsilon}
 use Rattle.number.specs.Ans.{◌>>=◌}
 use Rattle.saftvrmie_diameter.proofs.lower_integratal_limit.Goals as goal
 
@@ -17,12 +18,8 @@ pub returns-in_err-r : goal.returns-in_err-r
 unfolding lower_limit answered ◌>>=◌ decimal of_bits
 returns-in_err-r c = rw (handed_on _ c.from_residual-in_err-r.ensures, ln_epsilon, via answer c.ln.ensures c.in_ok-k.was, via answer c.exp.ensures c.in_err-r.was)
 
-pub returns-then-not-exponents_inside : goal.returns-then-not-exponents_inside
-unfolding lower_limit answered ◌>>=◌ decimal of_bits
-returns-then-not-exponents_inside c = rw (ln_epsilon, via answer c.ln.ensures c.in_ok-k.was, via answer c.exp.ensures c.in_ok-r.was, halley_refused _ _ _ _ (told c.exponents_inside.ensures c.if-not-exponents_inside.true))
-
 pub halley-requires : goal.halley-requires
-halley-requires c = (told c.exponents_inside.ensures c.if-not-exponents_inside.false, c.exponents_of.ensures)
+halley-requires c = c.exponents_of.ensures true
 
 pub returns : goal.returns
 unfolding lower_limit answered ◌>>=◌ decimal of_bits
