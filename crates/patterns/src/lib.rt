@@ -15,9 +15,9 @@ pub fn squares<D: PlainNum>(xs: &[f64]) -> D
     ensures { (w : Bool) → let A = D.beside w in D.of w result ≡ squares A (length xs.now) (λ i. A.lit (at xs.now i)) }
 {
     let mut s = D::entered(0.0);
-    for i in 0usize..xs.len() {
-        let x = D::entered(xs[i]);
-        s = s + x * x;
+    for x in xs {
+        let d = D::entered(*x);
+        s = s + d * d;
     }
     s
 }

@@ -9,8 +9,8 @@ pub fn domthelv_bench_powers(x: f64, exponents: &[f64; 14]) -> f64
 {
     let log = binary_log::log_base(x);
     let mut s = 0.0;
-    for i in 0usize..14 {
-        s = s + power::raise(log, power::exponent(exponents[i]));
+    for y in exponents {
+        s = s + power::raise(log, power::exponent(*y));
     }
     s
 }

@@ -29,9 +29,8 @@ fn helmholtz_energy_density_disp<D: PlainNum>(s: &State, xs: &mut [D; SIDE]) -> 
     ensures { (w : Bool) → let A = D.beside w in
         answer_by (D.of w) result ≡ dispersion A (D.functions w) s.now.set.count (state_of A s.now) }
 {
-    let n = s.set.count;
-    let mean = weighted::<D>(n, s.fractions, s.set.m);
-    *xs = xs_of(n, s.fractions, s.set.m, mean);
+    let mean = weighted::<D>(s.fractions, s.set.m);
+    *xs = xs_of(s.fractions, s.set.m, mean);
     let q = properties_of(s, xs)?;
     let k_hs = saftvrmie_dispersion::k_hs(q.zeta_x);
     let fluid = saftvrmie_dispersion::fluid_of(q.segment_density, q.zeta_x, k_hs);
@@ -50,9 +49,8 @@ fn helmholtz_energy_density_disp_chain<S: ChainNum>(
     ensures { (w : Bool) → let A = S.Re.beside w in
         answer_by (S.Re.of w) result ≡ dispersion_chain A (S.Re.functions w) s.now.set.count (state_of A s.now) }
 {
-    let n = s.set.count;
-    let mean = weighted::<S::Re>(n, s.fractions, s.set.m);
-    *xs = xs_of(n, s.fractions, s.set.m, mean);
+    let mean = weighted::<S::Re>(s.fractions, s.set.m);
+    *xs = xs_of(s.fractions, s.set.m, mean);
     let q = properties_of(s, xs)?;
     let v = saftvrmie_dispersion::fluid_dual::<S>(q.zeta_x, q.segment_density);
     let fluid = saftvrmie_dispersion::fluid_of(q.segment_density, q.zeta_x, v.k_hs.re());

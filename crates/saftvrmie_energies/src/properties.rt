@@ -1,4 +1,5 @@
 // `Properties::new` (saftvrmie/eos/dispersion.rs): sums over components and pairs, of any run.
+// Loops over pairs are by index: a pair's number is of two indices, and the sheets have it at SIDE i + j. What bounds them stands plain, n ≤ side and i < side: a name for a line of two numbers would hide which number the caller owes.
 ghost use Rattle.std.specs.Prelude.{◌≡◌, ℕ, Bool, ◌<◌, ◌≤◌, length, map};
 ghost use Rattle.number.specs.Answer.{answer_by};
 ghost use Rattle.number.specs.Walk.{turns};
@@ -31,27 +32,25 @@ pub fn total<D: PlainNum>(v: &[f64]) -> D
     s
 }
 
-// By index, as the segment numbers have more places than the list.
-pub fn weighted<D: PlainNum>(n: usize, v: &[f64], m: &[f64; SIDE]) -> D
-    requires { (n ≤ side) × (length v.now ≡ n) }
-    ensures { (w : Bool) → D.of w result ≡ weighted (D.beside w) n (entries (D.beside w) v.now) (entries (D.beside w) m.now) }
+pub fn weighted<D: PlainNum>(v: &[f64], m: &[f64; SIDE]) -> D
+    requires { length v.now ≤ side }
+    ensures { (w : Bool) → D.of w result ≡ weighted (D.beside w) (length v.now) (entries (D.beside w) v.now) (entries (D.beside w) m.now) }
 {
     let mut s = D::entered(0.0);
-    for i in 0usize..n {
-        s = s + D::entered(v[i]) * D::Plain::lit(m[i]);
+    for (i, x) in v.iter().enumerate() {
+        s = s + D::entered(*x) * D::Plain::lit(m[i]);
     }
     s
 }
 
-// By index, since it also writes.
-pub fn xs_of<D: PlainNum>(n: usize, x: &[f64], m: &[f64; SIDE], mean: D) -> [D; SIDE]
-    requires { (n ≤ side) × (length x.now ≡ n) }
-    ensures { (w : Bool) → map (D.of w) result ≡ xs_of (D.beside w) n (entries (D.beside w) x.now) (entries (D.beside w) m.now) (D.of w mean) }
+pub fn xs_of<D: PlainNum>(x: &[f64], m: &[f64; SIDE], mean: D) -> [D; SIDE]
+    requires { length x.now ≤ side }
+    ensures { (w : Bool) → map (D.of w) result ≡ xs_of (D.beside w) (length x.now) (entries (D.beside w) x.now) (entries (D.beside w) m.now) (D.of w mean) }
 {
     let zero = D::entered(0.0);
     let mut xs = [zero; SIDE];
-    for i in 0usize..n {
-        let p = D::entered(x[i]) * D::Plain::lit(m[i]) / mean;
+    for (i, fraction) in x.iter().enumerate() {
+        let p = D::entered(*fraction) * D::Plain::lit(m[i]) / mean;
         xs[i] = p;
     }
     xs
@@ -154,7 +153,7 @@ pub fn properties_of<D: PlainNum>(s: &State, xs: &[D; SIDE]) -> Result<Propertie
     let set = s.set;
     let n = set.count;
     let d = s.diameters;
-    let segment_density = weighted::<D>(n, s.densities, set.m);
+    let segment_density = weighted::<D>(s.densities, set.m);
     let factor = segment_density * D::frac_pi_6();
     let sum = zeta_sum(n, xs, |i, j| d3_ij::<D>(d, i, j));
     let zeta_x = after_lower(n, d, sum * factor);

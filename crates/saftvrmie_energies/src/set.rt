@@ -13,7 +13,7 @@ use saftvrmie_parameters::{PairParameters, SaftVRMiePars};
 use sizes::mie_set::{ALPHA_IJ, C_IJ, EPSILON_K_IJ, LA_IJ, LR_IJ};
 use sizes::{SHEETS, SIDE};
 
-// The boundary has lists and no set; operations that have a set lend its lists.
+// The boundary has lists and no set; operations that have a set lend its lists. The count stands beside them: it is the caller's number, tested with 1, and each list has SIDE places, as document 01's Forms have the set.
 #[derive(Clone, Copy)]
 pub struct Set<'a> {
     pub count: usize,

@@ -1,4 +1,4 @@
-// The sums of the three orders and of the chain over components and pairs (saftvrmie/eos/dispersion.rs). Indexes are turns of loops over the count.
+// The sums of the three orders and of the chain over components and pairs (saftvrmie/eos/dispersion.rs). Indexes are turns of loops over the count, since a turn reads each of the state's lists, the segment fractions and the sheets at its index.
 ghost use Rattle.std.specs.Prelude.{◌≡◌, ℕ, Bool, ◌<◌};
 ghost use Rattle.number.specs.Answer.{answer_by};
 ghost use Rattle.slope_num.specs.Value.{slope_by};

@@ -4,16 +4,16 @@ use Rattle.patterns.specs.Formulas.{squares}
 use Rattle.number.proofs.Walk.{turns_none, turns_next, turns_end}
 use Rattle.patterns.proofs.squares.Goals as goal
 
-pub loop-i-init : goal.loop-i-init
+pub loop-x-init : goal.loop-x-init
 unfolding squares
-loop-i-init g c = (search rules, search rules, λ w. rw (c.entered-s.ensures w) (turns_none _ _))
+loop-x-init g c = (search rules, λ w. rw (c.entered-s.ensures w) (turns_none _ _))
 
-pub loop-i-preserved : goal.loop-i-preserved
+pub loop-x-preserved : goal.loop-x-preserved
 unfolding squares
-loop-i-preserved g c =
+loop-x-preserved g c =
     let m = g.met.D.DualNum in
-    (search rules, c.loop-i.invariant.1, λ w. turns_next _ _ _ _ _ (c.loop-i.invariant.2 w) (rw (m.add_law w _ _ _ c.add-s.ensures, m.mul_law w _ _ _ c.mul.ensures, c.entered-x.ensures w)))
+    (search rules, λ w. turns_next _ _ _ _ _ (c.loop-x.invariant.1 w) (rw (m.add_law w _ _ _ c.add-s.ensures, m.mul_law w _ _ _ c.mul.ensures, c.entered-d.ensures w)))
 
 pub returns : goal.returns
 unfolding squares
-returns g c w = rw c.loop-i.invariant.1 at (turns_end _ _ _ _ _ c.loop-i.invariant.0 c.loop-i-test.false (c.loop-i.invariant.2 w))
+returns g c w = turns_end _ _ _ _ _ c.loop-x.invariant.0 c.loop-x-test.false (c.loop-x.invariant.1 w)

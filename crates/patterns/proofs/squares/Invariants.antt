@@ -7,10 +7,10 @@ use mathlib.Core.Path.{◌≡◌}
 use Prim.Native.Nat.{◌≤◌, ◌-◌}
 use Rattle.patterns.proofs.squares.Given as goal
 
-abbrev pub invariant-loop-i : goal.invariant-loop-i
-invariant-loop-i g l =
+abbrev pub invariant-loop-x : goal.invariant-loop-x
+invariant-loop-x g l =
     let D = g.D.DualNum in
-    (l.i ≤ l.i-end) × (l.i-end ≡ length l.xs) × ((w : Bool) → D.of w l.s ≡ squares (D.beside w) l.i (λ j. (D.beside w).lit (at l.xs j)))
+    (l.x-index ≤ length l.xs) × ((w : Bool) → D.of w l.s ≡ squares (D.beside w) l.x-index (λ j. (D.beside w).lit (at l.xs j)))
 
-abbrev pub decreases-loop-i : goal.decreases-loop-i
-decreases-loop-i g l = l.i-end - l.i
+abbrev pub decreases-loop-x : goal.decreases-loop-x
+decreases-loop-x g l = length l.xs - l.x-index

@@ -4,12 +4,12 @@ use Rattle.number.proofs.Walk.{turns_none, turns_next, turns_end}
 use borrow.Author.Rules.{rules}
 use Rattle.power_bench.proofs.domthelv_bench_powers.Goals as goal
 
-pub loop-i-init : goal.loop-i-init
-loop-i-init c = (search rules, turns_none _ _)
+pub loop-y-init : goal.loop-y-init
+loop-y-init c = (search rules, turns_none _ _)
 
-pub loop-i-preserved : goal.loop-i-preserved
-loop-i-preserved c = (search rules, turns_next _ _ _ _ _ c.loop-i.invariant.1 (rw (c.raise-s.ensures, c.exponent.ensures)))
+pub loop-y-preserved : goal.loop-y-preserved
+loop-y-preserved c = (search rules, turns_next _ _ _ _ _ c.loop-y.invariant.1 (rw (c.raise-s.ensures, c.exponent.ensures)))
 
 pub returns : goal.returns
 unfolding fourteen_powers
-returns c = rw (← c.log_base-log.ensures) (turns_end _ _ _ _ _ c.loop-i.invariant.0 c.loop-i-test.false c.loop-i.invariant.1)
+returns c = rw (← c.log_base-log.ensures) (turns_end _ _ _ _ _ c.loop-y.invariant.0 c.loop-y-test.false c.loop-y.invariant.1)

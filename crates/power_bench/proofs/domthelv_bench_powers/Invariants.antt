@@ -8,8 +8,8 @@ use Rattle.number.specs.Arith.{floats, zero64}
 use Rattle.power.specs.Power.{exponent_of, power_of}
 use Rattle.power_bench.proofs.domthelv_bench_powers.Given as goal
 
-abbrev pub invariant-loop-i : goal.invariant-loop-i
-invariant-loop-i l = (l.i ≤ 14) × (l.s ≡ turns l.i (λ (k : ℕ) (z : Float). floats.add z (power_of l.log (exponent_of (at l.exponents k)))) zero64)
+abbrev pub invariant-loop-y : goal.invariant-loop-y
+invariant-loop-y l = (l.y-index ≤ 14) × (l.s ≡ turns l.y-index (λ (k : ℕ) (z : Float). floats.add z (power_of l.log (exponent_of (at l.exponents k)))) zero64)
 
-abbrev pub decreases-loop-i : goal.decreases-loop-i
-decreases-loop-i l = 14 - l.i
+abbrev pub decreases-loop-y : goal.decreases-loop-y
+decreases-loop-y l = 14 - l.y-index

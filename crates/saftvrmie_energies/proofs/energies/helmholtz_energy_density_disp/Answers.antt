@@ -11,15 +11,15 @@ use Rattle.saftvrmie_energies.proofs.energies.helmholtz_energy_density_disp.Goal
 
 pub returns-in_err-q : goal.returns-in_err-q
 unfolding dispersion ◌>>=◌ decimal of_bits
-returns-in_err-q g c w = rw (handed_on _ c.from_residual.ensures, ← c.weighted-mean.ensures w, ← c.xs_of.ensures w, via (answer_by (properties_by (g.D.DualNum.of w))) (c.properties_of.ensures w) c.in_err-q.was)
+returns-in_err-q g c w = rw (handed_on _ c.from_residual.ensures, ← (rw c.requires.1 at (c.weighted-mean.ensures w)), ← (rw c.requires.1 at (c.xs_of.ensures w)), via (answer_by (properties_by (g.D.DualNum.of w))) (c.properties_of.ensures w) c.in_err-q.was)
 
 pub returns-in_err-a : goal.returns-in_err-a
 unfolding dispersion ◌>>=◌ decimal of_bits
 returns-in_err-a g c w =
     rw (
       handed_on _ c.from_residual-in_err-a.ensures,
-      ← c.weighted-mean.ensures w,
-      ← c.xs_of.ensures w,
+      ← (rw c.requires.1 at (c.weighted-mean.ensures w)),
+      ← (rw c.requires.1 at (c.xs_of.ensures w)),
       via (answer_by (properties_by (g.D.DualNum.of w))) (c.properties_of.ensures w) c.in_ok-q.was,
       ← c.k_hs-k_hs.ensures w,
       ← c.fluid_of-fluid.ensures w,
@@ -32,8 +32,8 @@ unfolding dispersion ◌>>=◌ decimal of_bits
 returns g c w =
     let m = g.met.D.DualNum in
     rw (
-      ← c.weighted-mean.ensures w,
-      ← c.xs_of.ensures w,
+      ← (rw c.requires.1 at (c.weighted-mean.ensures w)),
+      ← (rw c.requires.1 at (c.xs_of.ensures w)),
       via (answer_by (properties_by (g.D.DualNum.of w))) (c.properties_of.ensures w) c.in_ok-q.was,
       ← c.k_hs-k_hs.ensures w,
       ← c.fluid_of-fluid.ensures w,

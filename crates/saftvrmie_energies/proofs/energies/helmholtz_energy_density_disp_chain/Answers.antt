@@ -12,13 +12,13 @@ use Rattle.saftvrmie_energies.proofs.energies.helmholtz_energy_density_disp_chai
 
 pub returns-in_err-q : goal.returns-in_err-q
 unfolding dispersion_chain chain_rows ◌>>=◌ slope_by decimal of_bits
-returns-in_err-q g c w = rw (handed_on _ c.from_residual.ensures, ← c.weighted-mean.ensures w, ← c.xs_of.ensures w, via (answer_by (properties_by (g.S.Re.DualNum.of w))) (c.properties_of.ensures w) c.in_err-q.was)
+returns-in_err-q g c w = rw (handed_on _ c.from_residual.ensures, ← (rw c.requires.1 at (c.weighted-mean.ensures w)), ← (rw c.requires.1 at (c.xs_of.ensures w)), via (answer_by (properties_by (g.S.Re.DualNum.of w))) (c.properties_of.ensures w) c.in_err-q.was)
 
 pub returns-in_err-a : goal.returns-in_err-a
 unfolding dispersion_chain chain_rows ◌>>=◌ slope_by decimal of_bits
 returns-in_err-a g c w =
     let f = rw c.re.ensures at (c.fluid_of-fluid.ensures w) in
-    rw (handed_on _ c.from_residual-in_err-a.ensures, ← c.weighted-mean.ensures w, ← c.xs_of.ensures w, via (answer_by (properties_by (g.S.Re.DualNum.of w))) (c.properties_of.ensures w) c.in_ok-q.was, ← c.fluid_dual-v.ensures w, ← f, ← c.bar_of-bar.ensures w, ← c.inverse-t_inv.ensures w, via (answer_by (sums_by (g.S.Re.DualNum.of w))) (c.chain_rows.ensures w) c.in_err-a.was)
+    rw (handed_on _ c.from_residual-in_err-a.ensures, ← (rw c.requires.1 at (c.weighted-mean.ensures w)), ← (rw c.requires.1 at (c.xs_of.ensures w)), via (answer_by (properties_by (g.S.Re.DualNum.of w))) (c.properties_of.ensures w) c.in_ok-q.was, ← c.fluid_dual-v.ensures w, ← f, ← c.bar_of-bar.ensures w, ← c.inverse-t_inv.ensures w, via (answer_by (sums_by (g.S.Re.DualNum.of w))) (c.chain_rows.ensures w) c.in_err-a.was)
 
 pub returns : goal.returns
 unfolding dispersion_chain chain_rows ◌>>=◌ slope_by decimal of_bits
@@ -26,8 +26,8 @@ returns g c w =
     let n = g.met.S.Re.DualNum in
     let f = rw c.re.ensures at (c.fluid_of-fluid.ensures w) in
     rw (
-      ← c.weighted-mean.ensures w,
-      ← c.xs_of.ensures w,
+      ← (rw c.requires.1 at (c.weighted-mean.ensures w)),
+      ← (rw c.requires.1 at (c.xs_of.ensures w)),
       via (answer_by (properties_by (g.S.Re.DualNum.of w))) (c.properties_of.ensures w) c.in_ok-q.was,
       ← c.fluid_dual-v.ensures w,
       ← f,

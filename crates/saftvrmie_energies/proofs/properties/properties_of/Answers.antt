@@ -15,7 +15,7 @@ returns-in_err-k g c w =
     let A = g.D.DualNum.beside w in
     rw (
       handed_on _ c.from_residual.ensures,
-      ← c.weighted-segment_density.ensures w,
+      ← (rw c.requires.2 at (c.weighted-segment_density.ensures w)),
       ← c.frac_pi_6.ensures w,
       ← m.mul_plain_law w _ _ _ c.mul-factor.ensures,
       ← c.zeta_sum-sum.ensures w (d3_ij A (entries A c.args.s.now.diameters.now)) (λ i j r p q e. search rules),
@@ -30,7 +30,7 @@ returns g c w =
     let m = g.met.D.DualNum in
     let A = g.D.DualNum.beside w in
     rw (
-      ← c.weighted-segment_density.ensures w,
+      ← (rw c.requires.2 at (c.weighted-segment_density.ensures w)),
       ← c.frac_pi_6.ensures w,
       ← m.mul_plain_law w _ _ _ c.mul-factor.ensures,
       ← c.zeta_sum-sum.ensures w (d3_ij A (entries A c.args.s.now.diameters.now)) (λ i j r p q e. search rules),
