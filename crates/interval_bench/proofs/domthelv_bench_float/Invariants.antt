@@ -6,8 +6,8 @@ use Rattle.interval_bench.specs.Repeat.{float_step}
 use lib.Ieee.{Float}
 use Rattle.interval_bench.proofs.domthelv_bench_float.Given as goal
 
-abbrev pub invariant-loop-i : goal.invariant-loop-i
-invariant-loop-i l = (l.i ≤ l.n) × (l.s ≡ turns l.i (λ (k : ℕ) (z : Float). float_step l.op z l.y) l.x)
+abbrev pub invariant-loop : goal.invariant-loop
+invariant-loop l = (l.counter ≤ l.n) × (l.s ≡ turns l.counter (λ (k : ℕ) (z : Float). float_step l.operation z l.y) l.x)
 
-abbrev pub decreases-loop-i : goal.decreases-loop-i
-decreases-loop-i l = l.n - l.i
+abbrev pub decreases-loop : goal.decreases-loop
+decreases-loop l = l.n - l.counter

@@ -3,11 +3,11 @@ use borrow.Author.Rules.{rules}
 use Rattle.number.proofs.Walk.{turns_none, turns_next, turns_end}
 use Rattle.interval_bench.proofs.domthelv_bench_interval.Goals as goal
 
-pub loop-i-init : goal.loop-i-init
-loop-i-init c = (search rules, turns_none _ _)
+pub loop-init : goal.loop-init
+loop-init c = (search rules, turns_none _ _)
 
-pub loop-i-preserved : goal.loop-i-preserved
-loop-i-preserved c = (search rules, turns_next _ _ _ _ _ c.loop-i.invariant.1 c.interval_step-s.ensures)
+pub loop-preserved : goal.loop-preserved
+loop-preserved c = (search rules, turns_next _ _ _ _ _ c.loop.invariant.1 c.interval_step-s.ensures)
 
 pub returns : goal.returns
-returns c = rw (turns_end _ _ _ _ _ c.loop-i.invariant.0 c.loop-i-test.false c.loop-i.invariant.1, c.point-step.ensures, c.point-s.ensures)
+returns c = rw (turns_end _ _ _ _ _ c.loop.invariant.0 c.loop-test.false c.loop.invariant.1, c.from-operation.ensures, c.point-step.ensures, c.point-s.ensures)

@@ -6,8 +6,8 @@ use Rattle.interval_bench.specs.Repeat.{interval_step}
 use Rattle.interval.specs.declared.Interval.{Interval}
 use Rattle.interval_bench.proofs.domthelv_bench_interval.Given as goal
 
-abbrev pub invariant-loop-i : goal.invariant-loop-i
-invariant-loop-i l = (l.i ≤ l.n) × (l.s ≡ turns l.i (λ (k : ℕ) (z : Interval). interval_step l.op z l.step) l.initial.s)
+abbrev pub invariant-loop : goal.invariant-loop
+invariant-loop l = (l.counter ≤ l.n) × (l.s ≡ turns l.counter (λ (k : ℕ) (z : Interval). interval_step l.operation z l.step) l.initial.s)
 
-abbrev pub decreases-loop-i : goal.decreases-loop-i
-decreases-loop-i l = l.n - l.i
+abbrev pub decreases-loop : goal.decreases-loop
+decreases-loop l = l.n - l.counter
