@@ -20,7 +20,7 @@ use crate::layout::{
     TEMPERATURE_AT, WANTED_AT,
 };
 use number::Refusal;
-use saftvrqmie_energies::QuantumEnergies;
+use saftvrqmie_energies::{QuantumEnergies, Set, StateLists};
 use saftvrqmie_parameters::FeynmanHibbsOrder;
 use saftvrqmie_potential::{FloatPair, Pair};
 use saftvrqmie_properties::FloatProperties;
@@ -96,17 +96,20 @@ fn answer(floats: &[f64], bytes: &[u8]) -> Result<QuantumEnergies, Refusal>
     let orders = set_lists::order_records(&bytes[ORDERS_AT..PLACE_BYTES]);
     let x = &floats[FRACTIONS_AT..FRACTIONS_AT + n];
     let rho = &floats[DENSITIES_AT..DENSITIES_AT + n];
-    saftvrqmie_energies::energies_of(
-        n,
-        &m,
-        &sheets,
-        orders,
-        floats[TEMPERATURE_AT],
-        x,
-        rho,
+    let set = Set {
+        count: n,
+        m: &m,
+        sheets: &sheets,
+        orders: &orders,
+    };
+    let state = StateLists {
+        temperature: floats[TEMPERATURE_AT],
+        fractions: x,
+        densities: rho,
         table,
-        wanted,
-    )
+        non_additive: wanted,
+    };
+    saftvrqmie_energies::energies_of(&set, &state)
 }
 
 fn last_pair(bytes: &[u8]) -> bool

@@ -6,6 +6,7 @@ ghost use Rattle.domthelv.specs.Operations.{ends_written, vrq_energies_ends, pai
 ghost use Rattle.saftvrqmie_energies.specs.Energies.{energies_in};
 
 use enclosure::Ends;
+use saftvrqmie_energies::{Set, StateLists};
 use saftvrqmie_energies_ends::EnergiesEnds;
 
 // The call has tested the list's length before any work: here its answer is settled.
@@ -52,17 +53,20 @@ pub fn domthelv_vrq_energies_ends(
     let places = set_lists::places(m, 0);
     let flat = set_lists::flat(sheets);
     let records = set_lists::order_records(orders);
-    let worked = saftvrqmie_energies_ends::energies_ends_of(
+    let set = Set {
         count,
-        &places,
-        &flat,
-        records,
+        m: &places,
+        sheets: &flat,
+        orders: &records,
+    };
+    let state = StateLists {
         temperature,
         fractions,
         densities,
         table,
         non_additive,
-    );
+    };
+    let worked = saftvrqmie_energies_ends::energies_ends_of(&set, &state);
     match worked {
         Err(r) => r.code(),
         Ok(e) => {

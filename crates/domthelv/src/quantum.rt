@@ -14,7 +14,7 @@ ghost use Rattle.saftvrqmie_energies.specs.Energies.{energies_in};
 use number::Refusal;
 use order_counts::OrderCounts;
 use saftvrqmie::PairSearches;
-use saftvrqmie_energies::QuantumEnergies;
+use saftvrqmie_energies::{QuantumEnergies, Set, StateLists};
 use saftvrqmie_parameters::ComponentLists;
 use saftvrqmie_total::QuantumTotal;
 
@@ -234,17 +234,20 @@ pub fn domthelv_vrq_energies(
     let places = set_lists::places(m, 0);
     let flat = set_lists::flat(sheets);
     let records = set_lists::order_records(orders);
-    let worked = saftvrqmie_energies::energies_of(
+    let set = Set {
         count,
-        &places,
-        &flat,
-        records,
+        m: &places,
+        sheets: &flat,
+        orders: &records,
+    };
+    let state = StateLists {
         temperature,
         fractions,
         densities,
         table,
         non_additive,
-    );
+    };
+    let worked = saftvrqmie_energies::energies_of(&set, &state);
     match worked {
         Err(r) => r.code(),
         Ok(e) => {
@@ -308,17 +311,20 @@ pub fn domthelv_vrq_total(
     let places = set_lists::places(m, 0);
     let flat = set_lists::flat(sheets);
     let records = set_lists::order_records(orders);
-    let worked = saftvrqmie_energies::energies_of(
+    let set = Set {
         count,
-        &places,
-        &flat,
-        records,
+        m: &places,
+        sheets: &flat,
+        orders: &records,
+    };
+    let state = StateLists {
         temperature,
         fractions,
         densities,
         table,
         non_additive,
-    );
+    };
+    let worked = saftvrqmie_energies::energies_of(&set, &state);
     match worked {
         Err(r) => r.code(),
         Ok(e) => {

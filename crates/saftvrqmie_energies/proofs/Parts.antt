@@ -18,10 +18,10 @@ wanted_taken taken true r p q k h = sym k ∙ ap taken h
 wanted_taken taken false r p q k h = h
 
 -- where each number is taken as it is
-pub as_it_is : {N : Type 0} (a : Ans (EnergiesIn N)) → each_taken (λ x. x) a ≡ a
+pub as_it_is : {N : Type 0} (taken : N → N) → ((m : N) → taken m ≡ m) → (a : Ans (EnergiesIn N)) → each_taken taken a ≡ a
 unfolding ◌>>=◌
-as_it_is (held e) = refl
-as_it_is (refused n) = refl
+as_it_is taken p (held e) = rw (p e.hard_sphere, p e.dispersion, p e.non_additive)
+as_it_is taken p (refused n) = refl
 
 module _ (A : Arith) (F : Functions A.Num) (s : SheetsIn A.Num) (x rho m : ℕ → A.Num) (t : A.Num) (wanted : Bool) (taken : A.Num → A.Num) where
   abbrev result : Ans (EnergiesIn A.Num)

@@ -8,17 +8,12 @@ use mathlib.Core.Path.{◌≡◌}
 use mathlib.Core.Bool.{Bool, true, false, ◌&&◌}
 use borrow.Author.Tests.{eqb-true}
 use Rattle.number.specs.Ans.{Ans, held, refused, ◌>>=◌, demand}
-use Rattle.number.specs.Arith.{floats}
-use Rattle.number.specs.Functions.{Functions, calls}
+use Rattle.number.specs.Arith.{Arith}
 use Rattle.sizes.specs.Sizes.{side, sheet}
-use Rattle.elementary.specs.Port.{port}
 use Rattle.limits.specs.Limits.{count_within, state_within}
 use Rattle.mie_parameters.proofs.Laws.{and_left, and_right, count_low, count_high}
 use Rattle.saftvrqmie_parameters.specs.declared.SaftVRQMiePars.{SaftVRQMiePars}
-use Rattle.saftvrqmie_energies.specs.Energies.{EnergiesIn, contributions_of, energies_finite, state_lengths, energies_by, energies}
-
-abbrev F : Functions Float
-F = calls floats port
+use Rattle.saftvrqmie_energies.specs.Energies.{EnergiesIn, each_in, energies_finite, state_lengths, tested}
 
 -- what the first test says
 pub record Right (n : ℕ) (x rho table : List Float) : Type 0 where
@@ -45,32 +40,29 @@ right n x rho table p =
       places = eqb-true (length table) (4 * sheet) (and_right (a && b && c) d p);
     }
 
-module _ (s : SaftVRQMiePars) (t : Float) (x rho table : List Float) (wanted : Bool) where
-  abbrev outcome : Ans (EnergiesIn Float)
-  outcome = energies s t x rho table wanted
-
-  abbrev worked : Ans (EnergiesIn Float)
-  worked = contributions_of floats F s t x rho table wanted
+module _ (A : Arith) (s : SaftVRQMiePars) (t : Float) (x rho table : List Float) (run : Ans (EnergiesIn A.Num)) where
+  abbrev outcome : Ans (EnergiesIn A.Num)
+  outcome = tested A s t x rho table run
 
   pub refuses_1 : state_lengths s.count x rho table ≡ false → refused 1 ≡ outcome
-  unfolding energies_by demand ◌>>=◌
+  unfolding demand ◌>>=◌
   refuses_1 p = rw p
 
   module _ (p : state_lengths s.count x rho table ≡ true) where
     pub refuses_2 : state_within s.count t x rho ≡ false → refused 2 ≡ outcome
-    unfolding energies_by demand ◌>>=◌
+    unfolding demand ◌>>=◌
     refuses_2 q = rw (p, q)
 
     module _ (q : state_within s.count t x rho ≡ true) where
-      pub stops : (k : ℕ) → worked ≡ refused k → refused k ≡ outcome
-      unfolding energies_by demand ◌>>=◌
+      pub stops : (k : ℕ) → run ≡ refused k → refused k ≡ outcome
+      unfolding demand ◌>>=◌
       stops k h = rw (p, q, h)
 
-      module _ (found : EnergiesIn Float) (is-found : worked ≡ held found) where
-        pub refuses_7 : energies_finite found ≡ false → refused 7 ≡ outcome
-        unfolding energies_by demand ◌>>=◌
+      module _ (found : EnergiesIn A.Num) (is-found : run ≡ held found) where
+        pub refuses_7 : energies_finite (each_in A.val found) ≡ false → refused 7 ≡ outcome
+        unfolding demand ◌>>=◌
         refuses_7 h = rw (p, q, is-found, h)
 
-        pub holds : energies_finite found ≡ true → held found ≡ outcome
-        unfolding energies_by demand ◌>>=◌
+        pub holds : energies_finite (each_in A.val found) ≡ true → held found ≡ outcome
+        unfolding demand ◌>>=◌
         holds h = rw (p, q, is-found, h)

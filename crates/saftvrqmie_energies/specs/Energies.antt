@@ -61,14 +61,18 @@ energies_finite e = finite e.hard_sphere && finite e.dispersion && finite e.non_
 unfoldable pub state_lengths : ℕ → List Float → List Float → List Float → Bool
 state_lengths n x rho table = count_within n && eqb (length x) n && eqb (length rho) n && eqb (length table) (4 * sheet)
 
--- '1; 2 for temperature, fractions or densities; 6; 7 if a contribution is not finite', of any float run
-abbrev pub energies_from : SaftVRQMiePars → Float → List Float → List Float → List Float → Ans (EnergiesIn Float) → Ans (EnergiesIn Float)
-energies_from s t x rho table run =
+-- '1; 2 for temperature, fractions or densities; 6; 7 if a contribution is not finite', of any run: 7 looks at the float run's values
+abbrev pub tested : (A : Arith) → SaftVRQMiePars → Float → List Float → List Float → List Float → Ans (EnergiesIn A.Num) → Ans (EnergiesIn A.Num)
+tested A s t x rho table run =
     demand 1 (state_lengths s.count x rho table) >>= λ _.
     demand 2 (state_within s.count t x rho) >>= λ _.
     run >>= λ e.
-    demand 7 (energies_finite e) >>= λ _.
+    demand 7 (energies_finite (each_in A.val e)) >>= λ _.
     held e
+
+-- of any float run
+abbrev pub energies_from : SaftVRQMiePars → Float → List Float → List Float → List Float → Ans (EnergiesIn Float) → Ans (EnergiesIn Float)
+energies_from = tested floats
 
 -- whatever the elementary functions answer
 unfoldable pub energies_by : Answers → SaftVRQMiePars → Float → List Float → List Float → List Float → Bool → Ans (EnergiesIn Float)

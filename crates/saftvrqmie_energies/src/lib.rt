@@ -1,16 +1,17 @@
 // The Helmholtz energy densities of SAFT-VRQ Mie: hard sphere, dispersion, non-additive (saftvrqmie/eos).
 #![tactic(auto)]
 
-ghost use Rattle.std.specs.Prelude.{◌≡◌, ◌*◌, ◌<◌, ◌≤◌, true};
+ghost use Rattle.std.specs.Prelude.{◌≡◌, ◌*◌, ◌<◌, ◌≤◌, true, ℕ, Float, List, [], length};
 ghost use Rattle.number.specs.Answer.{answer_by};
 ghost use Rattle.sizes.specs.Sizes.{side, sheet};
 ghost use Rattle.saftvrqmie_hard_sphere.specs.State.{points, First};
 ghost use Rattle.saftvrqmie_dispersion_sums.specs.State.{sheets_by};
-ghost use Rattle.saftvrqmie_parameters.specs.declared.SaftVRQMiePars.{SaftVRQMiePars};
-ghost use Rattle.saftvrqmie_energies.specs.Energies.{energies_in, energies_answer, each_by, each_taken, contributions, energies_finite, state_lengths, energies};
+ghost use Rattle.saftvrqmie_energies.specs.Energies.{energies_answer, each_by, each_taken, contributions, energies_finite, state_lengths, tested, energies};
+ghost use Rattle.saftvrqmie_energies.specs.Reads.{set_of};
 
 use dual_num::{DualNum, NumberList};
 use number::Refusal;
+use plain_num::PlainNum;
 use saftvrqmie_dispersion_sums::State;
 use saftvrqmie_parameters::{OrderRecord, SaftVRQMiePars};
 use sizes::{SHEET, SHEETS, SIDE, TABLE};
@@ -25,12 +26,43 @@ pub struct Energies<D> {
 
 pub type QuantumEnergies = Energies<f64>;
 
-fn all_finite(e: QuantumEnergies) -> bool
-    ensures { result ≡ energies_finite (energies_in e) }
+// A set's parts where they lie: the boundary has lists and no set, and one made of them would be copied.
+#[derive(Clone, Copy)]
+pub struct Set<'a> {
+    pub count: usize,
+    pub m: &'a [f64; SIDE],
+    pub sheets: &'a [f64; SHEETS],
+    pub orders: &'a [OrderRecord; SHEET],
+}
+
+// What a set's energies are asked at.
+#[derive(Clone, Copy)]
+pub struct StateLists<'a> {
+    pub temperature: f64,
+    pub fractions: &'a [f64],
+    pub densities: &'a [f64],
+    pub table: &'a [f64],
+    pub non_additive: bool,
+}
+
+pub fn lent(set: &SaftVRQMiePars) -> Set
+    ensures { set_of result ≡ set.now }
 {
-    number::is_finite(e.hard_sphere)
-        & number::is_finite(e.dispersion)
-        & number::is_finite(e.non_additive)
+    Set {
+        count: set.count,
+        m: &set.m,
+        sheets: &set.sheets,
+        orders: &set.orders,
+    }
+}
+
+// Of the float run's values, which the two-ended run has too.
+pub fn all_finite<D: PlainNum>(e: Energies<D>) -> bool
+    ensures { result ≡ energies_finite (each_by (λ x. (D.beside true).val (D.of true x)) e) }
+{
+    number::is_finite(e.hard_sphere.value())
+        & number::is_finite(e.dispersion.value())
+        & number::is_finite(e.non_additive.value())
 }
 
 pub fn right_lengths(n: usize, x: &[f64], rho: &[f64], table: &[f64]) -> bool
@@ -73,54 +105,64 @@ pub fn contributions<D: DualNum>(
     })
 }
 
-// Hard sphere, dispersion and, if wanted, non-additive, over a set's parts, as the boundary reads them: a set made of them would be copied. 1, 2, 6, 7.
-pub fn energies_of(
-    n: usize,
-    m: &[f64; SIDE],
-    sheets: &[f64; SHEETS],
-    orders: [OrderRecord; SHEET],
-    temperature: f64,
-    fractions: &[f64],
-    densities: &[f64],
-    table: &[f64],
-    non_additive: bool,
-) -> Result<QuantumEnergies, Refusal>
-    ensures { let set : SaftVRQMiePars = record { count = n; m = m.now; sheets = sheets.now; orders = orders } in
-        energies_answer result ≡ energies set temperature fractions.now densities.now table.now non_additive }
+// Hard sphere, dispersion and, if wanted, non-additive, of a run without slopes, which reads each entry of a list. xs and alphas are room. 1, 2, 6, 7.
+pub fn energies_run<D: PlainNum>(
+    set: &Set,
+    q: &StateLists,
+    xs: &mut [D; SIDE],
+    alphas: &mut [D; SHEET],
+) -> Result<Energies<D>, Refusal>
+    requires { (l : List Float) (i : ℕ) → i < length l → D.has l [] i }
+    ensures { let A = D.beside true in
+        let s = set_of set.now in
+        let t = A.lit q.now.temperature in
+        let read = λ (l : List Float). D.entry_of true l [] in
+        let sheets = sheets_by A s.count s.sheets s.orders t (read q.now.table.now) in
+        let run = contributions A (D.functions true) sheets (read q.now.fractions.now) (read q.now.densities.now) (points A s.m) t q.now.non_additive in
+        answer_by (each_by (D.of true)) result ≡ tested A s q.now.temperature q.now.fractions.now q.now.densities.now q.now.table.now run }
 {
-    if !right_lengths(n, fractions, densities, table) {
+    let n = set.count;
+    if !right_lengths(n, q.fractions, q.densities, q.table) {
         return Err(Refusal::Length);
     }
-    if !limits::state_within(n, temperature, fractions, densities) {
+    if !limits::state_within(n, q.temperature, q.fractions, q.densities) {
         return Err(Refusal::Limit);
     }
     let s = State {
         n,
-        sheets,
-        orders,
-        temperature,
+        sheets: set.sheets,
+        orders: *set.orders,
+        temperature: D::entered(q.temperature),
         table: NumberList {
-            values: table,
+            values: q.table,
             slopes: &[],
         },
     };
     let x = NumberList {
-        values: fractions,
+        values: q.fractions,
         slopes: &[],
     };
     let rho = NumberList {
-        values: densities,
+        values: q.densities,
         slopes: &[],
     };
-    let mut xs = [0.0; SIDE];
-    let mut alphas = [0.0; SHEET];
-    let e = contributions(&s, m, &x, &rho, non_additive, &mut xs, &mut alphas)?;
+    let e = contributions(&s, set.m, &x, &rho, q.non_additive, xs, alphas)?;
     if !all_finite(e) {
         return Err(Refusal::NotFinite);
     }
     Ok(e)
 }
 
+// Over a set's parts. 1, 2, 6, 7.
+pub fn energies_of(set: &Set, q: &StateLists) -> Result<QuantumEnergies, Refusal>
+    ensures { energies_answer result ≡ energies (set_of set.now) q.now.temperature q.now.fractions.now q.now.densities.now q.now.table.now q.now.non_additive }
+{
+    let mut xs = [0.0; SIDE];
+    let mut alphas = [0.0; SHEET];
+    energies_run(set, q, &mut xs, &mut alphas)
+}
+
+// Hard sphere, dispersion and, if wanted, non-additive. 1, 2, 6, 7.
 pub fn helmholtz_energy_densities(
     set: SaftVRQMiePars,
     temperature: f64,
@@ -131,18 +173,13 @@ pub fn helmholtz_energy_densities(
 ) -> Result<QuantumEnergies, Refusal>
     ensures { energies_answer result ≡ energies set temperature fractions.now densities.now table.now non_additive }
 {
-    let m = set.m;
-    let sheets = set.sheets;
-    let orders = set.orders;
-    energies_of(
-        set.count,
-        &m,
-        &sheets,
-        orders,
+    let parts = lent(&set);
+    let q = StateLists {
         temperature,
         fractions,
         densities,
         table,
         non_additive,
-    )
+    };
+    energies_of(&parts, &q)
 }

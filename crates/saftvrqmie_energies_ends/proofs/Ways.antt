@@ -13,7 +13,7 @@ use Rattle.enclosure.specs.Enclosure.{enclosures}
 use Rattle.enclosure.proofs.Relations.{Value, values}
 use Rattle.saftvrqmie_parameters.specs.declared.SaftVRQMiePars.{SaftVRQMiePars}
 use Rattle.limits.specs.Limits.{state_within}
-use Rattle.saftvrqmie_energies.specs.Energies.{EnergiesIn, contributions_of, energies_finite, state_lengths, energies_by}
+use Rattle.saftvrqmie_energies.specs.Energies.{EnergiesIn, contributions_of, energies_finite, state_lengths, tested, energies_by}
 use Rattle.saftvrqmie_energies.proofs.Relation.{EnergiesR, contributions_of_rel}
 use Rattle.saftvrqmie_energies_ends.specs.Operation.{values_of, each_ends, all_sound, sound_ends, energies_enclosed, energies_ends}
 
@@ -31,6 +31,24 @@ pub float_refused : {e : Ans (EnergiesIn Enclosure)} {f : Ans (EnergiesIn Float)
 float_refused (both_held p) k h = let z : ◌≡◌ {A = Bool} true false = cc in absurd (mathlib.Core.Bool.true≢false z)
 float_refused both_refused k h = cc
 
+after_seven : {S T : Type 0} (b : Bool) (x : S) (y : T) → (demand 7 b >>= λ _. held x) ≡ ((demand 7 b >>= λ _. held y) >>= λ _. held x)
+unfolding demand ◌>>=◌
+after_seven true x y = refl
+after_seven false x y = refl
+
+values_tested : {e : Ans (EnergiesIn Enclosure)} {f : Ans (EnergiesIn Float)} → Both (EnergiesR Value) e f → (e >>= λ b. demand 7 (energies_finite (values_of b)) >>= λ _. held b) ≡ ((f >>= λ v. demand 7 (energies_finite v) >>= λ _. held v) >>= λ _. e)
+unfolding ◌>>=◌
+values_tested (both_held {x = x} {y = y} p) =
+    let g : y ≡ values_of x = sym (parts (values_of x) y p.hard_sphere p.dispersion p.non_additive) in
+    rw g (after_seven (energies_finite (values_of x)) x (values_of x))
+values_tested (both_refused {n = n}) = refl
+
+behind_tests : {S T : Type 0} (l i : Bool) (v : Ans S) (f : Ans T) (e : Ans S) → v ≡ (f >>= λ _. e) → (demand 1 l >>= λ _. demand 2 i >>= λ _. v) ≡ ((demand 1 l >>= λ _. demand 2 i >>= λ _. f) >>= λ _. e)
+unfolding demand ◌>>=◌
+behind_tests false i v f e h = refl
+behind_tests true false v f e h = refl
+behind_tests true true v f e h = h
+
 module _ (E : Answers) (s : SaftVRQMiePars) (t : Float) (x rho table : List Float) (wanted : Bool) where
   abbrev worked : Ans (EnergiesIn Enclosure)
   worked = contributions_of enclosures (calls enclosures E) s t x rho table wanted
@@ -44,28 +62,10 @@ module _ (E : Answers) (s : SaftVRQMiePars) (t : Float) (x rho table : List Floa
   pub worked_values : Both (EnergiesR Value) worked floating
   worked_values = contributions_of_rel enclosures floats values (calls enclosures E) (calls floats E) (calls_rel enclosures floats values E) s t x rho table wanted
 
-  pub refuses_1 : state_lengths s.count x rho table ≡ false → refused 1 ≡ outcome
-  unfolding energies_enclosed energies_by demand ◌>>=◌
-  refuses_1 p = rw p
-
-  module _ (p : state_lengths s.count x rho table ≡ true) where
-    pub refuses_2 : state_within s.count t x rho ≡ false → refused 2 ≡ outcome
-    unfolding energies_enclosed energies_by demand ◌>>=◌
-    refuses_2 q = rw (p, q)
-
-    module _ (q : state_within s.count t x rho ≡ true) where
-      pub stops : (k : ℕ) → worked ≡ refused k → refused k ≡ outcome
-      unfolding energies_enclosed energies_by demand ◌>>=◌
-      stops k h = rw (p, q, float_refused worked_values k h)
-
-      module _ (b : EnergiesIn Enclosure) (works : worked ≡ held b) where
-        pub refuses_7 : energies_finite (values_of b) ≡ false → refused 7 ≡ outcome
-        unfolding energies_enclosed energies_by demand ◌>>=◌
-        refuses_7 g = rw (p, q, float_held worked_values _ works, g)
-
-        pub holds : energies_finite (values_of b) ≡ true → held b ≡ outcome
-        unfolding energies_enclosed energies_by demand ◌>>=◌
-        holds g = rw (p, q, float_held worked_values _ works, g, works)
+  -- the float operation's refusals are the two-ended run's own
+  pub enclosed : tested enclosures s t x rho table worked ≡ outcome
+  unfolding energies_enclosed energies_by
+  enclosed = behind_tests (state_lengths s.count x rho table) (state_within s.count t x rho) _ _ worked (values_tested worked_values)
 
 -- ---- then 8
 pub unsound : (b : EnergiesIn Enclosure) → all_sound b ≡ false → refused 8 ≡ sound_ends b

@@ -4,17 +4,15 @@
 ghost use Rattle.std.specs.Prelude.{◌≡◌};
 ghost use Rattle.elementary.specs.Port.{port};
 ghost use Rattle.enclosure.specs.Ends.{ends_in};
-ghost use Rattle.saftvrqmie_parameters.specs.declared.SaftVRQMiePars.{SaftVRQMiePars};
-ghost use Rattle.saftvrqmie_energies.specs.Energies.{energies_in, energies_answer, energies_finite};
-ghost use Rattle.saftvrqmie_energies_ends.specs.Operation.{values_of, all_sound, sound_ends, energies_enclosed, energies_ends};
+ghost use Rattle.saftvrqmie_energies.specs.Energies.{energies_in, energies_answer};
+ghost use Rattle.saftvrqmie_energies.specs.Reads.{set_of};
+ghost use Rattle.saftvrqmie_energies_ends.specs.Operation.{all_sound, sound_ends, energies_enclosed, energies_ends};
 
-use dual_num::NumberList;
 use enclosure::{Enclosure, Ends};
 use number::Refusal;
-use saftvrqmie_dispersion_sums::State;
-use saftvrqmie_energies::Energies;
-use saftvrqmie_parameters::{OrderRecord, SaftVRQMiePars};
-use sizes::{SHEET, SHEETS, SIDE};
+use saftvrqmie_energies::{Energies, Set, StateLists, energies_run};
+use saftvrqmie_parameters::SaftVRQMiePars;
+use sizes::{SHEET, SIDE};
 
 // The two ends of each contribution.
 pub type EnergiesEnds = Energies<Ends>;
@@ -32,15 +30,6 @@ fn ends_in(b: Enclosure) -> Ends
     }
 }
 
-fn all_finite(e: EnergiesEnclosures) -> bool
-    ensures { result ≡ energies_finite (values_of (energies_in e)) }
-{
-    let h = e.hard_sphere;
-    let d = e.dispersion;
-    let a = e.non_additive;
-    number::is_finite(h.value) & number::is_finite(d.value) & number::is_finite(a.value)
-}
-
 fn all_sound(e: EnergiesEnclosures) -> bool
     ensures { result ≡ all_sound (energies_in e) }
 {
@@ -53,61 +42,14 @@ fn all_sound(e: EnergiesEnclosures) -> bool
     x.sound & y.sound & z.sound
 }
 
-// The enclosures of hard sphere, dispersion and, if wanted, non-additive, over a set's parts, as the boundary reads them: a set made of them would be copied. 1, 2, 6, 7.
-pub fn enclosures_of(
-    n: usize,
-    m: &[f64; SIDE],
-    sheets: &[f64; SHEETS],
-    orders: [OrderRecord; SHEET],
-    temperature: f64,
-    fractions: &[f64],
-    densities: &[f64],
-    table: &[f64],
-    non_additive: bool,
-) -> Result<EnergiesEnclosures, Refusal>
-    ensures { let set : SaftVRQMiePars = record { count = n; m = m.now; sheets = sheets.now; orders = orders } in
-        energies_answer result ≡ energies_enclosed port set temperature fractions.now densities.now table.now non_additive }
+// The enclosures of hard sphere, dispersion and, if wanted, non-additive, over a set's parts. 1, 2, 6, 7.
+pub fn enclosures_of(set: &Set, q: &StateLists) -> Result<EnergiesEnclosures, Refusal>
+    ensures { energies_answer result ≡ energies_enclosed port (set_of set.now) q.now.temperature q.now.fractions.now q.now.densities.now q.now.table.now q.now.non_additive }
 {
-    if !saftvrqmie_energies::right_lengths(n, fractions, densities, table) {
-        return Err(Refusal::Length);
-    }
-    if !limits::state_within(n, temperature, fractions, densities) {
-        return Err(Refusal::Limit);
-    }
-    let s = State {
-        n,
-        sheets,
-        orders,
-        temperature: Enclosure::point(temperature),
-        table: NumberList {
-            values: table,
-            slopes: &[],
-        },
-    };
-    let x = NumberList {
-        values: fractions,
-        slopes: &[],
-    };
-    let rho = NumberList {
-        values: densities,
-        slopes: &[],
-    };
     let zero = Enclosure::point(0.0);
     let mut xs = [zero; SIDE];
     let mut alphas = [zero; SHEET];
-    let e = saftvrqmie_energies::contributions(
-        &s,
-        m,
-        &x,
-        &rho,
-        non_additive,
-        &mut xs,
-        &mut alphas,
-    )?;
-    if !all_finite(e) {
-        return Err(Refusal::NotFinite);
-    }
-    Ok(e)
+    energies_run(set, q, &mut xs, &mut alphas)
 }
 
 // 8 where a contribution's enclosure is not sound, else the ends of each.
@@ -124,38 +66,15 @@ pub fn sound_ends(e: EnergiesEnclosures) -> Result<EnergiesEnds, Refusal>
     })
 }
 
-// The two ends of hard sphere, dispersion and, if wanted, non-additive, over a set's parts. 1, 2, 6, 7, 8.
-pub fn energies_ends_of(
-    n: usize,
-    m: &[f64; SIDE],
-    sheets: &[f64; SHEETS],
-    orders: [OrderRecord; SHEET],
-    temperature: f64,
-    fractions: &[f64],
-    densities: &[f64],
-    table: &[f64],
-    non_additive: bool,
-) -> Result<EnergiesEnds, Refusal>
-    ensures { let set : SaftVRQMiePars = record { count = n; m = m.now; sheets = sheets.now; orders = orders } in
-        energies_answer result ≡ energies_ends port set temperature fractions.now densities.now table.now non_additive }
+// The two ends of each, over a set's parts. 1, 2, 6, 7, 8.
+pub fn energies_ends_of(set: &Set, q: &StateLists) -> Result<EnergiesEnds, Refusal>
+    ensures { energies_answer result ≡ energies_ends port (set_of set.now) q.now.temperature q.now.fractions.now q.now.densities.now q.now.table.now q.now.non_additive }
 {
-    let worked = enclosures_of(
-        n,
-        m,
-        sheets,
-        orders,
-        temperature,
-        fractions,
-        densities,
-        table,
-        non_additive,
-    );
-    match worked {
-        Err(k) => Err(k),
-        Ok(e) => sound_ends(e),
-    }
+    let e = enclosures_of(set, q)?;
+    sound_ends(e)
 }
 
+// The two ends of hard sphere, dispersion and, if wanted, non-additive. 1, 2, 6, 7, 8.
 pub fn helmholtz_energy_densities_ends(
     set: SaftVRQMiePars,
     temperature: f64,
@@ -166,18 +85,13 @@ pub fn helmholtz_energy_densities_ends(
 ) -> Result<EnergiesEnds, Refusal>
     ensures { energies_answer result ≡ energies_ends port set temperature fractions.now densities.now table.now non_additive }
 {
-    let m = set.m;
-    let sheets = set.sheets;
-    let orders = set.orders;
-    energies_ends_of(
-        set.count,
-        &m,
-        &sheets,
-        orders,
+    let parts = saftvrqmie_energies::lent(&set);
+    let q = StateLists {
         temperature,
         fractions,
         densities,
         table,
         non_additive,
-    )
+    };
+    energies_ends_of(&parts, &q)
 }

@@ -6,13 +6,13 @@ ghost use Rattle.number.specs.Answer.{answer_by};
 ghost use Rattle.number.specs.Arith.{zero64};
 ghost use Rattle.number.specs.Functions.{calls};
 ghost use Rattle.elementary.specs.Port.{port};
-ghost use Rattle.saftvrqmie_energies.specs.Energies.{each_by, energies_answer, energies_finite, contributions_of, energies};
+ghost use Rattle.saftvrqmie_energies.specs.Energies.{each_by, energies_answer, contributions_of, energies};
 ghost use Rattle.saftvrqmie_tank.specs.Tank.{Layer, most_layers, lists_of, layers_within, tank_lengths, volume_within, layer_within, piled, layer_piled, behind, layer_answer, layers_answer, tank};
 
 use enclosure::Enclosure;
 use number::Refusal;
 use plain_num::PlainNum;
-use saftvrqmie_energies::{Energies, QuantumEnergies};
+use saftvrqmie_energies::{Energies, QuantumEnergies, StateLists};
 use saftvrqmie_parameters::SaftVRQMiePars;
 use sizes::{COUNTS, TABLE};
 
@@ -30,6 +30,7 @@ pub struct Layers<'a> {
 }
 
 // A run that works a layer's energies from its table. 1, 2, 6, 7 of the float run.
+// The arguments stand alone: of a trait's method that takes `Set` and `StateLists`, which carry lifetimes, the proof of `layer_of` did not close.
 pub trait LayerRun: PlainNum {
     fn energies(
         set: &SaftVRQMiePars,
@@ -54,17 +55,15 @@ impl LayerRun for f64 {
         table: &[f64],
         non_additive: bool,
     ) -> Result<Energies<f64>, Refusal> {
-        saftvrqmie_energies::energies_of(
-            set.count,
-            &set.m,
-            &set.sheets,
-            set.orders,
+        let parts = saftvrqmie_energies::lent(set);
+        let q = StateLists {
             temperature,
             fractions,
             densities,
             table,
             non_additive,
-        )
+        };
+        saftvrqmie_energies::energies_of(&parts, &q)
     }
 }
 
@@ -77,17 +76,15 @@ impl LayerRun for Enclosure {
         table: &[f64],
         non_additive: bool,
     ) -> Result<Energies<Enclosure>, Refusal> {
-        saftvrqmie_energies_ends::enclosures_of(
-            set.count,
-            &set.m,
-            &set.sheets,
-            set.orders,
+        let parts = saftvrqmie_energies::lent(set);
+        let q = StateLists {
             temperature,
             fractions,
             densities,
             table,
             non_additive,
-        )
+        };
+        saftvrqmie_energies_ends::enclosures_of(&parts, &q)
     }
 }
 
@@ -232,13 +229,6 @@ pub fn layers_of<D: LayerRun>(
     Ok(below)
 }
 
-// Of the float run's values, which the two-ended run has too.
-pub fn all_finite(hard_sphere: f64, dispersion: f64, non_additive: f64) -> bool
-    ensures { result ≡ energies_finite (record { hard_sphere = hard_sphere; dispersion = dispersion; non_additive = non_additive }) }
-{
-    number::is_finite(hard_sphere) & number::is_finite(dispersion) & number::is_finite(non_additive)
-}
-
 // The tank's hard sphere, dispersion and, if wanted, non-additive. 14, 1, then layer by layer 2, 6, 7, then 7 of the tank.
 pub fn tank(
     set: &SaftVRQMiePars,
@@ -254,7 +244,7 @@ pub fn tank(
         return Err(Refusal::Length);
     }
     let e = layers_of::<f64>(set, q, non_additive)?;
-    if !all_finite(e.hard_sphere, e.dispersion, e.non_additive) {
+    if !saftvrqmie_energies::all_finite(e) {
         return Err(Refusal::NotFinite);
     }
     Ok(e)

@@ -27,10 +27,7 @@ pub fn tank_ends(
         return Err(Refusal::Length);
     }
     let e = saftvrqmie_tank::layers_of::<Enclosure>(set, q, non_additive)?;
-    let h = e.hard_sphere;
-    let d = e.dispersion;
-    let a = e.non_additive;
-    if !saftvrqmie_tank::all_finite(h.value, d.value, a.value) {
+    if !saftvrqmie_energies::all_finite(e) {
         return Err(Refusal::NotFinite);
     }
     saftvrqmie_energies_ends::sound_ends(e)

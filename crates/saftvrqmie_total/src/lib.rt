@@ -8,7 +8,7 @@ ghost use Rattle.saftvrqmie_total.specs.Total.{contributions_total, total};
 
 use number::Refusal;
 use rounded_sum::RoundedSum;
-use saftvrqmie_energies::QuantumEnergies;
+use saftvrqmie_energies::{QuantumEnergies, StateLists};
 use saftvrqmie_parameters::SaftVRQMiePars;
 
 #[derive(Clone, Copy)]
@@ -50,16 +50,14 @@ pub fn total(
 ) -> Result<QuantumTotal, Refusal>
     ensures { answer result ≡ total set.now temperature fractions.now densities.now table.now non_additive }
 {
-    let e = saftvrqmie_energies::energies_of(
-        set.count,
-        &set.m,
-        &set.sheets,
-        set.orders,
+    let parts = saftvrqmie_energies::lent(set);
+    let q = StateLists {
         temperature,
         fractions,
         densities,
         table,
         non_additive,
-    )?;
+    };
+    let e = saftvrqmie_energies::energies_of(&parts, &q)?;
     contributions_total(e, non_additive)
 }

@@ -2,7 +2,7 @@
 //! in any order, desks of arbitrary bits, and the processor time of a query at a full desk beside the direct calls.
 use unproved::desk::{BYTES, DeskQuery, FLOATS, Served, begin, serve, submit};
 use unproved::number::Refusal;
-use unproved::saftvrqmie_energies::{QuantumEnergies, energies_of};
+use unproved::saftvrqmie_energies::{QuantumEnergies, Set, StateLists, energies_of};
 use unproved::{limits, saftvrqmie, set_lists};
 
 const PLACES: usize = 16;
@@ -106,7 +106,9 @@ impl Query {
         let (mut table, mut counts) = (vec![7.0; 4 * SHEET], vec![9; 3 * SHEET]);
         saftvrqmie::table_of(self.count, &sheets, orders, self.temperature, &mut table, &mut counts).map_err(Refusal::code)?;
         let (x, rho) = (&self.fractions, &self.densities);
-        answer(energies_of(self.count, &m, &sheets, orders, self.temperature, x, rho, &table, self.non_additive))
+        let set = Set { count: self.count, m: &m, sheets: &sheets, orders: &orders };
+        let state = StateLists { temperature: self.temperature, fractions: x, densities: rho, table: &table, non_additive: self.non_additive };
+        answer(energies_of(&set, &state))
     }
 
     fn submit(&self, floats: &mut [f64], bytes: &mut [u8]) -> Result<usize, u8> {

@@ -1,12 +1,8 @@
 -- `saftvrqmie_energies::all_finite` meets its contract. Assumes nothing.
+use mathlib.Core.Bool.{true}
 use Rattle.saftvrqmie_energies.specs.Energies.{energies_finite}
 use Rattle.saftvrqmie_energies.proofs.all_finite.Goals as goal
 
 pub returns : goal.returns
 unfolding energies_finite
-returns c =
-    rw (
-      c.is_finite-3.ensures,
-      c.is_finite-2.ensures,
-      c.is_finite.ensures,
-    )
+returns g c = rw (c.is_finite-3.ensures, c.is_finite-2.ensures, c.is_finite.ensures, c.value-3.ensures true, c.value-2.ensures true, c.value.ensures true)
