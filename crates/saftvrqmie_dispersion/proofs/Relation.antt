@@ -16,7 +16,7 @@ use Rattle.saftvrqmie_potential.specs.Potential.{PairIn, order_number, first_ord
 use Rattle.saftvrqmie_potential.proofs.Relation.{PairR, quantum_d_rel}
 use Rattle.saftvrqmie_dispersion_terms.proofs.Relation.{combine_sutherland_and_b_rel}
 use Rattle.saftvrqmie_dispersion.specs.Alpha.{ratio, dmt_of, alpha_mie, alpha_q1, alpha_q2, alpha_of, alpha, f, chi, third_order_ij}
-use Rattle.saftvrqmie_dispersion.specs.Perturbation.{DispersionIn, QuantumIn, FactorsIn, dispersion_pair, k_factor, quantum1, quantum2, quantum_of, factors0, factors1, factors2, factors2_more, factors3, factors4, factors, first_mie, first_q1, first_q2, first_closed, first_order_by, second_turn, second_closed, second_order_by, combine_of, first_order_ij, second_order_ij}
+use Rattle.saftvrqmie_dispersion.specs.Perturbation.{DispersionIn, QuantumIn, FactorsIn, dispersion_pair, k_factor, quantum1, quantum2, quantum_of, factors0, factors1, factors2, factors2_more, factors3, factors4, factors, first_mie, first_quantum, first_closed, first_order_by, second_turn, second_closed, second_order_by, combine_of, first_order_ij, second_order_ij}
 
 -- two pairs' values, part by part; the order is one
 pub record DispersionR {S T : Type 0} (R : S → T → Type 0) (p : DispersionIn S) (q : DispersionIn T) : Type 0 where
@@ -170,26 +170,19 @@ module _ (A B : Arith) (K : Rel A B) where
       unfolding first_mie
       first_mie_rel = then_both (C _ _ P.la) (λ _ _ x. then_both (C _ _ P.lr) (λ _ _ y. both_held (r_sub x y)))
 
-      first_q1_rel : {v : A.Num} {w : B.Num} → R v w → Both R (first_q1 A p h v) (first_q1 B q k w)
-      unfolding first_q1
-      first_q1_rel v =
-          let d = P.dq_div_sigma_2 in
-          then_both (C _ _ (r_add P.la (r_lit _))) (λ _ _ x. then_both (C _ _ (r_add P.lr (r_lit _))) (λ _ _ y.
-          both_held (r_add v (r_sub (r_mul x (quantum1_rel d P.la)) (r_mul y (quantum1_rel d P.lr))))))
-
-      first_q2_rel : {v : A.Num} {w : B.Num} → R v w → Both R (first_q2 A p h v) (first_q2 B q k w)
-      unfolding first_q2
-      first_q2_rel v =
-          let d = P.dq_div_sigma_2 in
-          then_both (C _ _ (r_add P.la (r_lit _))) (λ _ _ x. then_both (C _ _ (r_add P.lr (r_lit _))) (λ _ _ y.
-          both_held (r_add v (r_sub (r_mul x (quantum2_rel d P.la)) (r_mul y (quantum2_rel d P.lr))))))
+      first_quantum_rel : {m a r v : A.Num} {n b s w : B.Num} → R m n → R a b → R r s → R v w → Both R (first_quantum A p h m a r v) (first_quantum B q k n b s w)
+      unfolding first_quantum
+      first_quantum_rel m a r v =
+          then_both (C _ _ (r_add P.la m)) (λ _ _ x. then_both (C _ _ (r_add P.lr m)) (λ _ _ y.
+          both_held (r_add v (r_sub (r_mul x a) (r_mul y r)))))
 
       first_order_by_rel : Both R (first_order_by A p h) (first_order_by B q k)
       unfolding first_order_by first_closed
       first_order_by_rel =
+          let d = P.dq_div_sigma_2 in
           then_both first_mie_rel (λ _ _ v.
-          then_both (cond_rel (Both R) _ _ (ap first_order P.order) (first_q1_rel v) (both_held v)) (λ _ _ v₁.
-          then_both (cond_rel (Both R) _ _ (ap second_order P.order) (first_q2_rel v₁) (both_held v₁)) (λ _ _ v₂.
+          then_both (cond_rel (Both R) _ _ (ap first_order P.order) (first_quantum_rel (r_lit _) (quantum1_rel d P.la) (quantum1_rel d P.lr) v) (both_held v)) (λ _ _ v₁.
+          then_both (cond_rel (Both R) _ _ (ap second_order P.order) (first_quantum_rel (r_lit _) (quantum2_rel d P.la) (quantum2_rel d P.lr) v₁) (both_held v₁)) (λ _ _ v₂.
           both_held (r_after P.dq_div_sigma_2 (r_mul v₂ P.c)))))
 
       second_turn_rel : {g : QuantumIn A.Num} {g' : QuantumIn B.Num} → QuantumR R g g' → (n : ℕ) (x : A.Num) (u : B.Num) → R x u → Both R (second_turn A p h g n x) (second_turn B q k g' n u)

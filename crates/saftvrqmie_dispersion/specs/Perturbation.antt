@@ -166,18 +166,19 @@ module _ (A : Arith) where
         combine p.lr >>= λ int-r.
         held (int-a ⊖ int-r)
 
-    -- the quantum corrections of first and of second order
-    unfoldable pub first_q1 : Num → Ans Num
-    first_q1 v =
-        combine (p.la ⊕ two) >>= λ int-qa.
-        combine (p.lr ⊕ two) >>= λ int-qr.
-        held (v ⊕ (int-qa ⊗ quantum1 p.dq_div_sigma_2 p.la ⊖ int-qr ⊗ quantum1 p.dq_div_sigma_2 p.lr))
+    -- a quantum correction: what the exponents grow by, and the factors of both
+    unfoldable pub first_quantum : Num → Num → Num → Num → Ans Num
+    first_quantum more qa qr v =
+        combine (p.la ⊕ more) >>= λ int-qa.
+        combine (p.lr ⊕ more) >>= λ int-qr.
+        held (v ⊕ (int-qa ⊗ qa ⊖ int-qr ⊗ qr))
 
-    unfoldable pub first_q2 : Num → Ans Num
-    first_q2 v =
-        combine (p.la ⊕ whole A 4) >>= λ int-qa2.
-        combine (p.lr ⊕ whole A 4) >>= λ int-qr2.
-        held (v ⊕ (int-qa2 ⊗ quantum2 p.dq_div_sigma_2 p.la ⊖ int-qr2 ⊗ quantum2 p.dq_div_sigma_2 p.lr))
+    -- of first and of second order
+    abbrev pub first_q1 : Num → Ans Num
+    first_q1 = first_quantum two (quantum1 p.dq_div_sigma_2 p.la) (quantum1 p.dq_div_sigma_2 p.lr)
+
+    abbrev pub first_q2 : Num → Ans Num
+    first_q2 = first_quantum (whole A 4) (quantum2 p.dq_div_sigma_2 p.la) (quantum2 p.dq_div_sigma_2 p.lr)
 
     unfoldable pub first_order_by : Ans Num
     first_order_by =

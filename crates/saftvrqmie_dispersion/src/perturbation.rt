@@ -3,7 +3,7 @@ ghost use Rattle.std.specs.Prelude.{◌≡◌, Bool, ◌+◌, ◌*◌};
 ghost use Rattle.number.specs.Answer.{answer_by};
 ghost use Rattle.saftvrqmie_potential.specs.Potential.{pair_by, order_number};
 ghost use Rattle.saftvrqmie_dispersion_terms.specs.Terms.{terms_by};
-ghost use Rattle.saftvrqmie_dispersion.specs.Perturbation.{dispersion_by, quantum_by, factors_by, taken_each, dispersion_pair, k_factor, quantum1, quantum2, quantum_of, first_mie, first_q1, first_q2, first_closed, first_order_by, first_order_ij, factors0, factors1, factors2, factors2_more, factors3, factors4, factors, second_turn, second_closed, second_order_by, second_order_ij};
+ghost use Rattle.saftvrqmie_dispersion.specs.Perturbation.{dispersion_by, quantum_by, factors_by, taken_each, dispersion_pair, k_factor, quantum1, quantum2, quantum_of, first_mie, first_quantum, first_closed, first_order_by, first_order_ij, factors0, factors1, factors2, factors2_more, factors3, factors4, factors, second_turn, second_closed, second_order_by, second_order_ij};
 
 use dual_num::DualNum;
 use number::{Arithmetic, Refusal};
@@ -107,31 +107,21 @@ fn first_mie<D: DualNum>(p: &DispersionPair<D, D::Plain>, t: &PairTerms<D>) -> R
     Ok(int_a - int_r)
 }
 
-fn first_q1<D: DualNum>(
+// A quantum correction: `more` is what the exponents grow by, qa and qr are the factors of both.
+fn first_quantum<D: DualNum>(
     p: &DispersionPair<D, D::Plain>,
     t: &PairTerms<D>,
     v: D,
+    more: f64,
+    qa: D,
+    qr: D,
 ) -> Result<D, Refusal>
-    ensures { (w : Bool) → answer_by (D.of w) result ≡ first_q1 (D.beside w) (dispersion_by (D.plain w) (D.of w) p.now) (terms_by (D.beside w) (D.plain w) (D.of w) (D.power_at w) t.now) (D.of w v) }
+    ensures { (w : Bool) → let A = D.beside w in
+        let combine = terms_by A (D.plain w) (D.of w) (D.power_at w) t.now in
+        answer_by (D.of w) result ≡ first_quantum A (dispersion_by (D.plain w) (D.of w) p.now) combine (A.lit more) (D.of w qa) (D.of w qr) (D.of w v) }
 {
-    let int_qa = saftvrqmie_dispersion_terms::combine_at(t, p.la + D::Plain::lit(2.0))?;
-    let int_qr = saftvrqmie_dispersion_terms::combine_at(t, p.lr + D::Plain::lit(2.0))?;
-    let qa = quantum_1(p.dq_div_sigma_2, p.la);
-    let qr = quantum_1(p.dq_div_sigma_2, p.lr);
-    Ok(v + (int_qa * qa - int_qr * qr))
-}
-
-fn first_q2<D: DualNum>(
-    p: &DispersionPair<D, D::Plain>,
-    t: &PairTerms<D>,
-    v: D,
-) -> Result<D, Refusal>
-    ensures { (w : Bool) → answer_by (D.of w) result ≡ first_q2 (D.beside w) (dispersion_by (D.plain w) (D.of w) p.now) (terms_by (D.beside w) (D.plain w) (D.of w) (D.power_at w) t.now) (D.of w v) }
-{
-    let int_qa = saftvrqmie_dispersion_terms::combine_at(t, p.la + D::Plain::lit(4.0))?;
-    let int_qr = saftvrqmie_dispersion_terms::combine_at(t, p.lr + D::Plain::lit(4.0))?;
-    let qa = quantum_2(p.dq_div_sigma_2, p.la);
-    let qr = quantum_2(p.dq_div_sigma_2, p.lr);
+    let int_qa = saftvrqmie_dispersion_terms::combine_at(t, p.la + D::Plain::lit(more))?;
+    let int_qr = saftvrqmie_dispersion_terms::combine_at(t, p.lr + D::Plain::lit(more))?;
     Ok(v + (int_qa * qa - int_qr * qr))
 }
 
@@ -152,11 +142,16 @@ fn first_order_at<D: DualNum>(
     if !saftvrqmie_potential::first_order(p.order) {
         return Ok(first_closed(p, v));
     }
-    let v1 = first_q1(p, t, v)?;
+    let dq = p.dq_div_sigma_2;
+    let qa1 = quantum_1(dq, p.la);
+    let qr1 = quantum_1(dq, p.lr);
+    let v1 = first_quantum(p, t, v, 2.0, qa1, qr1)?;
     if !saftvrqmie_potential::second_order(p.order) {
         return Ok(first_closed(p, v1));
     }
-    let v2 = first_q2(p, t, v1)?;
+    let qa2 = quantum_2(dq, p.la);
+    let qr2 = quantum_2(dq, p.lr);
+    let v2 = first_quantum(p, t, v1, 4.0, qa2, qr2)?;
     Ok(first_closed(p, v2))
 }
 

@@ -8,7 +8,7 @@ use Rattle.slopes.specs.Rules.{mixed_functions}
 use Rattle.saftvrqmie_potential.specs.Potential.{PairIn, PotentialIn, first_order, second_order, prefactor, quantum_d, line, mie, add_first, add_second, after_shared, potential}
 use Rattle.saftvrqmie_dispersion_terms.specs.Terms.{sutherland, ilambda, jlambda, b, combine, combine_sutherland_and_b}
 use Rattle.saftvrqmie_dispersion.specs.Alpha.{ratio, dmt_of, alpha, third_order_ij}
-use Rattle.saftvrqmie_dispersion.specs.Perturbation.{DispersionIn, first_mie, first_q1, first_q2, first_order_by, second_turn, second_order_by, combine_of, first_order_ij, second_order_ij}
+use Rattle.saftvrqmie_dispersion.specs.Perturbation.{DispersionIn, first_mie, first_quantum, first_order_by, second_turn, second_order_by, combine_of, first_order_ij, second_order_ij}
 use Rattle.saftvrqmie_dispersion_sums.specs.State.{SheetsIn}
 use Rattle.saftvrqmie_hard_sphere.specs.HardSphere.{zeta_added, hard_sphere_of}
 use Rattle.saftvrqmie_hard_sphere.specs.HardSphere.{zeta, hard_sphere}
@@ -29,20 +29,16 @@ module _ (P P' Q Q' : Mixed → Ans Mixed) (p : (x : Mixed) → Le (P x) (P' x))
       then_le (then_le (then_le (q _) (λ _. le_refl)) (λ _. then_le (then_le (q _) (λ _. then_le (q _) (λ _. le_refl))) (λ _. then_le (p _) (λ _. le_refl)))) (λ _. le_refl))
 
 module _ (d : DispersionIn Mixed) (C C' : Mixed → Ans Mixed) (c : (x : Mixed) → Le (C x) (C' x)) where
-  first_1_le : (v : Mixed) → Le (first_q1 mixed d C v) (first_q1 mixed d C' v)
-  unfolding first_q1
-  first_1_le v = then_le (c _) (λ _. then_le (c _) (λ _. le_refl))
-
-  first_2_le : (v : Mixed) → Le (first_q2 mixed d C v) (first_q2 mixed d C' v)
-  unfolding first_q2
-  first_2_le v = then_le (c _) (λ _. then_le (c _) (λ _. le_refl))
+  first_quantum_le : (m a r v : Mixed) → Le (first_quantum mixed d C m a r v) (first_quantum mixed d C' m a r v)
+  unfolding first_quantum
+  first_quantum_le m a r v = then_le (c _) (λ _. then_le (c _) (λ _. le_refl))
 
   first_by_le : Le (first_order_by mixed d C) (first_order_by mixed d C')
   unfolding first_order_by first_mie
   first_by_le =
       then_le (then_le (c _) (λ _. then_le (c _) (λ _. le_refl))) (λ v.
-      then_le (cond_le (first_order d.order) (held v) (first_1_le v)) (λ v₁.
-      then_le (cond_le (second_order d.order) (held v₁) (first_2_le v₁)) (λ _. le_refl)))
+      then_le (cond_le (first_order d.order) (held v) (first_quantum_le _ _ _ v)) (λ v₁.
+      then_le (cond_le (second_order d.order) (held v₁) (first_quantum_le _ _ _ v₁)) (λ _. le_refl)))
 
   second_by_le : Le (second_order_by mixed d C) (second_order_by mixed d C')
   unfolding second_order_by second_turn

@@ -1,20 +1,18 @@
--- `saftvrqmie_dispersion::perturbation::first_q2` meets its contract. Assumes nothing.
-use lib.Ieee.{of_bits, neg}
-use Rattle.number.specs.Arith.{decimal}
+-- `saftvrqmie_dispersion::perturbation::first_quantum` meets its contract. Assumes nothing.
 use Rattle.number.specs.Ans.{◌>>=◌}
 use Rattle.number.proofs.Walk.{handed_on}
-use Rattle.saftvrqmie_dispersion.specs.Perturbation.{first_q2}
-use Rattle.saftvrqmie_dispersion.proofs.perturbation.first_q2.Goals as goal
+use Rattle.saftvrqmie_dispersion.specs.Perturbation.{first_quantum}
+use Rattle.saftvrqmie_dispersion.proofs.perturbation.first_quantum.Goals as goal
 
 pub returns-in_err-int_qa : goal.returns-in_err-int_qa
-unfolding first_q2 ◌>>=◌ decimal of_bits neg
+unfolding first_quantum ◌>>=◌
 returns-in_err-int_qa g c w =
     let m = g.met.D.DualNum in
     let int_qa = rw (m.plain_add_law w _ _ _ c.add.ensures, m.plain_lit_law w _ _ c.lit.ensures) at (c.in_err-int_qa.ensures w) in
     rw (handed_on _ c.from_residual.ensures, ← int_qa)
 
 pub returns-in_err-int_qr : goal.returns-in_err-int_qr
-unfolding first_q2 ◌>>=◌ decimal of_bits neg
+unfolding first_quantum ◌>>=◌
 returns-in_err-int_qr g c w =
     let m = g.met.D.DualNum in
     let int_qa = rw (m.plain_add_law w _ _ _ c.add.ensures, m.plain_lit_law w _ _ c.lit.ensures) at (c.in_ok-int_qa.ensures w) in
@@ -22,7 +20,7 @@ returns-in_err-int_qr g c w =
     rw (handed_on _ c.from_residual-in_err-int_qr.ensures, ← int_qa, ← int_qr)
 
 pub returns : goal.returns
-unfolding first_q2 ◌>>=◌ decimal of_bits neg
+unfolding first_quantum ◌>>=◌
 returns g c w =
     let m = g.met.D.DualNum in
     let int_qa = rw (m.plain_add_law w _ _ _ c.add.ensures, m.plain_lit_law w _ _ c.lit.ensures) at (c.in_ok-int_qa.ensures w) in
@@ -32,8 +30,6 @@ returns g c w =
       m.sub_law w _ _ _ c.sub.ensures,
       m.mul_law w _ _ _ c.mul-2.ensures,
       m.mul_law w _ _ _ c.mul.ensures,
-      c.quantum_2-qr.ensures w,
-      c.quantum_2-qa.ensures w,
       ← int_qa,
       ← int_qr,
     )
