@@ -1,11 +1,12 @@
 -- What the energies of the quantum model are worked from, in the numbers N: sheets of a set and of a table by their entry e.
-use Rattle.std.specs.Prelude.{ℕ, ◌<◌, ◌≡◌, Float, List}
+use Rattle.std.specs.Prelude.{ℕ, ◌*◌, ◌<◌, ◌≤◌, ◌≡◌, Float, List}
 use Rattle.number.specs.Arith.{Arith}
 use Rattle.number.specs.Lists.{nth}
-use Rattle.sizes.specs.Sizes.{cell}
+use Rattle.sizes.specs.Sizes.{side, sheet, cell}
 use Rattle.saftvrqmie_parameters.specs.declared.OrderRecord.{OrderRecord}
 use Rattle.saftvrqmie_potential.specs.Potential.{PairIn, pair_by, points_of, pair_at_entry}
-use Rattle.saftvrqmie_hard_sphere.specs.State.{sheet_of, sheet_in}
+use Rattle.saftvrqmie_hard_sphere.specs.State.{sheet_of, sheet_in, Entries}
+use Rattle.saftvrqmie_dispersion_sums.specs.declared.State.{State}
 
 pub record SheetsIn (N : Type 0) : Type 0 where
   pub count : ℕ
@@ -14,6 +15,10 @@ pub record SheetsIn (N : Type 0) : Type 0 where
   pub hs_diameter : ℕ → N
   pub epsilon_k_eff : ℕ → N
   pub quantum_d : ℕ → N
+
+-- what an operation has tested with 1, `has` saying which entries of a list a run can read
+abbrev pub Right : {D : Type 0} → (List Float → List Float → ℕ → Type 0) → State D → Type 0
+Right has s = (0 < s.n) × (s.n ≤ side) × Entries has (4 * sheet) s.table × Entries has s.n s.fractions × Entries has s.n s.densities
 
 module _ (A : Arith) where
   open A use {Num, lit}

@@ -2,16 +2,16 @@
 // In `beside true`, where a negated number is a D.
 #![tactic(auto)]
 
-ghost use Rattle.std.specs.Prelude.{◌≡◌, ◌*◌, ◌<◌, ◌≤◌, ℕ, true, map};
+ghost use Rattle.std.specs.Prelude.{◌≡◌, ◌<◌, ℕ, true, map};
 ghost use Rattle.number.specs.Answer.{answer_by};
 ghost use Rattle.number.specs.Lists.{nth};
 ghost use Rattle.number.specs.Walk.{walk};
-ghost use Rattle.sizes.specs.Sizes.{side, sheet};
+ghost use Rattle.sizes.specs.Sizes.{sheet};
 ghost use Rattle.mie_parameters.specs.Answer.{outcome};
-ghost use Rattle.saftvrqmie_hard_sphere.specs.State.{points, sheet_in, First, Reads};
+ghost use Rattle.saftvrqmie_hard_sphere.specs.State.{points, sheet_in, Tabled, Reads};
 ghost use Rattle.saftvrqmie_dispersion.specs.Perturbation.{dispersion_by};
 ghost use Rattle.saftvrqmie_dispersion.specs.Alpha.{alpha};
-ghost use Rattle.saftvrqmie_dispersion_sums.specs.State.{sheets_by, Pairs};
+ghost use Rattle.saftvrqmie_dispersion_sums.specs.State.{sheets_by, Pairs, Right};
 ghost use Rattle.saftvrqmie_dispersion_sums.specs.Dispersion.{mixture_by, inv_xs_sum, segment_fractions, packing_row, packing, alpha_row, first_row, first, second_row, second, third_row, third, mixture, dispersion_pair_at, dispersion};
 
 use dual_num::{DualNum, NumberList};
@@ -22,14 +22,17 @@ use saftvrqmie_parameters::OrderRecord;
 use sizes::table::{EPSILON_K_EFF, HS_DIAMETER, QUANTUM_D, SIGMA_EFF};
 use sizes::{SHEET, SHEETS, SIDE};
 
-// What every sum over pairs reads: a set's sheets, and a temperature with its table.
+// What the energies read: a set's parts, and a temperature with its table, fractions and densities.
 #[derive(Clone, Copy)]
 pub struct State<'a, D> {
     pub n: usize,
+    pub m: &'a [f64; SIDE],
     pub sheets: &'a [f64; SHEETS],
     pub orders: [OrderRecord; SHEET],
     pub temperature: D,
     pub table: NumberList<'a>,
+    pub fractions: NumberList<'a>,
+    pub densities: NumberList<'a>,
 }
 
 #[derive(Clone, Copy)]
@@ -40,25 +43,28 @@ pub struct SegmentState<D> {
 }
 
 // x_s.sum().recip()
-fn inv_x_s_sum<D: DualNum>(n: usize, x: &NumberList, m: &[f64; SIDE]) -> D
-    requires { (0 < n) × (n ≤ side) × First n (D.has x.now.values.now x.now.slopes.now) }
+fn inv_x_s_sum<D: DualNum>(s: &State<D>) -> D
+    requires { Right D.has s.now }
     ensures { let A = D.beside true in
-        D.of true result ≡ inv_xs_sum A n (D.entry_of true x.now.values.now x.now.slopes.now) (points A m.now) }
+        let x = D.entry_of true s.now.fractions.values.now s.now.fractions.slopes.now in
+        D.of true result ≡ inv_xs_sum A s.now.n x (points A s.now.m.now) }
 {
-    let sum = segment_density::<D>(n, x, m);
+    let x = s.fractions;
+    let sum = segment_density::<D>(s.n, &x, s.m);
     sum.recip()
 }
 
 // x_s, in the first n places.
-fn segment_fractions<D: DualNum>(n: usize, x: &NumberList, m: &[f64; SIDE], xs: &mut [D; SIDE])
-    requires { (0 < n) × (n ≤ side) × First n (D.has x.now.values.now x.now.slopes.now) }
+fn segment_fractions<D: DualNum>(s: &State<D>, xs: &mut [D; SIDE])
+    requires { Right D.has s.now }
     ensures { let A = D.beside true in
-        let x = D.entry_of true x.now.values.now x.now.slopes.now in
-        Reads A (D.of true) n xs.new (nth A (segment_fractions A n x (points A m.now))) }
+        let x = D.entry_of true s.now.fractions.values.now s.now.fractions.slopes.now in
+        Reads A (D.of true) s.now.n xs.new (nth A (segment_fractions A s.now.n x (points A s.now.m.now))) }
 {
-    let inv = inv_x_s_sum::<D>(n, x, m);
-    for i in 0usize..n {
-        let p = D::entry(x, i) * D::Plain::lit(m[i]) * inv;
+    let inv = inv_x_s_sum::<D>(s);
+    let x = s.fractions;
+    for i in 0usize..s.n {
+        let p = D::entry(&x, i) * D::Plain::lit(s.m[i]) * inv;
         xs[i] = p;
     }
 }
@@ -71,7 +77,7 @@ fn packing_row<D: DualNum>(
     i: usize,
     sum: D,
 ) -> D
-    requires { (n ≤ side) × (k < 4) × (i < n) × First (4 * sheet) (D.has table.now.values.now table.now.slopes.now) }
+    requires { Tabled D.has n table.now × (k < 4) × (i < n) }
     ensures { let A = D.beside true in
         (x : ℕ → A.Num) (v : A.Num) → Reads A (D.of true) n xs.now x → D.taken true v ≡ D.of true sum →
         let d = sheet_in (D.entry_of true table.now.values.now table.now.slopes.now) k in
@@ -89,7 +95,7 @@ fn packing_row<D: DualNum>(
 
 // `zeta_saft_vrq_mie` of sheet k.
 fn packing<D: DualNum>(n: usize, xs: &[D; SIDE], table: &NumberList, k: usize, rho_s: D) -> D
-    requires { (0 < n) × (n ≤ side) × (k < 4) × First (4 * sheet) (D.has table.now.values.now table.now.slopes.now) }
+    requires { Tabled D.has n table.now × (k < 4) }
     ensures { let A = D.beside true in
         (x : ℕ → A.Num) → Reads A (D.of true) n xs.now x →
         let d = sheet_in (D.entry_of true table.now.values.now table.now.slopes.now) k in
@@ -102,25 +108,19 @@ fn packing<D: DualNum>(n: usize, xs: &[D; SIDE], table: &NumberList, k: usize, r
     r * D::frac_pi_6() * rho_s
 }
 
-fn mixture<D: DualNum>(
-    n: usize,
-    xs: &[D; SIDE],
-    rho: &NumberList,
-    m: &[f64; SIDE],
-    table: &NumberList,
-) -> SegmentState<D>
-    requires { (0 < n) × (n ≤ side)
-        × First n (D.has rho.now.values.now rho.now.slopes.now)
-        × First (4 * sheet) (D.has table.now.values.now table.now.slopes.now) }
+fn mixture<D: DualNum>(s: &State<D>, xs: &[D; SIDE]) -> SegmentState<D>
+    requires { Right D.has s.now }
     ensures { let A = D.beside true in
-        (x : ℕ → A.Num) → Reads A (D.of true) n xs.now x →
-        let of = sheet_in (D.entry_of true table.now.values.now table.now.slopes.now) in
-        let rho = D.entry_of true rho.now.values.now rho.now.slopes.now in
-        mixture_by (D.of true) result ≡ mixture A (D.functions true) n (of 0) (of 1) x rho (points A m.now) }
+        (x : ℕ → A.Num) → Reads A (D.of true) s.now.n xs.now x →
+        let of = sheet_in (D.entry_of true s.now.table.values.now s.now.table.slopes.now) in
+        let rho = D.entry_of true s.now.densities.values.now s.now.densities.slopes.now in
+        mixture_by (D.of true) result ≡ mixture A (D.functions true) s.now.n (of 0) (of 1) x rho (points A s.now.m.now) }
 {
-    let rho_s = segment_density::<D>(n, rho, m);
-    let zeta = packing(n, xs, table, 1, rho_s);
-    let zeta_bar = packing(n, xs, table, 0, rho_s);
+    let table = s.table;
+    let rho = s.densities;
+    let rho_s = segment_density::<D>(s.n, &rho, s.m);
+    let zeta = packing(s.n, xs, &table, 1, rho_s);
+    let zeta_bar = packing(s.n, xs, &table, 0, rho_s);
     SegmentState {
         rho_s,
         zeta,
@@ -130,7 +130,7 @@ fn mixture<D: DualNum>(
 
 // The alpha of a pair.
 fn alpha_at<D: DualNum>(s: &State<D>, e: usize) -> Result<D, Refusal>
-    requires { (e < sheet) × First (4 * sheet) (D.has s.now.table.values.now s.now.table.slopes.now) }
+    requires { Right D.has s.now × (e < sheet) }
     ensures { let A = D.beside true in
         let table = D.entry_of true s.now.table.values.now s.now.table.slopes.now in
         let sheets = sheets_by A s.now.n s.now.sheets.now s.now.orders (D.of true s.now.temperature) table in
@@ -146,7 +146,7 @@ fn alpha_at<D: DualNum>(s: &State<D>, e: usize) -> Result<D, Refusal>
 
 // `Alpha::new` of a row; 6 where a power is outside.
 fn alpha_row<D: DualNum>(s: &State<D>, i: usize, alphas: &mut [D; SHEET]) -> Result<(), Refusal>
-    requires { (s.now.n ≤ side) × (i < s.now.n) × First (4 * sheet) (D.has s.now.table.values.now s.now.table.slopes.now) }
+    requires { Right D.has s.now × (i < s.now.n) }
     ensures { let A = D.beside true in
         let table = D.entry_of true s.now.table.values.now s.now.table.slopes.now in
         let sheets = sheets_by A s.now.n s.now.sheets.now s.now.orders (D.of true s.now.temperature) table in
@@ -162,7 +162,7 @@ fn alpha_row<D: DualNum>(s: &State<D>, i: usize, alphas: &mut [D; SHEET]) -> Res
 }
 
 fn alphas_of<D: DualNum>(s: &State<D>, alphas: &mut [D; SHEET]) -> Result<(), Refusal>
-    requires { (s.now.n ≤ side) × First (4 * sheet) (D.has s.now.table.values.now s.now.table.slopes.now) }
+    requires { Right D.has s.now }
     ensures { let A = D.beside true in
         let table = D.entry_of true s.now.table.values.now s.now.table.slopes.now in
         let sheets = sheets_by A s.now.n s.now.sheets.now s.now.orders (D.of true s.now.temperature) table in
@@ -188,7 +188,7 @@ fn perturbed_pair<D: DualNum>(
     w: &SegmentState<D>,
     e: usize,
 ) -> DispersionPair<D, D::Plain>
-    requires { (e < sheet) × First (4 * sheet) (D.has s.now.table.values.now s.now.table.slopes.now) }
+    requires { Right D.has s.now × (e < sheet) }
     ensures { let A = D.beside true in
         let table = D.entry_of true s.now.table.values.now s.now.table.slopes.now in
         let sheets = sheets_by A s.now.n s.now.sheets.now s.now.orders (D.of true s.now.temperature) table in
@@ -210,7 +210,7 @@ fn first_row<D: DualNum>(
     i: usize,
     sum: D,
 ) -> Result<D, Refusal>
-    requires { (s.now.n ≤ side) × (i < s.now.n) × First (4 * sheet) (D.has s.now.table.values.now s.now.table.slopes.now) }
+    requires { Right D.has s.now × (i < s.now.n) }
     ensures { let A = D.beside true in
         let table = D.entry_of true s.now.table.values.now s.now.table.slopes.now in
         let sheets = sheets_by A s.now.n s.now.sheets.now s.now.orders (D.of true s.now.temperature) table in
@@ -232,7 +232,7 @@ fn first_row<D: DualNum>(
 }
 
 fn first<D: DualNum>(s: &State<D>, xs: &[D; SIDE], w: &SegmentState<D>) -> Result<D, Refusal>
-    requires { (0 < s.now.n) × (s.now.n ≤ side) × First (4 * sheet) (D.has s.now.table.values.now s.now.table.slopes.now) }
+    requires { Right D.has s.now }
     ensures { let A = D.beside true in
         let table = D.entry_of true s.now.table.values.now s.now.table.slopes.now in
         let sheets = sheets_by A s.now.n s.now.sheets.now s.now.orders (D.of true s.now.temperature) table in
@@ -255,7 +255,7 @@ fn second_row<D: DualNum>(
     i: usize,
     sum: D,
 ) -> Result<D, Refusal>
-    requires { (s.now.n ≤ side) × (i < s.now.n) × First (4 * sheet) (D.has s.now.table.values.now s.now.table.slopes.now) }
+    requires { Right D.has s.now × (i < s.now.n) }
     ensures { let A = D.beside true in
         let table = D.entry_of true s.now.table.values.now s.now.table.slopes.now in
         let sheets = sheets_by A s.now.n s.now.sheets.now s.now.orders (D.of true s.now.temperature) table in
@@ -285,7 +285,7 @@ fn second<D: DualNum>(
     w: &SegmentState<D>,
     alphas: &[D; SHEET],
 ) -> Result<D, Refusal>
-    requires { (0 < s.now.n) × (s.now.n ≤ side) × First (4 * sheet) (D.has s.now.table.values.now s.now.table.slopes.now) }
+    requires { Right D.has s.now }
     ensures { let A = D.beside true in
         let table = D.entry_of true s.now.table.values.now s.now.table.slopes.now in
         let sheets = sheets_by A s.now.n s.now.sheets.now s.now.orders (D.of true s.now.temperature) table in
@@ -309,7 +309,7 @@ fn third_row<D: DualNum>(
     i: usize,
     sum: D,
 ) -> Result<D, Refusal>
-    requires { (s.now.n ≤ side) × (i < s.now.n) × First (4 * sheet) (D.has s.now.table.values.now s.now.table.slopes.now) }
+    requires { Right D.has s.now × (i < s.now.n) }
     ensures { let A = D.beside true in
         let depths = sheet_in (D.entry_of true s.now.table.values.now s.now.table.slopes.now) 2 in
         (x : ℕ → A.Num) (a : ℕ → A.Num) (v : A.Num) → Reads A (D.of true) s.now.n xs.now x → Pairs A s.now.n (map (D.of true) alphas.now) a → D.taken true v ≡ D.of true sum →
@@ -335,7 +335,7 @@ fn third<D: DualNum>(
     zeta_bar: D,
     alphas: &[D; SHEET],
 ) -> Result<D, Refusal>
-    requires { (0 < s.now.n) × (s.now.n ≤ side) × First (4 * sheet) (D.has s.now.table.values.now s.now.table.slopes.now) }
+    requires { Right D.has s.now }
     ensures { let A = D.beside true in
         let depths = sheet_in (D.entry_of true s.now.table.values.now s.now.table.slopes.now) 2 in
         (x : ℕ → A.Num) (a : ℕ → A.Num) → Reads A (D.of true) s.now.n xs.now x → Pairs A s.now.n (map (D.of true) alphas.now) a →
@@ -353,30 +353,24 @@ fn third<D: DualNum>(
 // The operation has refused other counts and lists with 1.
 pub fn helmholtz_energy_density<D: DualNum>(
     s: &State<D>,
-    m: &[f64; SIDE],
-    x: &NumberList,
-    rho: &NumberList,
     xs: &mut [D; SIDE],
     alphas: &mut [D; SHEET],
 ) -> Result<D, Refusal>
-    requires { (0 < s.now.n) × (s.now.n ≤ side)
-        × First (4 * sheet) (D.has s.now.table.values.now s.now.table.slopes.now)
-        × First s.now.n (D.has x.now.values.now x.now.slopes.now)
-        × First s.now.n (D.has rho.now.values.now rho.now.slopes.now) }
+    requires { Right D.has s.now }
     ensures { let A = D.beside true in
         let table = D.entry_of true s.now.table.values.now s.now.table.slopes.now in
         let sheets = sheets_by A s.now.n s.now.sheets.now s.now.orders (D.of true s.now.temperature) table in
-        let x = D.entry_of true x.now.values.now x.now.slopes.now in
-        let rho = D.entry_of true rho.now.values.now rho.now.slopes.now in
-        answer_by (D.of true) result ≡ dispersion A (D.functions true) sheets x rho (points A m.now) (D.of true s.now.temperature) }
+        let x = D.entry_of true s.now.fractions.values.now s.now.fractions.slopes.now in
+        let rho = D.entry_of true s.now.densities.values.now s.now.densities.slopes.now in
+        answer_by (D.of true) result ≡ dispersion A (D.functions true) sheets x rho (points A s.now.m.now) (D.of true s.now.temperature) }
 {
-    let table = s.table;
-    segment_fractions(s.n, x, m, xs);
-    let w = mixture(s.n, xs, rho, m, &table);
+    segment_fractions(s, xs);
+    let w = mixture(s, xs);
     alphas_of(s, alphas)?;
     let a1 = first(s, xs, &w)?;
     let a2 = second(s, xs, &w, alphas)?;
     let a3 = third(s, xs, w.zeta_bar, alphas)?;
-    let n_s = segment_density::<D>(s.n, rho, m);
+    let rho = s.densities;
+    let n_s = segment_density::<D>(s.n, &rho, s.m);
     Ok(n_s * saftvrqmie_dispersion::orders_sum(s.temperature, a1, a2, a3))
 }

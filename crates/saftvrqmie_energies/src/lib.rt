@@ -1,11 +1,10 @@
 // The Helmholtz energy densities of SAFT-VRQ Mie: hard sphere, dispersion, non-additive (saftvrqmie/eos).
 #![tactic(auto)]
 
-ghost use Rattle.std.specs.Prelude.{◌≡◌, ◌*◌, ◌<◌, ◌≤◌, true, ℕ, Float, List, [], length};
+ghost use Rattle.std.specs.Prelude.{◌≡◌, ◌<◌, true, ℕ, Float, List, [], length};
 ghost use Rattle.number.specs.Answer.{answer_by};
-ghost use Rattle.sizes.specs.Sizes.{side, sheet};
-ghost use Rattle.saftvrqmie_hard_sphere.specs.State.{points, First};
-ghost use Rattle.saftvrqmie_dispersion_sums.specs.State.{sheets_by};
+ghost use Rattle.saftvrqmie_hard_sphere.specs.State.{points};
+ghost use Rattle.saftvrqmie_dispersion_sums.specs.State.{sheets_by, Right};
 ghost use Rattle.saftvrqmie_energies.specs.Energies.{energies_answer, each_by, each_taken, contributions, energies_finite, state_lengths, tested, energies};
 ghost use Rattle.saftvrqmie_energies.specs.Reads.{set_of};
 
@@ -75,29 +74,25 @@ pub fn right_lengths(n: usize, x: &[f64], rho: &[f64], table: &[f64]) -> bool
 // The operation has refused other counts and lists with 1.
 pub fn contributions<D: DualNum>(
     s: &State<D>,
-    m: &[f64; SIDE],
-    x: &NumberList,
-    rho: &NumberList,
     wanted: bool,
     xs: &mut [D; SIDE],
     alphas: &mut [D; SHEET],
 ) -> Result<Energies<D>, Refusal>
-    requires { (0 < s.now.n) × (s.now.n ≤ side)
-        × First (4 * sheet) (D.has s.now.table.values.now s.now.table.slopes.now)
-        × First s.now.n (D.has x.now.values.now x.now.slopes.now)
-        × First s.now.n (D.has rho.now.values.now rho.now.slopes.now) }
+    requires { Right D.has s.now }
     ensures { let A = D.beside true in
         let table = D.entry_of true s.now.table.values.now s.now.table.slopes.now in
         let sheets = sheets_by A s.now.n s.now.sheets.now s.now.orders (D.of true s.now.temperature) table in
-        let x = D.entry_of true x.now.values.now x.now.slopes.now in
-        let rho = D.entry_of true rho.now.values.now rho.now.slopes.now in
-        answer_by (each_by (D.of true)) result ≡ each_taken (D.taken true) (contributions A (D.functions true) sheets x rho (points A m.now) (D.of true s.now.temperature) wanted) }
+        let x = D.entry_of true s.now.fractions.values.now s.now.fractions.slopes.now in
+        let rho = D.entry_of true s.now.densities.values.now s.now.densities.slopes.now in
+        answer_by (each_by (D.of true)) result ≡ each_taken (D.taken true) (contributions A (D.functions true) sheets x rho (points A s.now.m.now) (D.of true s.now.temperature) wanted) }
 {
     let table = s.table;
-    let z = saftvrqmie_hard_sphere::zeta::<D>(s.n, rho, &table, m);
-    let h = saftvrqmie_hard_sphere::helmholtz_energy_density(s.n, x, &table, m, z)?;
-    let d = saftvrqmie_dispersion_sums::helmholtz_energy_density(s, m, x, rho, xs, alphas)?;
-    let a = saftvrqmie_hard_sphere::wanted_part(s.n, rho, &table, m, z, xs, wanted);
+    let x = s.fractions;
+    let rho = s.densities;
+    let z = saftvrqmie_hard_sphere::zeta::<D>(s.n, &rho, &table, s.m);
+    let h = saftvrqmie_hard_sphere::helmholtz_energy_density(s.n, &x, &table, s.m, z)?;
+    let d = saftvrqmie_dispersion_sums::helmholtz_energy_density(s, xs, alphas)?;
+    let a = saftvrqmie_hard_sphere::wanted_part(s.n, &rho, &table, s.m, z, xs, wanted);
     Ok(Energies {
         hard_sphere: h,
         dispersion: d,
@@ -130,6 +125,7 @@ pub fn energies_run<D: PlainNum>(
     }
     let s = State {
         n,
+        m: set.m,
         sheets: set.sheets,
         orders: *set.orders,
         temperature: D::entered(q.temperature),
@@ -137,16 +133,16 @@ pub fn energies_run<D: PlainNum>(
             values: q.table,
             slopes: &[],
         },
+        fractions: NumberList {
+            values: q.fractions,
+            slopes: &[],
+        },
+        densities: NumberList {
+            values: q.densities,
+            slopes: &[],
+        },
     };
-    let x = NumberList {
-        values: q.fractions,
-        slopes: &[],
-    };
-    let rho = NumberList {
-        values: q.densities,
-        slopes: &[],
-    };
-    let e = contributions(&s, set.m, &x, &rho, q.non_additive, xs, alphas)?;
+    let e = contributions(&s, q.non_additive, xs, alphas)?;
     if !all_finite(e) {
         return Err(Refusal::NotFinite);
     }

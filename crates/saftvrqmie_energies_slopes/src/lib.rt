@@ -46,6 +46,7 @@ pub fn energies_of(
 {
     let s = State {
         n: set.count,
+        m: &set.m,
         sheets: &set.sheets,
         orders: set.orders,
         temperature,
@@ -53,11 +54,13 @@ pub fn energies_of(
             values: table,
             slopes: table_slopes,
         },
+        fractions: *x,
+        densities: *rho,
     };
     let zero = Dual::plain(0.0);
     let mut xs = [zero; SIDE];
     let mut alphas = [zero; SHEET];
-    let e = contributions(&s, &set.m, x, rho, non_additive, &mut xs, &mut alphas)?;
+    let e = contributions(&s, non_additive, &mut xs, &mut alphas)?;
     if !all_finite(e) {
         return Err(Refusal::NotFinite);
     }

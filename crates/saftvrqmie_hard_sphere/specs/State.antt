@@ -1,8 +1,9 @@
 -- What the sums read, in the numbers N: sheets of a table by their entry e, component lists by their index i.
-use Rattle.std.specs.Prelude.{ℕ, ◌+◌, ◌*◌, ◌<◌, Float, List, map, ◌≡◌}
+use Rattle.std.specs.Prelude.{ℕ, ◌+◌, ◌*◌, ◌<◌, ◌≤◌, Float, List, map, ◌≡◌}
 use Rattle.number.specs.Arith.{Arith}
 use Rattle.number.specs.Lists.{at, nth}
-use Rattle.sizes.specs.Sizes.{sheet, cell}
+use Rattle.sizes.specs.Sizes.{side, sheet, cell}
+use Rattle.dual_num.specs.declared.NumberList.{NumberList}
 
 -- diameters of the components: the diagonal of a sheet
 abbrev pub diagonal : {N : Type 0} → (ℕ → N) → ℕ → N
@@ -26,6 +27,22 @@ sheet_in f k e = f (k * sheet + e)
 -- the first n
 abbrev pub First : ℕ → (ℕ → Type 0) → Type 0
 First n P = (i : ℕ) → i < n → P i
+
+-- ---- what an operation has tested, `has` saying which entries of a list a run can read
+abbrev pub Entries : (List Float → List Float → ℕ → Type 0) → ℕ → NumberList → Type 0
+Entries has n l = First n (has l.values.now l.slopes.now)
+
+-- a count that a sum begins from, and a list of the components
+abbrev pub Components : (List Float → List Float → ℕ → Type 0) → ℕ → NumberList → Type 0
+Components has n l = (0 < n) × (n ≤ side) × Entries has n l
+
+-- a count, and a table
+abbrev pub Tabled : (List Float → List Float → ℕ → Type 0) → ℕ → NumberList → Type 0
+Tabled has n table = (0 < n) × (n ≤ side) × Entries has (4 * sheet) table
+
+-- all three
+abbrev pub Listed : (List Float → List Float → ℕ → Type 0) → ℕ → NumberList → NumberList → Type 0
+Listed has n l table = (0 < n) × (n ≤ side) × Entries has n l × Entries has (4 * sheet) table
 
 -- the first n of a run's own list are those of x
 abbrev pub Reads : {S : Type 0} (A : Arith) → (S → A.Num) → ℕ → List S → (ℕ → A.Num) → Type 0

@@ -1,11 +1,12 @@
 // The hard sphere's contribution (saftvrqmie/eos/hard_sphere.rs): the sums `zeta` and `zeta_23`, and the energy.
-ghost use Rattle.std.specs.Prelude.{◌≡◌, ◌*◌, ◌<◌, ◌≤◌, Bool, map};
+// Here and in the sums above, loops count: `entry` takes a place, since it reads a value alone or with its slope from a second list, and a table's places are computed.
+ghost use Rattle.std.specs.Prelude.{◌≡◌, ◌<◌, Bool, map};
 ghost use Rattle.number.specs.Answer.{answer_by};
 ghost use Rattle.number.specs.Arith.{whole};
 ghost use Rattle.number.specs.Lists.{nth};
-ghost use Rattle.sizes.specs.Sizes.{side, sheet};
+ghost use Rattle.sizes.specs.Sizes.{side};
 ghost use Rattle.mie_parameters.specs.Sums.{weighted};
-ghost use Rattle.saftvrqmie_hard_sphere.specs.State.{diagonal, points, sheet_in, First};
+ghost use Rattle.saftvrqmie_hard_sphere.specs.State.{diagonal, points, sheet_in, Components, Listed};
 ghost use Rattle.saftvrqmie_hard_sphere.specs.HardSphere.{ZetaIn, Zeta23In, zeta_by, zeta_each, zeta23_by, zeta23_each, zeta_added, frac1mz3, zeta23_added, hard_sphere_of, zeta, zeta23, hard_sphere_from};
 
 use dual_num::{DualNum, NumberList};
@@ -59,9 +60,7 @@ fn zeta_added<D: DualNum>(rho: D, d: D, m: D::Plain, z: Zetas<D>) -> Zetas<D>
 
 // Here and in the energies below, counts and lists are asked for that an operation has let pass: it refuses others with 1 before it sums.
 pub fn zeta<D: DualNum>(n: usize, rho: &NumberList, table: &NumberList, m: &[f64; SIDE]) -> Zetas<D>
-    requires { (0 < n) × (n ≤ side)
-        × First n (D.has rho.now.values.now rho.now.slopes.now)
-        × First (4 * sheet) (D.has table.now.values.now table.now.slopes.now) }
+    requires { Listed D.has n rho.now table.now }
     ensures { (w : Bool) → let rho = D.entry_of w rho.now.values.now rho.now.slopes.now in
         let d = diagonal (sheet_in (D.entry_of w table.now.values.now table.now.slopes.now) 1) in
         zeta_by (D.of w) result ≡ zeta (D.beside w) (D.functions w) n rho d (points (D.beside w) m.now) }
@@ -98,9 +97,7 @@ fn zeta_23_added<D: DualNum>(x: D, d: D, m: D::Plain, y: Zeta23<D>) -> Zeta23<D>
 }
 
 fn zeta_23<D: DualNum>(n: usize, x: &NumberList, table: &NumberList, m: &[f64; SIDE]) -> D
-    requires { (0 < n) × (n ≤ side)
-        × First n (D.has x.now.values.now x.now.slopes.now)
-        × First (4 * sheet) (D.has table.now.values.now table.now.slopes.now) }
+    requires { Listed D.has n x.now table.now }
     ensures { (w : Bool) → let x = D.entry_of w x.now.values.now x.now.slopes.now in
         let d = diagonal (sheet_in (D.entry_of w table.now.values.now table.now.slopes.now) 1) in
         D.of w result ≡ zeta23 (D.beside w) n x d (points (D.beside w) m.now) }
@@ -135,9 +132,7 @@ pub fn helmholtz_energy_density<D: DualNum>(
     m: &[f64; SIDE],
     z: Zetas<D>,
 ) -> Result<D, Refusal>
-    requires { (0 < n) × (n ≤ side)
-        × First n (D.has x.now.values.now x.now.slopes.now)
-        × First (4 * sheet) (D.has table.now.values.now table.now.slopes.now) }
+    requires { Listed D.has n x.now table.now }
     ensures { (w : Bool) → let x = D.entry_of w x.now.values.now x.now.slopes.now in
         let d = diagonal (sheet_in (D.entry_of w table.now.values.now table.now.slopes.now) 1) in
         answer_by (D.of w) result ≡ hard_sphere_from (D.beside w) (D.functions w) n x d (points (D.beside w) m.now) (zeta_by (D.of w) z) }
@@ -149,7 +144,7 @@ pub fn helmholtz_energy_density<D: DualNum>(
 }
 
 pub fn segment_density<D: DualNum>(n: usize, rho: &NumberList, m: &[f64; SIDE]) -> D
-    requires { (0 < n) × (n ≤ side) × First n (D.has rho.now.values.now rho.now.slopes.now) }
+    requires { Components D.has n rho.now }
     ensures { (w : Bool) → let rho = D.entry_of w rho.now.values.now rho.now.slopes.now in
         D.of w result ≡ weighted (D.beside w) n rho (points (D.beside w) m.now) }
 {

@@ -1,9 +1,8 @@
 // The non-additive hard sphere's contribution (saftvrqmie/eos/non_additive_hs.rs).
-ghost use Rattle.std.specs.Prelude.{◌≡◌, ◌*◌, ◌<◌, ◌≤◌, ℕ, Bool, cond};
+ghost use Rattle.std.specs.Prelude.{◌≡◌, ◌<◌, ℕ, Bool, cond};
 ghost use Rattle.number.specs.Arith.{whole};
 ghost use Rattle.number.specs.Lists.{nth};
-ghost use Rattle.sizes.specs.Sizes.{side, sheet};
-ghost use Rattle.saftvrqmie_hard_sphere.specs.State.{diagonal, points, sheet_in, First, Reads};
+ghost use Rattle.saftvrqmie_hard_sphere.specs.State.{diagonal, points, sheet_in, Components, Tabled, Listed, Reads};
 ghost use Rattle.saftvrqmie_hard_sphere.specs.HardSphere.{zeta_by, zeta};
 ghost use Rattle.saftvrqmie_hard_sphere.specs.NonAdditive.{g_hs, non_additive_ij, non_additive_column, non_additive_sum, density_shares, non_additive};
 
@@ -46,7 +45,7 @@ fn density_shares<D: DualNum>(
     m: &[f64; SIDE],
     xs: &mut [D; SIDE],
 )
-    requires { (n ≤ side) × First n (D.has rho.now.values.now rho.now.slopes.now) }
+    requires { Components D.has n rho.now }
     ensures { (w : Bool) → let A = D.beside w in
         let rho = D.entry_of w rho.now.values.now rho.now.slopes.now in
         Reads A (D.of w) n xs.new (nth A (density_shares A (D.functions w) n (D.of w rho_s) rho (points A m.now))) }
@@ -65,7 +64,7 @@ fn non_additive_column<D: DualNum>(
     j: usize,
     sum: D,
 ) -> D
-    requires { (n ≤ side) × (j < n) × First (4 * sheet) (D.has table.now.values.now table.now.slopes.now) }
+    requires { Tabled D.has n table.now × (j < n) }
     ensures { (w : Bool) (x : ℕ → (D.beside w).Num) (v : (D.beside w).Num) → Reads (D.beside w) (D.of w) n xs.now x → D.taken w v ≡ D.of w sum →
         let d = sheet_in (D.entry_of w table.now.values.now table.now.slopes.now) 1 in
         D.of w result ≡ non_additive_column (D.beside w) (D.functions w) n x d (D.of w s.rho_s) (D.of w s.z2) (D.of w s.f) j v }
@@ -83,7 +82,7 @@ fn non_additive_column<D: DualNum>(
 }
 
 fn non_additive_sum<D: DualNum>(n: usize, xs: &[D; SIDE], table: &NumberList, s: Shared<D>) -> D
-    requires { (0 < n) × (n ≤ side) × First (4 * sheet) (D.has table.now.values.now table.now.slopes.now) }
+    requires { Tabled D.has n table.now }
     ensures { (w : Bool) (x : ℕ → (D.beside w).Num) → Reads (D.beside w) (D.of w) n xs.now x →
         let d = sheet_in (D.entry_of w table.now.values.now table.now.slopes.now) 1 in
         D.of w result ≡ non_additive_sum (D.beside w) (D.functions w) n x d (D.of w s.rho_s) (D.of w s.z2) (D.of w s.f) }
@@ -103,9 +102,7 @@ fn non_additive<D: DualNum>(
     z: Zetas<D>,
     xs: &mut [D; SIDE],
 ) -> D
-    requires { (0 < n) × (n ≤ side)
-        × First n (D.has rho.now.values.now rho.now.slopes.now)
-        × First (4 * sheet) (D.has table.now.values.now table.now.slopes.now) }
+    requires { Listed D.has n rho.now table.now }
     ensures { (w : Bool) → let A = D.beside w in
         let rho = D.entry_of w rho.now.values.now rho.now.slopes.now in
         let d = sheet_in (D.entry_of w table.now.values.now table.now.slopes.now) 1 in
@@ -131,9 +128,7 @@ pub fn wanted_part<D: DualNum>(
     xs: &mut [D; SIDE],
     wanted: bool,
 ) -> D
-    requires { (0 < n) × (n ≤ side)
-        × First n (D.has rho.now.values.now rho.now.slopes.now)
-        × First (4 * sheet) (D.has table.now.values.now table.now.slopes.now) }
+    requires { Listed D.has n rho.now table.now }
     ensures { (w : Bool) → let A = D.beside w in
         let rho = D.entry_of w rho.now.values.now rho.now.slopes.now in
         let d = sheet_in (D.entry_of w table.now.values.now table.now.slopes.now) 1 in

@@ -18,4 +18,4 @@ pub returns : goal.returns
 unfolding packing
 returns g c x q =
     let m = g.met.D.DualNum in
-    rw (m.mul_law true _ _ _ c.mul-2.ensures, m.mul_plain_law true _ _ _ c.mul.ensures, c.frac_pi_6.ensures true, holds_end _ _ _ _ _ _ _ c.loop-i.invariant.0 c.loop-i-test.false c.requires.0 (c.loop-i.invariant.1 x q))
+    rw (m.mul_law true _ _ _ c.mul-2.ensures, m.mul_plain_law true _ _ _ c.mul.ensures, c.frac_pi_6.ensures true, holds_end _ _ _ _ _ _ _ c.loop-i.invariant.0 c.loop-i-test.false c.requires.0.0 (c.loop-i.invariant.1 x q))

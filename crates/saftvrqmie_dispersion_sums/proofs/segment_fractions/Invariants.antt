@@ -13,7 +13,7 @@ abbrev pub invariant-loop-i : goal.invariant-loop-i
 invariant-loop-i g l =
     let D = g.D.DualNum in
     let A = D.beside true in
-    (l.i ≤ l.n) × (length l.initial.xs ≡ side) × (map (D.of true) l.xs ≡ turns l.i (λ i ys. set ys i (A.mul (A.mul (D.entry_of true l.x.values.now l.x.slopes.now i) (points A l.m i)) (D.of true l.inv))) (map (D.of true) l.initial.xs))
+    (l.i ≤ l.s.n) × (length l.initial.xs ≡ side) × (map (D.of true) l.xs ≡ turns l.i (λ i ys. set ys i (A.mul (A.mul (D.entry_of true l.s.fractions.values.now l.s.fractions.slopes.now i) (points A l.s.m.now i)) (D.of true l.inv))) (map (D.of true) l.initial.xs))
 
 abbrev pub decreases-loop-i : goal.decreases-loop-i
-decreases-loop-i g l = l.n - l.i
+decreases-loop-i g l = l.s.n - l.i

@@ -26,5 +26,5 @@ unfolding density_shares in_places
 returns g c w i p =
     let A = g.D.DualNum.beside w in
     ap (λ l. nth A l i) (turns_end _ _ _ _ _ c.loop-i.invariant.0 c.loop-i-test.false (c.loop-i.invariant.2 w))
-    ∙ filled _ _ _ _ (map (g.D.DualNum.of w) c.args.xs.now) p (rw (length-map c.args.xs.now (g.D.DualNum.of w), c.loop-i.invariant.1) c.requires.0)
-    ∙ sym (filled _ _ _ _ (replicate side (A.lit zero64)) p c.requires.0)
+    ∙ filled _ _ _ _ (map (g.D.DualNum.of w) c.args.xs.now) p (rw (length-map c.args.xs.now (g.D.DualNum.of w), c.loop-i.invariant.1) c.requires.1)
+    ∙ sym (filled _ _ _ _ (replicate side (A.lit zero64)) p c.requires.1)
