@@ -66,7 +66,7 @@ pub struct DualExponent {
     pub inside: bool,
 }
 
-// A list of numbers: floats, points, or floats with their slopes in the second.
+// A list of numbers: floats, points, or floats with their slopes in the second, as the C call lends them.
 #[derive(Clone, Copy)]
 pub struct NumberList<'a> {
     pub values: &'a [f64],

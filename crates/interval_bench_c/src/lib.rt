@@ -1,4 +1,4 @@
-// One operation again and again, as the benchmark links it: each function has the clause of the one in interval_bench that it calls.
+// One operation again and again, as the benchmark links it: each function has the clause of the one in interval_bench that it calls. An archive exports what its own crate has.
 #![tactic(auto)]
 
 ghost use Rattle.std.specs.Prelude.{◌≡◌};

@@ -16,7 +16,7 @@ pub trait Parameters: Copy + Drop {
         ensures { result ≡ empty_set };
 }
 
-// Whether a set is held, or the refusal; beside a refusal the empty set.
+// Whether a set is held, or the refusal; beside a refusal the empty set: a set stands beside its answer, as document 01's Forms ask.
 #[derive(Clone, Copy)]
 pub struct ParameterSet<S> {
     pub answer: Result<(), Refusal>,

@@ -1,4 +1,4 @@
-// Fourteen powers of one base, as the benchmark links it.
+// Fourteen powers of one base, as the benchmark links it: an archive exports what its own crate has.
 #![tactic(auto)]
 
 ghost use Rattle.std.specs.Prelude.{◌≡◌};

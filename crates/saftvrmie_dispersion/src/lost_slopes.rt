@@ -113,6 +113,7 @@ fn whole_sum(x: Enclosure, b: Enclosure, t: Enclosure, c: Enclosure, e: Enclosur
 }
 
 impl ChainNum for EnclosureDual {
+    // Its tail is that of times_j: of both, one function would take the six numbers that it joins.
     fn times_i(self, p3: Enclosure, l3: Enclosure) -> EnclosureDual {
         let c = -(p3 - Enclosure::point(1.0));
         let i = c / l3;

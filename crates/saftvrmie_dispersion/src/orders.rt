@@ -146,7 +146,7 @@ pub fn add_pair<D: DualNum>(xi: D, xj: D, t: Terms<D>, s: Sums<D>) -> Sums<D>
     }
 }
 
-// The quantum model's is in saftvrqmie_dispersion: for one line of sum the crate below both would stand on the numbers.
+// The quantum model's, in saftvrqmie_dispersion, takes the temperature and three sums: what both have is this one line.
 pub fn orders_sum<D: DualNum>(s: Sums<D>, t_inv: D) -> D
     ensures { (w : Bool) → D.of w result ≡ orders_sum (D.beside w) (D.of w t_inv) (D.of w s.a1) (D.of w s.a2) (D.of w s.a3) }
 {

@@ -36,7 +36,7 @@ pub fn fluid_of<D: DualNum>(rho: D, zeta_x: D, k_hs: D) -> Fluid<D>
     }
 }
 
-// A row of C; inlined, so that its numbers are known where it is worked.
+// A row of C; inlined, so that its numbers are known where it is worked. The quantum model's lam_sum begins with the number that this sum ends with: other roundings.
 #[inline(always)]
 pub fn c_row<D: DualNum>(li: D::Plain, li2: D::Plain, li3: D::Plain, c: [f64; 4]) -> D::Plain
     ensures { (w : Bool) → D.plain w result ≡ c_row (D.beside w) (D.plain w li) (D.plain w li2) (D.plain w li3) c }
@@ -78,6 +78,7 @@ fn a1s_ij<D: DualNum>(zeta_x: D, of: Lambda<D::Plain>) -> D
     -(-ze * half + one) / ((-ze + one).cube() * of.l3)
 }
 
+// As the quantum model's ilambda_of and jlambda_of. Their definitions are of one arithmetic; these are of two, since the chain with slopes reads them at numbers with slopes beside plain ones.
 fn i_of<D: DualNum>(x0_3ml: D, l3: D::Plain) -> D
     ensures { (w : Bool) → D.of w result ≡ i_by (D.beside w) (D.beside w) (λ x. x) (D.of w x0_3ml) (D.plain w l3) }
 {

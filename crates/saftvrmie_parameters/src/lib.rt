@@ -34,7 +34,7 @@ pub struct SaftVRMiePars {
 
 pub type ParameterSet = mie_parameters::set::ParameterSet<SaftVRMiePars>;
 
-// The lists that a caller hands.
+// The lists that a caller hands, and the caller's count, which 1 compares with them.
 #[derive(Clone, Copy)]
 pub struct ComponentLists<'a> {
     pub count: usize,

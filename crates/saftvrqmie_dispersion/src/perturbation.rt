@@ -182,6 +182,7 @@ fn factors_0<D: DualNum, const ONE: bool>() -> Factors<D>
     }
 }
 
+// The factors of each turn are formulas of their own, in the Rust one arm each; q counts turns, no kinds.
 fn factors_1<D: DualNum>(g: Quantum<D>) -> Factors<D>
     ensures { (w : Bool) → factors_by (D.of w) result ≡ factors1 (D.beside w) (quantum_by (D.of w) g) }
 {

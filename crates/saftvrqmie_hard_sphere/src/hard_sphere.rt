@@ -22,7 +22,7 @@ pub struct Zetas<D> {
     pub z3: D,
 }
 
-// The two sums of `zeta_23`.
+// The two sums of `zeta_23`. Fields, as in Zetas: a generic function cannot own an array of its numbers.
 #[derive(Clone, Copy)]
 struct Zeta23<D> {
     y0: D,

@@ -41,7 +41,7 @@ pub struct SaftVRQMiePars {
 
 pub type ParameterSet = mie_parameters::set::ParameterSet<SaftVRQMiePars>;
 
-// The lists that a caller hands; fh are the orders' bytes.
+// The lists that a caller hands, and the caller's count, which 1 compares with them; fh are the orders' bytes.
 #[derive(Clone, Copy)]
 pub struct ComponentLists<'a> {
     pub count: usize,

@@ -37,7 +37,7 @@ pub struct QMiePotential<D> {
     pub u_rr: D,
 }
 
-// One of the two terms: its exponent, its factors, sigma to its exponent, and the exponents of its lines.
+// One of the two terms: its exponent, its factors, sigma to its exponent, and the exponents of its lines. Fields, not an array: a generic function cannot own an array of its numbers.
 #[derive(Drop)]
 pub struct Term<D: DualNum> {
     pub lambda: D::Plain,
@@ -313,7 +313,7 @@ fn add_first<D: DualNum>(
     }
 }
 
-// The lines of the second order, added.
+// The lines of the second order, added. Beside the first order's they differ in two numbers and in where the first line's minus stands, which the roundings follow.
 fn add_second<D: DualNum>(
     s: &Shared<D>,
     l4: LinePowers<D>,

@@ -74,7 +74,7 @@ pub const W_K21: [f64; 21] = [
     0.011694638867371874278064396062192,
 ];
 
-// The radius and the last potential.
+// The radius and the last potential: two cases of two numbers, as document 01's Forms ask.
 #[derive(Clone, Copy)]
 pub enum Search<D> {
     Found(D, D),

@@ -19,7 +19,7 @@ use sizes::{COUNTS, TABLE};
 // The most layers of a tank.
 pub const LAYERS: usize = 32;
 
-// How many layers, and their lists, from the bottom up: a temperature and a volume each, a fraction and a density for each component.
+// How many layers, and their lists, from the bottom up: a temperature and a volume each, a fraction and a density for each component. The count is the caller's, which 14 tests before any length.
 #[derive(Clone, Copy)]
 pub struct Layers<'a> {
     pub layers: usize,
