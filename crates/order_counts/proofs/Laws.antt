@@ -1,7 +1,6 @@
 -- The three numbers in closed form: lists counted by their first order, then order by order. Assumes nothing.
-use Prim.Native.Nat.{ℕ, zero, suc, ◌+◌, ◌*◌, ◌-◌, ◌^◌, ◌≤◌}
-use native.Mathlib.Nat.{pow-succ', pow-le-pow_left, pow-le-pow_right, le_trans, mul-le-mul}
-use native.Mathlib.Numerals.{add-one}
+use Prim.Native.Nat.{ℕ, zero, suc, ◌+◌, ◌*◌, ◌-◌, ◌^◌, ◌≤◌, ◌<◌}
+use native.Mathlib.Nat.{pow-succ', pow-le-pow_left, pow-le-pow_right, le_trans}
 use lib.Dec.{lit<}
 use native.Mathlib.Omega.{arith}
 use mathlib.Core.Path.{◌≡◌, refl, sym, ap, ◌∙◌}
@@ -148,20 +147,12 @@ meeting_5_is n = let h = split (meets 5) n in omega (arith, h, none_five n, row_
 pub all_fall : (n : ℕ) → falling passes (suc n) + falling (meets 4) (suc n) + falling (meets 5) (suc n) ≡ 4 ^ suc n
 all_fall n = let p = passing n in let q = meeting_4_is n in let r = meeting_5_is n in omega (arith, p, q, r, pow-succ' 4 n)
 
--- ---- a power by repeated products
+-- ---- a power that stays small: at most 4^12
+small : (b n : ℕ) → b ≤ 4 → n ≤ 12 → b ^ n ≤ 16_777_216
+small b n p q = le_trans (pow-le-pow_left p n) (pow-le-pow_right (lit< tt) q)
 
--- at most 4^12
-pub small : (b n i : ℕ) → b ≤ 4 → n ≤ 12 → i ≤ n → b ^ i ≤ 16_777_216
-small b n i p q r = le_trans (pow-le-pow_left p i) (pow-le-pow_right (lit< tt) (le_trans r q))
-
-pub small_next : (b n i p : ℕ) → b ≤ 4 → n ≤ 12 → i ≤ n → p ≡ b ^ i → b * p ≤ 67_108_864
-small_next b n i p f g h e = mul-le-mul {m₂ = 16_777_216} f (rw e (small b n i f g h))
-
-pub power_next : (b p i : ℕ) → p ≡ b ^ i → b * p ≡ b ^ (i + 1)
-power_next b p i e = rw (add-one, pow-succ', e)
-
-pub power_end : (b p i n : ℕ) → i ≤ n → n ≤ i → p ≡ b ^ i → p ≡ b ^ n
-power_end b p i n h g e = let d : i ≡ n = omega arith in rw d at e
+pub fits : (b n : ℕ) → b ≤ 4 → n ≤ 12 → b ^ n < 2 ^ 64
+fits b n p q = let h = small b n p q in omega (arith, h)
 
 -- ---- the operation
 
@@ -172,9 +163,9 @@ fit n two three four h a b c =
     let p = passing n in
     let q = meeting_4_is n in
     let r = meeting_5_is n in
-    let x = small 2 n n (omega arith) h (omega arith) in
-    let y = small 3 n n (omega arith) h (omega arith) in
-    let z = small 4 n n (omega arith) h (omega arith) in
+    let x = small 2 n (omega arith) h in
+    let y = small 3 n (omega arith) h in
+    let z = small 4 n (omega arith) h in
     (omega (arith, p), omega (arith, r), omega (arith, q), omega (arith, x), omega (arith, y), omega (arith, z))
 
 pub refuses_1 : (n : ℕ) → count_within n ≡ false → refused 1 ≡ order_counts n

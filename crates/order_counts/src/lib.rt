@@ -14,18 +14,6 @@ pub struct OrderCounts {
     pub meeting_5: u64,
 }
 
-// A whole power that stays small.
-fn power(base: u64, n: usize) -> u64
-    requires { (base ≤ 4) × (n ≤ 12) }
-    ensures { result ≡ base ^ n }
-{
-    let mut p = 1u64;
-    for i in 0usize..n {
-        p = base * p;
-    }
-    p
-}
-
 // The numbers from the powers of 2, 3 and 4 whose exponent is the count less 1.
 fn of_powers(two: u64, three: u64, four: u64) -> OrderCounts
     requires { (1 ≤ two) × (3 * two ≤ four + three + 1) × (three + two ≤ 3 * four) × (two ≤ 16_777_216) × (three ≤ 16_777_216) × (four ≤ 16_777_216) }
@@ -48,9 +36,9 @@ pub fn order_counts(count: usize) -> Result<OrderCounts, Refusal>
     if !limits::count_within(count) {
         return Err(Refusal::Length);
     }
-    let rest = count - 1;
-    let two = power(2, rest);
-    let three = power(3, rest);
-    let four = power(4, rest);
+    let rest = (count - 1) as u32;
+    let two = 2u64.pow(rest);
+    let three = 3u64.pow(rest);
+    let four = 4u64.pow(rest);
     Ok(of_powers(two, three, four))
 }
