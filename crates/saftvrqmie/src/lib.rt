@@ -89,25 +89,19 @@ fn work_pairs(
     Ok(())
 }
 
-pub fn all_finite(values: &[f64; TABLE]) -> bool
-    ensures { result ≡ table_finite values.now }
+// Of a list of the table's length; others are walked whole too.
+pub fn all_finite(values: &[f64]) -> bool
+    ensures { length values.now ≡ 4 * sheet → result ≡ table_finite values.now }
 {
     values.iter().all(|x| number::is_finite(*x))
 }
 
-// A sheet of the values into its own part of the lent list.
-fn write_sheet(part: &mut [f64], values: &[f64; TABLE], from: usize)
-    requires { (length part.old ≡ sheet) × (from + sheet ≤ 4 * sheet) × (length values.now ≡ 4 * sheet) }
+// A sheet of the values, or of the counts, into its own part of the lent list.
+fn write_sheet<T: Copy>(part: &mut [T], values: &[T], from: usize)
+    requires { (length part.old ≡ sheet) × (from + sheet ≤ length values.now) }
     ensures { part.new ≡ take sheet (drop from values.now) }
 {
     part.copy_from_slice(&values[from..from + SHEET]);
-}
-
-fn write_counts(part: &mut [u8], numbers: &[u8; COUNTS], from: usize)
-    requires { (length part.old ≡ sheet) × (from + sheet ≤ 3 * sheet) × (length numbers.now ≡ 3 * sheet) }
-    ensures { part.new ≡ take sheet (drop from numbers.now) }
-{
-    part.copy_from_slice(&numbers[from..from + SHEET]);
 }
 
 // Each sheet through its own part of the lent list.
@@ -125,9 +119,9 @@ fn write_numbers(counts: &mut [u8], numbers: &[u8; COUNTS])
     requires { (length counts.old ≡ 3 * sheet) × (length numbers.now ≡ 3 * sheet) }
     ensures { counts.new ≡ numbers.now }
 {
-    write_counts(&mut counts[SIGMA..ZERO], numbers, SIGMA);
-    write_counts(&mut counts[ZERO..DEPTH], numbers, ZERO);
-    write_counts(&mut counts[DEPTH..COUNTS], numbers, DEPTH);
+    write_sheet(&mut counts[SIGMA..ZERO], numbers, SIGMA);
+    write_sheet(&mut counts[ZERO..DEPTH], numbers, ZERO);
+    write_sheet(&mut counts[DEPTH..COUNTS], numbers, DEPTH);
 }
 
 // 1: the count, and the length of each lent list.

@@ -11,4 +11,4 @@ use Rattle.saftvrqmie.proofs.all_finite.Goals as goal
 
 pub returns : goal.returns
 unfolding table_finite
-returns c = all_from_yields_List finite _ _ _ c.all.ensures.ran (YieldsList-from_slice c.args.values.now c.iter.ensures.rest) (λ x b q k. search rules) ∙ every_all finite nan c.args.values.now (4 * sheet) (search rules)
+returns c = λ e. all_from_yields_List finite _ _ _ c.all.ensures.ran (YieldsList-from_slice c.args.values.now c.iter.ensures.rest) (λ x b q k. search rules) ∙ every_all finite nan c.args.values.now (4 * sheet) e

@@ -17,7 +17,7 @@ pub returns-in_err-work_pairs : goal.returns-in_err-work_pairs
 returns-in_err-work_pairs c = rw (handed_on _ c.from_residual.ensures) (refused_done _ _ _ (refuses_6 _ _ _ (told c.right_lists.ensures c.if-not-right_lists.false) (told c.temperature_within.ensures c.if-not-temperature_within.false) _ (refused_at _ _ _ _ c.work_pairs.ensures c.in_err-work_pairs.was)))
 
 pub returns-then-not-all_finite : goal.returns-then-not-all_finite
-returns-then-not-all_finite c = refused_done _ _ _ (refuses_7 _ _ _ (told c.right_lists.ensures c.if-not-right_lists.false) (told c.temperature_within.ensures c.if-not-temperature_within.false) _ (held_at _ _ _ c.work_pairs.ensures c.in_ok-work_pairs.was) (told c.all_finite.ensures c.if-not-all_finite.true))
+returns-then-not-all_finite c = refused_done _ _ _ (refuses_7 _ _ _ (told c.right_lists.ensures c.if-not-right_lists.false) (told c.temperature_within.ensures c.if-not-temperature_within.false) _ (held_at _ _ _ c.work_pairs.ensures c.in_ok-work_pairs.was) (told (c.all_finite.ensures (pairs_whole _ _ _ _ _ (held_at _ _ _ c.work_pairs.ensures c.in_ok-work_pairs.was)).0) c.if-not-all_finite.true))
 
 pub write_table-requires : goal.write_table-requires
 write_table-requires c = ((lengths _ _ _ (told c.right_lists.ensures c.if-not-right_lists.false)).first, (pairs_whole _ _ _ _ _ (held_at _ _ _ c.work_pairs.ensures c.in_ok-work_pairs.was)).0)
@@ -26,4 +26,4 @@ pub write_numbers-requires : goal.write_numbers-requires
 write_numbers-requires c = ((lengths _ _ _ (told c.right_lists.ensures c.if-not-right_lists.false)).second, (pairs_whole _ _ _ _ _ (held_at _ _ _ c.work_pairs.ensures c.in_ok-work_pairs.was)).1)
 
 pub returns : goal.returns
-returns c = held_done _ _ _ _ _ (holds _ _ _ (told c.right_lists.ensures c.if-not-right_lists.false) (told c.temperature_within.ensures c.if-not-temperature_within.false) _ (held_at _ _ _ c.work_pairs.ensures c.in_ok-work_pairs.was) (told c.all_finite.ensures c.if-not-all_finite.false)) c.write_table.ensures c.write_numbers.ensures
+returns c = held_done _ _ _ _ _ (holds _ _ _ (told c.right_lists.ensures c.if-not-right_lists.false) (told c.temperature_within.ensures c.if-not-temperature_within.false) _ (held_at _ _ _ c.work_pairs.ensures c.in_ok-work_pairs.was) (told (c.all_finite.ensures (pairs_whole _ _ _ _ _ (held_at _ _ _ c.work_pairs.ensures c.in_ok-work_pairs.was)).0) c.if-not-all_finite.false)) c.write_table.ensures c.write_numbers.ensures
