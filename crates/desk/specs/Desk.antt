@@ -6,7 +6,7 @@ use Rattle.number.specs.Ans.{Ans, held, refused, ◌>>=◌, demand}
 use Rattle.limits.specs.Limits.{state_within}
 use Rattle.saftvrqmie.specs.Table.{blank, temperature_table}
 use Rattle.saftvrqmie_energies.specs.Energies.{EnergiesIn, energies, energies_answer}
-use Rattle.set_lists.specs.Sets.{quantum_set}
+use Rattle.set_lists.specs.Sets.{quantum_lists, quantum_set}
 use Rattle.round_robin.specs.Desk.{places, Shelf, Work, Told, idle, worked, finished, Served, Entered, serve, submit}
 use Rattle.desk_place.specs.Layout.{part, over, Lists, place_floats, place_bytes, waits_in}
 use Rattle.desk_place.specs.Place.{Query, enter, unit}
@@ -42,7 +42,7 @@ shelf =
     }
 
 abbrev pub query_of : DeskQuery → Query
-query_of q = record { lists = record { count = q.count; m = q.m.now; sheets = q.sheets.now; orders = q.orders.now }; temperature = q.temperature; fractions = q.fractions.now; densities = q.densities.now; wanted = q.non_additive }
+query_of q = record { lists = quantum_lists q.lists; temperature = q.temperature; fractions = q.fractions.now; densities = q.densities.now; wanted = q.non_additive }
 
 -- what the direct calls for table and energies give
 unfoldable pub directly : Query → Ans (EnergiesIn Float)

@@ -15,6 +15,7 @@ use desk_place::layout::{PLACE_BYTES, PLACE_FLOATS};
 use number::Refusal;
 use round_robin::PLACES;
 use saftvrqmie_energies::QuantumEnergies;
+use set_lists::QuantumSet;
 
 // The places one behind the other, and behind the bytes the place served last.
 pub const FLOATS: usize = PLACE_FLOATS * PLACES;
@@ -34,10 +35,7 @@ pub enum Served {
 // A query as it comes in.
 #[derive(Clone, Copy)]
 pub struct DeskQuery<'a> {
-    pub count: usize,
-    pub m: &'a [f64],
-    pub sheets: &'a [f64],
-    pub orders: &'a [u8],
+    pub lists: QuantumSet<'a>,
     pub temperature: f64,
     pub fractions: &'a [f64],
     pub densities: &'a [f64],
@@ -100,9 +98,9 @@ fn right_state(n: usize, fractions: &[f64], densities: &[f64]) -> bool
 fn door(q: &DeskQuery) -> Result<(), Refusal>
     ensures { outcome result true ≡ verdict (door (query_of q.now)) }
 {
-    let n = q.count;
+    let n = q.lists.count;
     let right = right_state(n, q.fractions, q.densities);
-    set_lists::quantum_answer(n, q.m, q.sheets, q.orders, right)?;
+    set_lists::quantum_answer(&q.lists, right)?;
     if !limits::state_within(n, q.temperature, q.fractions, q.densities) {
         return Err(Refusal::Limit);
     }
@@ -120,15 +118,20 @@ fn enter(floats: &mut [f64], bytes: &mut [u8], k: usize, q: &DeskQuery)
     let b = a + PLACE_FLOATS;
     desk_place::enter_floats(
         &mut floats[a..b],
-        q.m,
-        q.sheets,
+        q.lists.m,
+        q.lists.sheets,
         q.temperature,
         q.fractions,
         q.densities,
     );
     let c = PLACE_BYTES * k;
     let d = c + PLACE_BYTES;
-    desk_place::enter_bytes(&mut bytes[c..d], q.count, q.orders, q.non_additive);
+    desk_place::enter_bytes(
+        &mut bytes[c..d],
+        q.lists.count,
+        q.lists.orders,
+        q.non_additive,
+    );
 }
 
 // A query takes the lowest free place and is told it. 1, 4, 2, then 17 where all are occupied.

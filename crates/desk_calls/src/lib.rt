@@ -14,6 +14,7 @@ ghost use Rattle.desk_calls.specs.Calls.{Lent, handed, served_call};
 use desk::{DeskQuery, Served};
 use number::Refusal;
 use saftvrqmie_energies::QuantumEnergies;
+use set_lists::QuantumSet;
 
 // A desk with no query. 1 for a list of another length.
 pub fn begin(floats: &mut [f64], bytes: &mut [u8]) -> u8
@@ -44,11 +45,14 @@ pub fn submit(
         let a = submitted l.desk q in
         (result ≡ status a) × (record { desk = record { floats = floats.exit.now; bytes = bytes.new }; place = place.new } ≡ stored l a) }
 {
-    let query = DeskQuery {
+    let lists = QuantumSet {
         count,
         m,
         sheets,
         orders,
+    };
+    let query = DeskQuery {
+        lists,
         temperature,
         fractions,
         densities,
@@ -97,7 +101,7 @@ pub fn serve(
         (result ≡ status q) × (record { desk = record { floats = floats.exit.now; bytes = bytes.new }; slip = record { outcome = outcome.exit.now; place = place.new; number = number.new; energies = out.new } } ≡ stored l q) }
 {
     if out.len() != 3 {
-        return 1;
+        return Refusal::Length.code();
     }
     let answer = desk::serve(floats, bytes);
     match answer {

@@ -73,6 +73,10 @@ pub held_stored : {S : Type 0} (l x : S) (q : Ans S) → q ≡ held x → x ≡ 
 unfolding stored
 held_stored l x q p = rw p
 
+-- an answer that `deliver` has stored
+pub delivered : {S : Type 0} (q a : Ans S) (r : ℕ) (before after : S) → (r ≡ status a) × (after ≡ stored before a) → a ≡ q → (r ≡ status q) × (after ≡ stored before q)
+delivered q a r before after (s, t) e = (s ∙ ap status e, t ∙ ap (stored before) e)
+
 pub radii_lengths_told : (l : Lent) → radii_lengths l ≡ true → (length l.values ≡ 6) × (length l.numbers ≡ 3)
 unfolding radii_lengths
 radii_lengths_told l p =

@@ -8,6 +8,7 @@ ghost use Rattle.saftvrqmie_energies.specs.Energies.{energies_in};
 use enclosure::Ends;
 use saftvrqmie_energies::{Set, StateLists};
 use saftvrqmie_energies_ends::EnergiesEnds;
+use set_lists::{MieSet, QuantumSet};
 
 // The call has tested the list's length before any work: here its answer is settled.
 pub fn write_ends(e: EnergiesEnds, out: &mut [f64])
@@ -46,7 +47,13 @@ pub fn domthelv_vrq_energies_ends(
         return 1;
     }
     let right = saftvrqmie_energies::right_lengths(count, fractions, densities, table);
-    let read = set_lists::quantum_answer(count, m, sheets, orders, right);
+    let lent = QuantumSet {
+        count,
+        m,
+        sheets,
+        orders,
+    };
+    let read = set_lists::quantum_answer(&lent, right);
     let Ok(()) = read else {
         return mie_parameters::number(read);
     };
@@ -105,11 +112,17 @@ pub fn domthelv_vrq_diameter_ends(
         return 1;
     }
     let right = limits::index_within(count, i, j);
-    let read = set_lists::quantum_answer(count, m, sheets, orders, right);
+    let lent = QuantumSet {
+        count,
+        m,
+        sheets,
+        orders,
+    };
+    let read = set_lists::quantum_answer(&lent, right);
     let Ok(()) = read else {
         return mie_parameters::number(read);
     };
-    let set = set_lists::quantum_set(count, m, sheets, orders);
+    let set = set_lists::quantum_set(&lent);
     let worked = saftvrqmie_diameter_ends::hs_diameter_ij_ends(
         set,
         i,
@@ -149,7 +162,12 @@ pub fn domthelv_vr_dispersion_ends(
     if !set_lists::mie_lengths(lists, sheets) {
         return 1;
     }
-    let set = set_lists::mie_set(count, lists, sheets);
+    let lent = MieSet {
+        count,
+        lists,
+        sheets,
+    };
+    let set = set_lists::mie_set(&lent);
     let worked = saftvrmie_energies_ends::dispersion_ends(
         set,
         temperature,
@@ -188,7 +206,12 @@ pub fn domthelv_vr_diameter_ends(
     if !set_lists::mie_lengths(lists, sheets) {
         return 1;
     }
-    let set = set_lists::mie_set(count, lists, sheets);
+    let lent = MieSet {
+        count,
+        lists,
+        sheets,
+    };
+    let set = set_lists::mie_set(&lent);
     let worked = saftvrmie_diameter_ends::hs_diameter_ij_ends(set, i, j, temperature, r0);
     match worked {
         Err(r) => r.code(),

@@ -10,8 +10,8 @@ ghost use Rattle.domthelv.specs.Elementary.{Delivers};
 
 use number::Refusal;
 
-// Stores an answer's value; gives 0, or 6 where the argument is outside.
-fn deliver(a: Result<f64, Refusal>, out: &mut f64) -> u8
+// Stores an answer's value; gives 0, or the refusal's number.
+pub fn deliver(a: Result<f64, Refusal>, out: &mut f64) -> u8
     ensures { (result ≡ status (answer a)) × (out.new ≡ stored out.old (answer a)) }
 {
     match a {

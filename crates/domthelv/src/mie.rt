@@ -7,8 +7,11 @@ ghost use Rattle.domthelv.specs.Operations.{vr_parameters, vr_diameters, vr_radi
 ghost use Rattle.stages.specs.Stages.{mie_stage};
 ghost use Rattle.saftvrmie_parameters.specs.Parameters as Mie;
 
+use crate::functions::deliver;
+use number::Refusal;
 use saftvrmie_energies::Set;
 use saftvrmie_parameters::ComponentLists;
+use set_lists::MieSet;
 use sizes::{SHEETS, SIDE};
 
 // Parameters of SAFT-VR Mie. 1, 2, 6.
@@ -40,7 +43,7 @@ pub fn domthelv_vr_parameters(
         (result ≡ status q) × (set_lists.new ≡ (stored l q).lists) × (set_sheets.new ≡ (stored l q).sheets) }
 {
     if !set_lists::mie_lengths(set_lists, set_sheets) {
-        return 1;
+        return Refusal::Length.code();
     }
     let lists = ComponentLists {
         count,
@@ -74,7 +77,7 @@ pub fn domthelv_vr_diameters(
         (result ≡ status q) × (diameters.new ≡ stored diameters.old q) }
 {
     if !set_lists::mie_lengths(lists, sheets) {
-        return 1;
+        return Refusal::Length.code();
     }
     let flat = set_lists::flat(sheets);
     let worked = saftvrmie::diameters_of(count, &flat, temperature, diameters);
@@ -96,17 +99,16 @@ pub fn domthelv_vr_radius(
         (result ≡ status q) × (out.new ≡ stored out.old q) }
 {
     if !set_lists::mie_lengths(lists, sheets) {
-        return 1;
+        return Refusal::Length.code();
     }
-    let set = set_lists::mie_set(count, lists, sheets);
+    let lent = MieSet {
+        count,
+        lists,
+        sheets,
+    };
+    let set = set_lists::mie_set(&lent);
     let worked = saftvrmie::radius_ij(set, i, j, temperature);
-    match worked {
-        Err(r) => r.code(),
-        Ok(x) => {
-            *out = x;
-            0
-        }
-    }
+    deliver(worked, out)
 }
 
 // One pair's diameter from its reduced lower limit. 1, 2, 6, 7.
@@ -125,17 +127,16 @@ pub fn domthelv_vr_diameter(
         (result ≡ status q) × (out.new ≡ stored out.old q) }
 {
     if !set_lists::mie_lengths(lists, sheets) {
-        return 1;
+        return Refusal::Length.code();
     }
-    let set = set_lists::mie_set(count, lists, sheets);
+    let lent = MieSet {
+        count,
+        lists,
+        sheets,
+    };
+    let set = set_lists::mie_set(&lent);
     let worked = saftvrmie::diameter_ij(set, i, j, temperature, r0);
-    match worked {
-        Err(r) => r.code(),
-        Ok(x) => {
-            *out = x;
-            0
-        }
-    }
+    deliver(worked, out)
 }
 
 // Dispersion, with the chain where it is wanted. 1, 2, 6, 7.
@@ -155,7 +156,7 @@ pub fn domthelv_vr_dispersion(
         (result ≡ status q) × (out.new ≡ stored out.old q) }
 {
     if !set_lists::mie_lengths(lists, sheets) {
-        return 1;
+        return Refusal::Length.code();
     }
     let m = set_lists::places(lists, 0);
     let sigma = set_lists::places(lists, SIDE);
@@ -164,7 +165,7 @@ pub fn domthelv_vr_dispersion(
     let la = set_lists::places(lists, 4 * SIDE);
     // Where they lie: a set of references to a copy would keep the copy.
     let Ok(flat) = <&[f64; SHEETS]>::try_from(sheets) else {
-        return 1;
+        return Refusal::Length.code();
     };
     let set = Set {
         count,
@@ -183,13 +184,7 @@ pub fn domthelv_vr_dispersion(
         diameters,
         chain,
     );
-    match worked {
-        Err(r) => r.code(),
-        Ok(x) => {
-            *out = x;
-            0
-        }
-    }
+    deliver(worked, out)
 }
 
 // From component lists to dispersion, with the chain where it is wanted and diameters of its own. The parameters' refusals, the diameters', the energy's.
@@ -233,11 +228,5 @@ pub fn domthelv_vr_stage(
         gamma_ij,
     };
     let worked = stages::mie_stage(&lists, temperature, fractions, densities, chain);
-    match worked {
-        Err(r) => r.code(),
-        Ok(x) => {
-            *out = x;
-            0
-        }
-    }
+    deliver(worked, out)
 }

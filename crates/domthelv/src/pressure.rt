@@ -5,6 +5,10 @@ ghost use Rattle.set_lists.specs.Sets.{QuantumLists};
 ghost use Rattle.slopes_lists.specs.Lists.{SlopedList, SlopedState};
 ghost use Rattle.slopes_calls.specs.Calls.{vrq_energies_slopes};
 
+use dual::Dual;
+use dual_num::NumberList;
+use set_lists::QuantumSet;
+
 // Quantum energies with slopes, by a table of the call's own: value and slope of hard sphere, dispersion, non-additive. 1, 4, then 2, 7 for a supplied slope, the table's 6 and 7, the energies' 6 and 7.
 pub fn domthelv_vrq_energies_slopes(
     count: usize,
@@ -27,18 +31,24 @@ pub fn domthelv_vrq_energies_slopes(
         let a = vrq_energies_slopes s q non_additive out.old in
         (result ≡ status a) × (out.new ≡ stored out.old a) }
 {
-    slopes_calls::vrq_energies_slopes(
+    let lent = QuantumSet {
         count,
         m,
         sheets,
         orders,
-        temperature,
-        temperature_slope,
-        fractions,
-        fraction_slopes,
-        densities,
-        density_slopes,
-        non_additive,
-        out,
-    )
+    };
+    let t = Dual {
+        re: temperature,
+        eps: temperature_slope,
+    };
+    let x = NumberList {
+        values: fractions,
+        slopes: fraction_slopes,
+    };
+    let rho = NumberList {
+        values: densities,
+        slopes: density_slopes,
+    };
+    let answer = slopes_calls::vrq_energies_slopes(&lent, t, &x, &rho, non_additive, out);
+    mie_parameters::number(answer)
 }

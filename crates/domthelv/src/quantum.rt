@@ -11,12 +11,14 @@ ghost use Rattle.saftvrqmie.specs.Table.{Lent};
 ghost use Rattle.saftvrqmie.specs.Pairs.{searches_in};
 ghost use Rattle.saftvrqmie_energies.specs.Energies.{energies_in};
 
+use crate::functions::deliver;
 use number::Refusal;
 use order_counts::OrderCounts;
 use saftvrqmie::PairSearches;
 use saftvrqmie_energies::{QuantumEnergies, Set, StateLists};
 use saftvrqmie_parameters::ComponentLists;
 use saftvrqmie_total::QuantumTotal;
+use set_lists::QuantumSet;
 
 // `SaftVRQMieRecord::new`: 3 if m is not 1.
 pub fn domthelv_vrq_record_m(m: f64) -> u8
@@ -26,6 +28,7 @@ pub fn domthelv_vrq_record_m(m: f64) -> u8
     mie_parameters::number(answer)
 }
 
+// The lists that C lends are slices, and each call tests their lengths before any work: here and below, `requires` says so.
 fn write_counts(c: OrderCounts, out: &mut [u64])
     requires { length out.old ≡ 3 }
     ensures { out.new ≡ counts_written c out.old }
@@ -41,7 +44,7 @@ pub fn domthelv_order_counts(count: usize, out: &mut [u64]) -> u8
         (result ≡ status q) × (out.new ≡ stored out.old q) }
 {
     if out.len() != 3 {
-        return 1;
+        return Refusal::Length.code();
     }
     let counted = order_counts::order_counts(count);
     match counted {
@@ -87,7 +90,7 @@ pub fn domthelv_vrq_parameters(
         (result ≡ status q) × (set_m.new ≡ (stored l q).m) × (set_sheets.new ≡ (stored l q).sheets) × (set_orders.new ≡ (stored l q).orders) }
 {
     if !set_lists::quantum_lengths(set_m, set_sheets, set_orders) {
-        return 1;
+        return Refusal::Length.code();
     }
     let lists = ComponentLists {
         count,
@@ -126,7 +129,13 @@ pub fn domthelv_vrq_table(
         (result ≡ status q) × (table.new ≡ (stored l q).values) × (counts.new ≡ (stored l q).numbers) }
 {
     let right = saftvrqmie::right_lists(count, table.len(), counts.len());
-    let read = set_lists::quantum_answer(count, m, sheets, orders, right);
+    let lent = QuantumSet {
+        count,
+        m,
+        sheets,
+        orders,
+    };
+    let read = set_lists::quantum_answer(&lent, right);
     let Ok(()) = read else {
         return mie_parameters::number(read);
     };
@@ -178,14 +187,20 @@ pub fn domthelv_vrq_radii(
         (result ≡ status q) × (out.new ≡ (stored l q).values) × (counts.new ≡ (stored l q).numbers) }
 {
     if !radii_lengths(out, counts) {
-        return 1;
+        return Refusal::Length.code();
     }
     let right = limits::index_within(count, i, j);
-    let read = set_lists::quantum_answer(count, m, sheets, orders, right);
+    let lent = QuantumSet {
+        count,
+        m,
+        sheets,
+        orders,
+    };
+    let read = set_lists::quantum_answer(&lent, right);
     let Ok(()) = read else {
         return mie_parameters::number(read);
     };
-    let set = set_lists::quantum_set(count, m, sheets, orders);
+    let set = set_lists::quantum_set(&lent);
     let searched = saftvrqmie::radii_ij(set, i, j, temperature);
     match searched {
         Err(r) => r.code(),
@@ -227,7 +242,13 @@ pub fn domthelv_vrq_energies(
         return 1;
     }
     let right = saftvrqmie_energies::right_lengths(count, fractions, densities, table);
-    let read = set_lists::quantum_answer(count, m, sheets, orders, right);
+    let lent = QuantumSet {
+        count,
+        m,
+        sheets,
+        orders,
+    };
+    let read = set_lists::quantum_answer(&lent, right);
     let Ok(()) = read else {
         return mie_parameters::number(read);
     };
@@ -304,7 +325,13 @@ pub fn domthelv_vrq_total(
         return 1;
     }
     let right = saftvrqmie_energies::right_lengths(count, fractions, densities, table);
-    let read = set_lists::quantum_answer(count, m, sheets, orders, right);
+    let lent = QuantumSet {
+        count,
+        m,
+        sheets,
+        orders,
+    };
+    let read = set_lists::quantum_answer(&lent, right);
     let Ok(()) = read else {
         return mie_parameters::number(read);
     };
@@ -352,19 +379,19 @@ pub fn domthelv_vrq_diameter(
         (result ≡ status q) × (out.new ≡ stored out.old q) }
 {
     let right = limits::index_within(count, i, j);
-    let read = set_lists::quantum_answer(count, m, sheets, orders, right);
+    let lent = QuantumSet {
+        count,
+        m,
+        sheets,
+        orders,
+    };
+    let read = set_lists::quantum_answer(&lent, right);
     let Ok(()) = read else {
         return mie_parameters::number(read);
     };
-    let set = set_lists::quantum_set(count, m, sheets, orders);
+    let set = set_lists::quantum_set(&lent);
     let worked = saftvrqmie::hs_diameter_ij(set, i, j, temperature, sigma_eff, r0);
-    match worked {
-        Err(r) => r.code(),
-        Ok(x) => {
-            *out = x;
-            0
-        }
-    }
+    deliver(worked, out)
 }
 
 // From component lists to energies, with a table of its own. 1 for `out`, then the parameters' refusals, the table's, the energies'.
@@ -402,7 +429,7 @@ pub fn domthelv_vrq_stage(
         (result ≡ status q) × (out.new ≡ stored out.old q) }
 {
     if out.len() != 3 {
-        return 1;
+        return Refusal::Length.code();
     }
     let lists = ComponentLists {
         count,

@@ -1,5 +1,7 @@
 -- What a copy leaves, as the definitions have it, number by number. Assumes nothing.
-use Rattle.std.proofs.Common.{◌≡◌, ℕ, zero, suc, ◌+◌, ◌-◌, ◌≤◌, List, ◌++◌, length, take, drop, set, refl, sym, ◌∙◌, ap, arith}
+use Rattle.std.proofs.Common.{◌≡◌, ℕ, zero, suc, ◌+◌, ◌-◌, ◌≤◌, Bool, List, ◌++◌, length, take, drop, set, get_or, refl, sym, ◌∙◌, ap, arith}
+use Rattle.std.specs.List.{list_all}
+use mathlib.Core.Bool.{true, ◌&&◌}
 use Rattle.std.proofs.lemmas.List.{get_or-drop, take_all}
 use lib.ListN.{length-drop, replicate, length-replicate}
 use lib.Seq.{drop-drop, paste, paste-suc, paste-zero}
@@ -7,8 +9,8 @@ use mathlib.Core.List.{append_assoc}
 use lib.Ieee.{Float, nan}
 use Rattle.number.specs.Arith.{zero64}
 use Rattle.number.specs.Lists.{at}
-use Rattle.number.specs.Walk.{turns}
-use Rattle.number.proofs.Every.{copied_all}
+use Rattle.number.specs.Walk.{turns, every}
+use Rattle.number.proofs.Every.{every_take, copied_all}
 use Rattle.set_lists.specs.Sets.{copied, taken}
 use Rattle.set_lists.specs.Written.{placed}
 
@@ -16,6 +18,14 @@ turns_same : {S : Type 0} (f g : ℕ → S → S) (s : S) → ((i : ℕ) (x : S)
 unfolding turns
 turns_same f g s h zero = refl
 turns_same f g s h (suc n) = ap (f n) (turns_same f g s h n) ∙ h n (turns n g s)
+
+-- a test of each number of a part
+pub every_part : (test : ℕ → Bool) (l : List ℕ) (from n : ℕ) → from + n ≤ length l → list_all test (take (from + n - from) (drop from l)) ≡ every n (λ j. test (get_or l (from + j) 0))
+unfolding every
+every_part test l from n h =
+    let k = length-drop from l in
+    let e : from + n - from ≡ n = omega arith in
+    rw e (every_take test 0 (drop from l) n (omega (arith, h, k)) ∙ turns_same (λ i b. b && test (get_or (drop from l) i 0)) (λ i b. b && test (get_or l (from + i) 0)) true (λ i b. ap (λ x. b && test x) (get_or-drop from l i 0)) n)
 
 taken_is : (n : ℕ) (d : List Float) (from : ℕ) → from + n ≤ length d → take n (drop from d) ≡ taken n d from
 unfolding copied

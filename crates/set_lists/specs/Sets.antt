@@ -10,6 +10,8 @@ use Rattle.saftvrqmie_parameters.specs.Parameters.{order_of, unused}
 use Rattle.saftvrqmie_parameters.specs.declared.OrderRecord.{OrderRecord}
 use Rattle.saftvrqmie_parameters.specs.declared.SaftVRQMiePars.{SaftVRQMiePars}
 use Rattle.saftvrmie_parameters.specs.declared.SaftVRMiePars.{SaftVRMiePars}
+use Rattle.set_lists.specs.declared.QuantumSet.{QuantumSet}
+use Rattle.set_lists.specs.declared.MieSet.{MieSet}
 
 -- n numbers of d from `from` on, in the first places of l
 unfoldable pub copied : ℕ → List Float → ℕ → List Float → List Float
@@ -25,6 +27,9 @@ pub record QuantumLists : Type 0 where
   pub m : List Float
   pub sheets : List Float
   pub orders : List ℕ
+
+abbrev pub quantum_lists : QuantumSet → QuantumLists
+quantum_lists s = record { count = s.count; m = s.m.now; sheets = s.sheets.now; orders = s.orders.now }
 
 unfoldable pub quantum_lengths : List Float → List Float → List ℕ → Bool
 quantum_lengths m sheets orders = eqb (length m) side && eqb (length sheets) (6 * sheet) && eqb (length orders) sheet
@@ -56,6 +61,9 @@ pub record MieLists : Type 0 where
   pub count : ℕ
   pub lists : List Float
   pub sheets : List Float
+
+abbrev pub mie_lists : MieSet → MieLists
+mie_lists s = record { count = s.count; lists = s.lists.now; sheets = s.sheets.now }
 
 unfoldable pub mie_lengths : List Float → List Float → Bool
 mie_lengths lists sheets = eqb (length lists) (5 * side) && eqb (length sheets) (6 * sheet)

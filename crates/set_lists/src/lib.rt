@@ -6,13 +6,30 @@ mod written;
 ghost use Rattle.std.specs.Prelude.{◌≡◌, true, ◌+◌, ◌*◌, ◌<◌, ◌≤◌, length};
 ghost use Rattle.sizes.specs.Sizes.{side, sheet};
 ghost use Rattle.mie_parameters.specs.Answer.{outcome, verdict};
-ghost use Rattle.set_lists.specs.Sets.{QuantumLists, taken, row_within, orders_within, orders_read, quantum_lengths, quantum_read, quantum_set, mie_lengths, mie_read};
+ghost use Rattle.set_lists.specs.Sets.{taken, row_within, orders_within, orders_read, quantum_lists, quantum_lengths, quantum_read, quantum_set, mie_lists, mie_lengths, mie_read};
 
 pub use crate::written::{write_mie, write_quantum};
 use number::Refusal;
 use saftvrmie_parameters::SaftVRMiePars;
 use saftvrqmie_parameters::{FeynmanHibbsOrder, OrderRecord, SaftVRQMiePars};
 use sizes::{LISTS, SHEET, SHEETS, SIDE};
+
+// A quantum set as it crosses the C boundary.
+#[derive(Clone, Copy)]
+pub struct QuantumSet<'a> {
+    pub count: usize,
+    pub m: &'a [f64],
+    pub sheets: &'a [f64],
+    pub orders: &'a [u8],
+}
+
+// A set of SAFT-VR Mie likewise: its component lists are one, one behind the other.
+#[derive(Clone, Copy)]
+pub struct MieSet<'a> {
+    pub count: usize,
+    pub lists: &'a [f64],
+    pub sheets: &'a [f64],
+}
 
 // A side of places of a list, which has them.
 pub fn places(list: &[f64], from: usize) -> [f64; SIDE]
@@ -38,25 +55,18 @@ fn row_within(n: usize, l: &[u8], i: usize) -> bool
     requires { (n ≤ side) × (i < n) × (length l.now ≡ sheet) }
     ensures { result ≡ row_within n l.now i }
 {
-    let mut ok = true;
-    for j in 0usize..n {
-        ok = ok & (l[SIDE * i + j] <= 2);
-    }
-    ok
+    let from = SIDE * i;
+    l[from..from + n].iter().all(|byte| *byte <= 2)
 }
 
 fn orders_within(n: usize, l: &[u8]) -> bool
     requires { (n ≤ side) × (length l.now ≡ sheet) }
     ensures { result ≡ orders_within n l.now }
 {
-    let mut ok = true;
-    for i in 0usize..n {
-        ok = ok & row_within(n, l, i);
-    }
-    ok
+    (0..n).all(|i| row_within(n, l, i))
 }
 
-// Orders from the bytes of a sheet.
+// Orders from the bytes of a sheet. By index: an array's `map` was tried, and takes 3,953 instructions where the loop takes 141.
 pub fn order_records(l: &[u8]) -> [OrderRecord; SHEET]
     requires { length l.now ≡ sheet }
     ensures { result ≡ orders_read l.now }
@@ -79,42 +89,34 @@ pub fn quantum_lengths(m: &[f64], sheets: &[f64], orders: &[u8]) -> bool
 }
 
 // Whether a quantum set can be read: 1 where it cannot or the rest of the call is not `right`, then 4.
-pub fn quantum_answer(
-    count: usize,
-    m: &[f64],
-    sheets: &[f64],
-    orders: &[u8],
-    right: bool,
-) -> Result<(), Refusal>
-    ensures { let l : QuantumLists = record { count = count; m = m.now; sheets = sheets.now; orders = orders.now } in
-        outcome result true ≡ verdict (quantum_set right l) }
+pub fn quantum_answer(s: &QuantumSet, right: bool) -> Result<(), Refusal>
+    ensures { outcome result true ≡ verdict (quantum_set right (quantum_lists s.now)) }
 {
-    if !limits::count_within(count) {
+    if !limits::count_within(s.count) {
         return Err(Refusal::Length);
     }
-    if !quantum_lengths(m, sheets, orders) {
+    if !quantum_lengths(s.m, s.sheets, s.orders) {
         return Err(Refusal::Length);
     }
     if !right {
         return Err(Refusal::Length);
     }
-    if !orders_within(count, orders) {
+    if !orders_within(s.count, s.orders) {
         return Err(Refusal::Order);
     }
     Ok(())
 }
 
 // The quantum set of lists whose lengths were tested.
-pub fn quantum_set(count: usize, m: &[f64], sheets: &[f64], orders: &[u8]) -> SaftVRQMiePars
-    requires { quantum_lengths m.now sheets.now orders.now ≡ true }
-    ensures { let l : QuantumLists = record { count = count; m = m.now; sheets = sheets.now; orders = orders.now } in
-        result ≡ quantum_read l }
+pub fn quantum_set(s: &QuantumSet) -> SaftVRQMiePars
+    requires { quantum_lengths s.now.m.now s.now.sheets.now s.now.orders.now ≡ true }
+    ensures { result ≡ quantum_read (quantum_lists s.now) }
 {
-    let m = places(m, 0);
-    let sheets = flat(sheets);
-    let orders = order_records(orders);
+    let m = places(s.m, 0);
+    let sheets = flat(s.sheets);
+    let orders = order_records(s.orders);
     SaftVRQMiePars {
-        count,
+        count: s.count,
         m,
         sheets,
         orders,
@@ -128,18 +130,18 @@ pub fn mie_lengths(lists: &[f64], sheets: &[f64]) -> bool
 }
 
 // The set of SAFT-VR Mie of lists whose lengths were tested.
-pub fn mie_set(count: usize, lists: &[f64], sheets: &[f64]) -> SaftVRMiePars
-    requires { mie_lengths lists.now sheets.now ≡ true }
-    ensures { result ≡ mie_read (record { count = count; lists = lists.now; sheets = sheets.now }) }
+pub fn mie_set(s: &MieSet) -> SaftVRMiePars
+    requires { mie_lengths s.now.lists.now s.now.sheets.now ≡ true }
+    ensures { result ≡ mie_read (mie_lists s.now) }
 {
-    let m = places(lists, 0);
-    let sigma = places(lists, SIDE);
-    let epsilon_k = places(lists, 2 * SIDE);
-    let lr = places(lists, 3 * SIDE);
-    let la = places(lists, 4 * SIDE);
-    let sheets = flat(sheets);
+    let m = places(s.lists, 0);
+    let sigma = places(s.lists, SIDE);
+    let epsilon_k = places(s.lists, 2 * SIDE);
+    let lr = places(s.lists, 3 * SIDE);
+    let la = places(s.lists, 4 * SIDE);
+    let sheets = flat(s.sheets);
     SaftVRMiePars {
-        count,
+        count: s.count,
         m,
         sigma,
         epsilon_k,

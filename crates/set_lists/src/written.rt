@@ -23,6 +23,7 @@ fn order_byte(order: FeynmanHibbsOrder) -> u8
     order as u8
 }
 
+// By index, as `order_records`.
 fn orders_written(orders: [OrderRecord; SHEET], l: &mut [u8])
     requires { length l.old ≡ sheet }
     ensures { l.new ≡ orders_written orders l.old }

@@ -13,6 +13,7 @@ use saftvrqmie_energies::QuantumEnergies;
 use saftvrqmie_energies_ends::EnergiesEnds;
 use saftvrqmie_parameters::SaftVRQMiePars;
 use saftvrqmie_tank::Layers;
+use set_lists::QuantumSet;
 
 // 1 of the tank's lists, and of the list that the answer is written into.
 fn tank_right(n: usize, q: &Layers, right: bool) -> bool
@@ -38,8 +39,14 @@ fn tank_set(
         return Err(Refusal::Layers);
     }
     let right = tank_right(count, q, right);
-    set_lists::quantum_answer(count, m, sheets, orders, right)?;
-    Ok(set_lists::quantum_set(count, m, sheets, orders))
+    let set = QuantumSet {
+        count,
+        m,
+        sheets,
+        orders,
+    };
+    set_lists::quantum_answer(&set, right)?;
+    Ok(set_lists::quantum_set(&set))
 }
 
 // `right`: whether the list that the answer is written into has its length. 14, 1, 4, then layer by layer 2, 6, 7, then 7 of the tank.

@@ -7,10 +7,10 @@ use mathlib.Core.Path.{refl}
 use Rattle.desk_calls.proofs.serve.Goals as goal
 
 pub returns-then-out-ne3 : goal.returns-then-out-ne3
-returns-then-out-ne3 c = serve_1 _ (ne_eqb _ _ c.if-out-ne3.true)
+returns-then-out-ne3 c = rw c.code.ensures (serve_1 _ (ne_eqb _ _ c.if-out-ne3.true))
 
 pub returns-in-Err : goal.returns-in-Err
-returns-in-Err c = rw c.code.ensures (serve_refused _ (eq-eqb _ _ c.if-out-ne3.false) _ _ (via desk_answer c.serve-answer.ensures.0 c.in-Err.is) c.serve-answer.ensures.1)
+returns-in-Err c = rw c.code-in-Err.ensures (serve_refused _ (eq-eqb _ _ c.if-out-ne3.false) _ _ (via desk_answer c.serve-answer.ensures.0 c.in-Err.is) c.serve-answer.ensures.1)
 
 pub returns-in-Idle : goal.returns-in-Idle
 returns-in-Idle c = serve_held _ (eq-eqb _ _ c.if-out-ne3.false) _ _ _ (rw c.in-Idle.is at (via desk_answer c.serve-answer.ensures.0 c.in-Ok.is)) c.serve-answer.ensures.1 (filled_idle _)

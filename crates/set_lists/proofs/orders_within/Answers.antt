@@ -1,15 +1,13 @@
 -- `set_lists::orders_within` meets its contract. Assumes nothing.
-use Rattle.number.proofs.Walk.{every_none, every_next, every_end}
-use Rattle.set_lists.specs.Sets.{orders_within}
-use borrow.Author.Rules.{rules}
+use Rattle.std.proofs.Common.{ℕ, Bool, rules, ◌∙◌, refl, arith}
+use Rattle.std.proofs.lemmas.Iterator.{YieldsList-from_range}
+use Rattle.std.proofs.lemmas.Iterator.Search.{all_from_yields_List}
+use Rattle.limits.proofs.Range.{every_range}
+use Rattle.set_lists.specs.Sets.{row_within, orders_within}
 use Rattle.set_lists.proofs.orders_within.Goals as goal
-
-pub loop-i-init : goal.loop-i-init
-loop-i-init c = (search rules, every_none _)
-
-pub loop-i-preserved : goal.loop-i-preserved
-loop-i-preserved c = (search rules, every_next _ _ _ _ c.loop-i.invariant.1 c.row_within-ok.ensures)
 
 pub returns : goal.returns
 unfolding orders_within
-returns c = every_end _ _ _ _ c.loop-i.invariant.0 c.loop-i-test.false c.loop-i.invariant.1
+returns c =
+    let test : ℕ → Bool = row_within c.args.n c.args.l.now in
+    all_from_yields_List test _ _ _ c.all.ensures.ran (YieldsList-from_range 0 c.args.n c.args.n refl (omega arith)) (λ x b q k. search rules) ∙ every_range test c.args.n

@@ -3,14 +3,14 @@ use Rattle.domthelv.proofs.Operations.{counts_1, counts_refused, counts_held, re
 use Rattle.number.specs.Answer.{answer}
 use borrow.Author.Tests.{eq-eqb, ne_eqb}
 use Rattle.number.proofs.Walk.{via}
-use mathlib.Core.Path.{refl, ◌∙◌}
+use mathlib.Core.Path.{◌∙◌}
 use Rattle.domthelv.proofs.quantum.domthelv_order_counts.Goals as goal
 
 pub returns-then-out-ne3 : goal.returns-then-out-ne3
-returns-then-out-ne3 c = let q = counts_1 _ _ (ne_eqb _ _ c.if-out-ne3.true) in (refused_status _ _ _ refl q, refused_stored _ _ _ q)
+returns-then-out-ne3 c = let q = counts_1 _ _ (ne_eqb _ _ c.if-out-ne3.true) in (refused_status _ _ _ c.code.ensures q, refused_stored _ _ _ q)
 
 pub returns-in-Err : goal.returns-in-Err
-returns-in-Err c = let q = counts_refused _ _ _ (eq-eqb _ _ c.if-out-ne3.false) (via answer c.order_counts-counted.ensures c.in-Err.is) in (refused_status _ _ _ c.code.ensures q, refused_stored _ _ _ q)
+returns-in-Err c = let q = counts_refused _ _ _ (eq-eqb _ _ c.if-out-ne3.false) (via answer c.order_counts-counted.ensures c.in-Err.is) in (refused_status _ _ _ c.code-2.ensures q, refused_stored _ _ _ q)
 
 pub returns-in-Ok : goal.returns-in-Ok
 returns-in-Ok c = let q = counts_held _ _ _ (eq-eqb _ _ c.if-out-ne3.false) (via answer c.order_counts-counted.ensures c.in-Ok.is) in (held_status _ _ q, c.write_counts.ensures ∙ held_stored _ _ _ q)

@@ -1,9 +1,7 @@
 -- `domthelv::quantum::domthelv_vrq_diameter` meets its contract. Assumes nothing.
 use Rattle.set_lists.proofs.Sets.{passed_lengths, passed, not_passed, set_is}
-use Rattle.domthelv.proofs.Operations.{diameter_set, diameter_is, refused_status, refused_stored, held_status, held_stored}
-use Rattle.number.specs.Answer.{answer}
-use Rattle.number.proofs.Walk.{via}
-use mathlib.Core.Path.{refl, ap, ◌∙◌}
+use Rattle.domthelv.proofs.Operations.{diameter_set, diameter_is, refused_status, refused_stored, delivered}
+use mathlib.Core.Path.{sym, ap, ◌∙◌}
 use Rattle.mie_parameters.specs.Answer.{number_of}
 use Rattle.domthelv.proofs.quantum.domthelv_vrq_diameter.Goals as goal
 
@@ -13,8 +11,5 @@ returns-in_default c = let q = diameter_set _ _ _ _ _ _ _ (not_passed _ _ _ c.in
 pub quantum_set-set-requires : goal.quantum_set-set-requires
 quantum_set-set-requires c = (passed_lengths _ _ _ c.index_within-right.ensures _ c.quantum_answer-read.ensures c.in-Ok.is)
 
-pub returns-in-Err : goal.returns-in-Err
-returns-in-Err c = let q = diameter_is _ _ _ _ _ _ _ (set_is _ _ _ (passed _ _ _ c.index_within-right.ensures _ c.quantum_answer-read.ensures c.in-Ok.is) c.quantum_set-set.ensures) ∙ via answer c.hs_diameter_ij-worked.ensures c.in-Err.is in (refused_status _ _ _ c.code.ensures q, refused_stored _ _ _ q)
-
-pub returns-in-Ok-worked : goal.returns-in-Ok-worked
-returns-in-Ok-worked c = let q = diameter_is _ _ _ _ _ _ _ (set_is _ _ _ (passed _ _ _ c.index_within-right.ensures _ c.quantum_answer-read.ensures c.in-Ok.is) c.quantum_set-set.ensures) ∙ via answer c.hs_diameter_ij-worked.ensures c.in-Ok-worked.is in (held_status _ _ q, held_stored _ _ _ q)
+pub returns : goal.returns
+returns c = delivered _ _ _ _ _ c.deliver.ensures (c.hs_diameter_ij-worked.ensures ∙ sym (diameter_is _ _ _ _ _ _ _ (set_is _ _ _ (passed _ _ _ c.index_within-right.ensures _ c.quantum_answer-read.ensures c.in-Ok.is) c.quantum_set-set.ensures)))
