@@ -1,5 +1,5 @@
 -- How a place of the desk lies in two lists, one of floats and one of bytes, and what it holds.
-use Rattle.std.specs.Prelude.{ℕ, ◌+◌, ◌*◌, eqb, Float, get_or, length, take, drop, List, ◌++◌, Bool, not}
+use Rattle.std.specs.Prelude.{ℕ, ◌≡◌, ◌+◌, ◌*◌, eqb, Float, get_or, length, take, drop, List, ◌++◌, Bool, true, not}
 use Rattle.number.specs.Lists.{at}
 use Rattle.sizes.specs.Sizes.{side, sheet}
 use Rattle.limits.specs.Limits.{index_within}
@@ -94,3 +94,10 @@ set_of p = quantum_read (lists_of p)
 -- a place is occupied where its bytes have a count and a pair within it; any other bytes are a free place
 unfoldable pub waits_in : List ℕ → Bool
 waits_in b = index_within (count_in b) (row_in b) (column_in b)
+
+abbrev pub Waits : List ℕ → Type 0
+Waits b = (length b ≡ place_bytes) × (waits_in b ≡ true)
+
+-- a place whose query waits: its floats and its bytes
+abbrev pub Waiting : List Float → List ℕ → Type 0
+Waiting f b = (length f ≡ place_floats) × Waits b

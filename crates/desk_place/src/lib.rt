@@ -1,15 +1,16 @@
 // A place of the desk: a query comes in, a pair is read and stored where it lies, the energies are worked from the whole table.
+// Its floats and bytes are two lists, as the desk's are at the C boundary. A struct of both would be no plainer: of one that holds a `&mut`, clauses say what is left as `p.exit.0.now` and `p.exit.1.0.now`.
 #![tactic(auto)]
 
-ghost use Rattle.std.specs.Prelude.{◌≡◌, true, ◌++◌, [], ◌+◌, ◌*◌, ◌<◌, ◌≤◌, length, get_or, drop};
+ghost use Rattle.std.specs.Prelude.{◌≡◌, ◌++◌, [], ◌+◌, ◌*◌, ◌<◌, ◌≤◌, length, get_or, drop};
 ghost use Rattle.number.specs.Lists.{at};
 ghost use Rattle.sizes.specs.Sizes.{side, sheet};
 ghost use Rattle.set_lists.specs.Sets.{QuantumLists, quantum_lengths};
 ghost use Rattle.saftvrqmie_potential.specs.Potential.{pair_at_entry};
 ghost use Rattle.saftvrqmie_properties.specs.Properties.{pair_properties_in};
-ghost use Rattle.saftvrqmie.specs.Table.{store, table_finite};
+ghost use Rattle.saftvrqmie.specs.Table.{store};
 ghost use Rattle.saftvrqmie_energies.specs.Energies.{energies_answer};
-ghost use Rattle.desk_place.specs.Layout.{Lists, place_floats, place_bytes, count_in, row_in, column_in, set_of, temperature_of, waits_in};
+ghost use Rattle.desk_place.specs.Layout.{Lists, place_floats, place_bytes, Waits, Waiting, count_in, row_in, column_in, set_of, temperature_of, waits_in};
 ghost use Rattle.desk_place.specs.Place.{floats_entered, bytes_entered, last_pair, moved, answer_of, settled, unit, place_left, step_told, unit_answer};
 
 pub mod layout;
@@ -73,20 +74,13 @@ fn store(table: &mut [f64], e: usize, p: FloatProperties)
     table[QUANTUM_D + e] = p.quantum_d;
 }
 
-fn all_finite(table: &[f64]) -> bool
-    requires { length table.now ≡ 4 * sheet }
-    ensures { result ≡ table_finite table.now }
-{
-    table.iter().all(|x| number::is_finite(*x))
-}
-
 // The energies of the whole table, as the direct call works them.
 fn answer(floats: &[f64], bytes: &[u8]) -> Result<QuantumEnergies, Refusal>
-    requires { (length floats.now ≡ place_floats) × (length bytes.now ≡ place_bytes) × (waits_in bytes.now ≡ true) }
+    requires { Waiting floats.now bytes.now }
     ensures { energies_answer result ≡ answer_of (record { floats = floats.entry.now; bytes = bytes.now }) }
 {
     let table = &floats[TABLE_AT..PLACE_FLOATS];
-    if !all_finite(table) {
+    if !saftvrqmie::all_finite(table) {
         return Err(Refusal::NotFinite);
     }
     let n = byte_at(bytes, COUNT_AT);
@@ -113,7 +107,7 @@ fn answer(floats: &[f64], bytes: &[u8]) -> Result<QuantumEnergies, Refusal>
 }
 
 fn last_pair(bytes: &[u8]) -> bool
-    requires { (length bytes.now ≡ place_bytes) × (waits_in bytes.now ≡ true) }
+    requires { Waits bytes.now }
     ensures { result ≡ last_pair bytes.now }
 {
     let n = byte_at(bytes, COUNT_AT);
@@ -124,7 +118,7 @@ fn last_pair(bytes: &[u8]) -> bool
 
 // The next pair in hand: of this row, or the first of the next.
 fn move_on(bytes: &mut [u8])
-    requires { (length bytes.old ≡ place_bytes) × (waits_in bytes.old ≡ true) }
+    requires { Waits bytes.old }
     ensures { bytes.new ≡ moved bytes.old }
 {
     let n = byte_at(bytes, COUNT_AT);
@@ -140,7 +134,7 @@ fn move_on(bytes: &mut [u8])
 
 // With a pair stored: the next pair comes in hand, or the energies are worked and the place is freed. None: the query goes on.
 fn settle(floats: &[f64], bytes: &mut [u8]) -> Option<Result<QuantumEnergies, Refusal>>
-    requires { (length floats.now ≡ place_floats) × (length bytes.old ≡ place_bytes) × (waits_in bytes.old ≡ true) }
+    requires { Waiting floats.now bytes.old }
     ensures { let s = settled (record { floats = floats.entry.now; bytes = bytes.old }) in
         (unit_answer result ≡ step_told s) × (record { floats = floats.entry.now; bytes = bytes.new } ≡ place_left s) }
 {
@@ -155,7 +149,7 @@ fn settle(floats: &[f64], bytes: &mut [u8]) -> Option<Result<QuantumEnergies, Re
 
 // One unit of the query in a place: the pair in hand, and after the last one the energies. A 6 ends it here, a 7 at the last. None: the query goes on.
 pub fn unit(floats: &mut [f64], bytes: &mut [u8]) -> Option<Result<QuantumEnergies, Refusal>>
-    requires { (length floats.old ≡ place_floats) × (length bytes.old ≡ place_bytes) × (waits_in bytes.old ≡ true) }
+    requires { Waiting floats.old bytes.old }
     ensures { let s = unit (record { floats = floats.entry.now; bytes = bytes.old }) in
         (unit_answer result ≡ step_told s) × (record { floats = floats.exit.now; bytes = bytes.new } ≡ place_left s) }
 {
