@@ -8,7 +8,7 @@ ghost use Rattle.card_lists.specs.Lists.{column, orders, ones, pairs_before, pai
 
 use sizes::{SHEET, SIDE};
 
-// Number e of each component; the card's numbers reach to the last.
+// Number e of each component; the card's numbers reach to the last. By index, here and below: of what an adapter of iter_mut writes a proof knows nothing.
 pub fn column(values: &[u64], size: usize, n: usize, e: usize) -> [f64; SIDE]
     requires { (n ≤ side) × (size ≤ 6) × (e < size) × (n * size ≤ length values.now) }
     ensures { take n result ≡ column values.now size n e }

@@ -215,6 +215,7 @@ pub fn layers_of<D: LayerRun>(
         dispersion: zero,
         non_additive: zero,
     };
+    // By the layer's number: it places four lists, of which two are cut into a layer's parts.
     for l in 0usize..q.layers {
         let from = n * l;
         let to = from + n;

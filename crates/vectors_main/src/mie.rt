@@ -6,28 +6,16 @@ use crate::hash::Hash;
 use crate::place::{Of, Place, put};
 use crate::record::{Record, WORDS};
 use crate::tally::Operation;
+use mie_parameters::set::Parameters;
 use number::{Refusal, bits_of};
 use records::{floats, part, word};
 use saftvrmie_parameters::{ComponentLists, SaftVRMiePars};
-use sizes::{SHEET, SHEETS, SIDE};
+use sizes::{SHEET, SIDE};
 
 #[derive(Drop)]
 pub struct Mie {
     set: SaftVRMiePars,
     diameters: [f64; SIDE],
-}
-
-// The set beside a refusal: count 0, all +0.
-fn no_set() -> SaftVRMiePars {
-    SaftVRMiePars {
-        count: 0,
-        m: [0.0; SIDE],
-        sigma: [0.0; SIDE],
-        epsilon_k: [0.0; SIDE],
-        lr: [0.0; SIDE],
-        la: [0.0; SIDE],
-        sheets: [0.0; SHEETS],
-    }
 }
 
 // Each component list has the places of a sheet.
@@ -65,14 +53,14 @@ fn parameters(record: &Record) -> Result<SaftVRMiePars, Refusal> {
 impl Mie {
     pub fn new() -> Mie {
         Mie {
-            set: no_set(),
+            set: SaftVRMiePars::empty(),
             diameters: [0.0; SIDE],
         }
     }
 
     fn parameters(&mut self, record: &Record) -> bool {
         let answer = parameters(record);
-        self.set = answer.unwrap_or(no_set());
+        self.set = answer.unwrap_or(SaftVRMiePars::empty());
         record.tells(answer.err()) & (record.word(15) == hash_of(self.set))
     }
 

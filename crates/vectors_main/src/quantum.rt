@@ -6,28 +6,17 @@ use crate::hash::Hash;
 use crate::place::{Of, Place, put};
 use crate::record::{Record, WORDS};
 use crate::tally::Operation;
+use mie_parameters::set::Parameters;
 use number::{Refusal, bits_of};
 use records::{floats, part, word};
 use saftvrqmie_parameters::{ComponentLists, FeynmanHibbsOrder, OrderRecord, SaftVRQMiePars};
-use sizes::{COUNTS, SHEET, SHEETS, SIDE, TABLE};
+use sizes::{COUNTS, TABLE};
 
 #[derive(Drop)]
 pub struct Quantum {
     set: SaftVRQMiePars,
     table: [f64; TABLE],
     counts: [u8; COUNTS],
-}
-
-// The set beside a refusal: count 0, all +0, FH0.
-fn no_set() -> SaftVRQMiePars {
-    SaftVRQMiePars {
-        count: 0,
-        m: [0.0; SIDE],
-        sheets: [0.0; SHEETS],
-        orders: [OrderRecord {
-            order: FeynmanHibbsOrder::FH0,
-        }; SHEET],
-    }
 }
 
 fn hash_of(set: SaftVRQMiePars) -> u64 {
@@ -76,7 +65,7 @@ fn parameters(record: &Record) -> Result<SaftVRQMiePars, Refusal> {
 impl Quantum {
     pub fn new() -> Quantum {
         Quantum {
-            set: no_set(),
+            set: SaftVRQMiePars::empty(),
             table: [0.0; TABLE],
             counts: [0u8; COUNTS],
         }
@@ -84,7 +73,7 @@ impl Quantum {
 
     fn parameters(&mut self, record: &Record) -> bool {
         let answer = parameters(record);
-        self.set = answer.unwrap_or(no_set());
+        self.set = answer.unwrap_or(SaftVRQMiePars::empty());
         record.tells(answer.err()) & (record.word(15) == hash_of(self.set))
     }
 
