@@ -13,7 +13,7 @@ use mir.Val.{bool_byte}
 use lib.Ieee.{Float}
 use lib.ListN.{length, get_or, set, take, drop, replicate, length-set, length-replicate, length-drop, drop_of_length-le}
 use lib.Seq.{length-take-le}
-use borrow.Author.Tests.{lt-ltb, le-ltb}
+use borrow.Author.Tests.{lt-ltb, le-ltb, eq-eqb, ne_eqb}
 use Rattle.number.specs.Ans.{Ans, held, refused, ◌>>=◌, demand}
 use Rattle.number.specs.Arith.{zero64}
 use Rattle.sizes.specs.Sizes.{side, sheet}
@@ -44,9 +44,25 @@ pub waits_is : (b : List ℕ) (n i j : ℕ) (r : Bool) → n ≡ count_in b → 
 unfolding waits_in
 waits_is b n i j r p q s e = e ∙ rw (p, q, s)
 
-pub last_is : (b : List ℕ) (n i j : ℕ) → n ≡ count_in b → i ≡ row_in b → j ≡ column_in b → (eqb (i + 1) n && eqb (j + 1) n) ≡ last_pair b
+pub cell_within : (n i j : ℕ) → index_within n i j ≡ true → 12 * i + j < sheet
+cell_within n i j w = let h = inside n i j w in let a = h.high in let b = h.row in let d = h.column in omega (arith, a, b, d)
+
+and_false : (a : Bool) → (a && false) ≡ false
+and_false true = refl
+and_false false = refl
+
+-- a column is left, a row is left, or neither
+pub column_left : (b : List ℕ) (n j : ℕ) → n ≡ count_in b → j ≡ column_in b → j + 1 < n → last_pair b ≡ false
 unfolding last_pair
-last_is b n i j p q s = rw (p, q, s)
+column_left b n j p s h = rw (← p, ← s, ne_eqb (j + 1) n (λ e. omega (arith, e, h))) (and_false (eqb (row_in b + 1) n))
+
+pub row_left : (b : List ℕ) (n i : ℕ) → n ≡ count_in b → i ≡ row_in b → i + 1 < n → last_pair b ≡ false
+unfolding last_pair
+row_left b n i p q h = rw (← p, ← q, ne_eqb (i + 1) n (λ e. omega (arith, e, h)))
+
+pub none_left : (b : List ℕ) (n i j : ℕ) → n ≡ count_in b → i ≡ row_in b → j ≡ column_in b → i + 1 ≡ n → j + 1 ≡ n → last_pair b ≡ true
+unfolding last_pair
+none_left b n i j p q s a c = rw (← p, ← q, ← s, eq-eqb (i + 1) n a, eq-eqb (j + 1) n c)
 
 pub moved_on : (b : List ℕ) (n j : ℕ) → n ≡ count_in b → j ≡ column_in b → j + 1 < n → set b 2 (j + 1) ≡ moved b
 unfolding moved

@@ -5,6 +5,7 @@ use Rattle.sizes.specs.Sizes.{side, sheet}
 use Rattle.limits.specs.Limits.{index_within}
 use Rattle.saftvrqmie_parameters.specs.declared.SaftVRQMiePars.{SaftVRQMiePars}
 use Rattle.set_lists.specs.Sets.{QuantumLists, quantum_read}
+use Rattle.desk_place.specs.declared.hand.InHand.{InHand}
 
 -- n elements of a list from a on
 abbrev pub part : {E : Type 0} → ℕ → ℕ → List E → List E
@@ -101,3 +102,7 @@ Waits b = (length b ≡ place_bytes) × (waits_in b ≡ true)
 -- a place whose query waits: its floats and its bytes
 abbrev pub Waiting : List Float → List ℕ → Type 0
 Waiting f b = (length f ≡ place_floats) × Waits b
+
+-- what is in hand is what the place's bytes have
+abbrev pub Has : List ℕ → InHand → Type 0
+Has b h = (length b ≡ place_bytes) × (h.count ≡ count_in b) × (h.row ≡ row_in b) × (h.column ≡ column_in b)

@@ -10,11 +10,13 @@ ghost use Rattle.saftvrqmie_potential.specs.Potential.{pair_at_entry};
 ghost use Rattle.saftvrqmie_properties.specs.Properties.{pair_properties_in};
 ghost use Rattle.saftvrqmie.specs.Table.{store};
 ghost use Rattle.saftvrqmie_energies.specs.Energies.{energies_answer};
-ghost use Rattle.desk_place.specs.Layout.{Lists, place_floats, place_bytes, Waits, Waiting, count_in, row_in, column_in, set_of, temperature_of, waits_in};
-ghost use Rattle.desk_place.specs.Place.{floats_entered, bytes_entered, last_pair, moved, answer_of, settled, unit, place_left, step_told, unit_answer};
+ghost use Rattle.desk_place.specs.Layout.{Lists, place_floats, place_bytes, Waits, Waiting, Has, set_of, temperature_of, waits_in};
+ghost use Rattle.desk_place.specs.Place.{floats_entered, bytes_entered, answer_of, settled, unit, place_left, step_told, unit_answer};
 
+pub mod hand;
 pub mod layout;
 
+use crate::hand::InHand;
 use crate::layout::{
     C_AT, COLUMN_AT, COUNT_AT, DENSITIES_AT, EPSILON_K_AT, FRACTIONS_AT, LAMBDA_A_AT, LAMBDA_R_AT,
     M_AT, MASS_AT, ORDERS_AT, PLACE_BYTES, PLACE_FLOATS, ROW_AT, SHEETS_AT, TABLE_AT,
@@ -75,15 +77,15 @@ fn store(table: &mut [f64], e: usize, p: FloatProperties)
 }
 
 // The energies of the whole table, as the direct call works them.
-fn answer(floats: &[f64], bytes: &[u8]) -> Result<QuantumEnergies, Refusal>
-    requires { Waiting floats.now bytes.now }
+fn answer(floats: &[f64], bytes: &[u8], hand: InHand) -> Result<QuantumEnergies, Refusal>
+    requires { (length floats.now ≡ place_floats) × Has bytes.now hand }
     ensures { energies_answer result ≡ answer_of (record { floats = floats.entry.now; bytes = bytes.now }) }
 {
     let table = &floats[TABLE_AT..PLACE_FLOATS];
     if !saftvrqmie::all_finite(table) {
         return Err(Refusal::NotFinite);
     }
-    let n = byte_at(bytes, COUNT_AT);
+    let n = hand.count;
     let wanted = byte_at(bytes, WANTED_AT) != 0;
     let m = set_lists::places(&floats[M_AT..FRACTIONS_AT], 0);
     let sheets = set_lists::flat(&floats[SHEETS_AT..TABLE_AT]);
@@ -106,45 +108,39 @@ fn answer(floats: &[f64], bytes: &[u8]) -> Result<QuantumEnergies, Refusal>
     saftvrqmie_energies::energies_of(&set, &state)
 }
 
-fn last_pair(bytes: &[u8]) -> bool
-    requires { Waits bytes.now }
-    ensures { result ≡ last_pair bytes.now }
-{
-    let n = byte_at(bytes, COUNT_AT);
-    let i = byte_at(bytes, ROW_AT);
-    let j = byte_at(bytes, COLUMN_AT);
-    (i + 1 == n) & (j + 1 == n)
-}
-
-// The next pair in hand: of this row, or the first of the next.
-fn move_on(bytes: &mut [u8])
-    requires { Waits bytes.old }
-    ensures { bytes.new ≡ moved bytes.old }
-{
-    let n = byte_at(bytes, COUNT_AT);
-    let i = byte_at(bytes, ROW_AT);
-    let j = byte_at(bytes, COLUMN_AT);
-    if j + 1 < n {
-        bytes[COLUMN_AT] = (j + 1) as u8;
-        return;
-    }
-    bytes[ROW_AT] = (i + 1) as u8;
-    bytes[COLUMN_AT] = 0;
-}
-
-// With a pair stored: the next pair comes in hand, or the energies are worked and the place is freed. None: the query goes on.
-fn settle(floats: &[f64], bytes: &mut [u8]) -> Option<Result<QuantumEnergies, Refusal>>
-    requires { Waiting floats.now bytes.old }
+// With a pair stored: the next pair comes in hand, of this row or the first of the next; after the last one the energies are worked and the place is freed. None: the query goes on.
+fn settle(
+    floats: &[f64],
+    bytes: &mut [u8],
+    hand: InHand,
+) -> Option<Result<QuantumEnergies, Refusal>>
+    requires { (length floats.now ≡ place_floats) × Has bytes.old hand }
     ensures { let s = settled (record { floats = floats.entry.now; bytes = bytes.old }) in
         (unit_answer result ≡ step_told s) × (record { floats = floats.entry.now; bytes = bytes.new } ≡ place_left s) }
 {
-    if !last_pair(bytes) {
-        move_on(bytes);
+    if hand.column + 1 < hand.count {
+        bytes[COLUMN_AT] = (hand.column + 1) as u8;
         return None;
     }
-    let worked = answer(floats, bytes);
+    if hand.row + 1 < hand.count {
+        bytes[ROW_AT] = (hand.row + 1) as u8;
+        bytes[COLUMN_AT] = 0;
+        return None;
+    }
+    let worked = answer(floats, bytes, hand);
     bytes[COUNT_AT] = 0;
     Some(worked)
+}
+
+fn in_hand(bytes: &[u8]) -> InHand
+    requires { Waits bytes.now }
+    ensures { Has bytes.now result }
+{
+    InHand {
+        count: byte_at(bytes, COUNT_AT),
+        row: byte_at(bytes, ROW_AT),
+        column: byte_at(bytes, COLUMN_AT),
+    }
 }
 
 // One unit of the query in a place: the pair in hand, and after the last one the energies. A 6 ends it here, a 7 at the last. None: the query goes on.
@@ -153,9 +149,8 @@ pub fn unit(floats: &mut [f64], bytes: &mut [u8]) -> Option<Result<QuantumEnergi
     ensures { let s = unit (record { floats = floats.entry.now; bytes = bytes.old }) in
         (unit_answer result ≡ step_told s) × (record { floats = floats.exit.now; bytes = bytes.new } ≡ place_left s) }
 {
-    let i = byte_at(bytes, ROW_AT);
-    let j = byte_at(bytes, COLUMN_AT);
-    let e = SIDE * i + j;
+    let hand = in_hand(bytes);
+    let e = SIDE * hand.row + hand.column;
     let pair = pair_here(floats, bytes, e);
     match saftvrqmie_properties::pair_properties(pair) {
         Err(r) => {
@@ -164,7 +159,7 @@ pub fn unit(floats: &mut [f64], bytes: &mut [u8]) -> Option<Result<QuantumEnergi
         }
         Ok(w) => {
             store(&mut floats[TABLE_AT..PLACE_FLOATS], e, w);
-            settle(floats, bytes)
+            settle(floats, bytes, hand)
         }
     }
 }

@@ -1,5 +1,5 @@
 -- `desk_place::unit` meets its contract. Assumes nothing.
-use Rattle.desk_place.proofs.Steps.{waits_inside, unit_6, unit_on, worked_6, worked_held, tabled_at}
+use Rattle.desk_place.proofs.Steps.{cell_within, unit_6, unit_on, worked_6, worked_held, tabled_at}
 use Rattle.desk_place.proofs.Parts.{part_length}
 use Rattle.saftvrqmie_properties.specs.Properties.{properties_by, pair_properties}
 use native.Mathlib.Omega.{arith}
@@ -7,24 +7,24 @@ use borrow.Author.Rules.{rules}
 use Rattle.desk_place.proofs.unit.Goals as goal
 
 pub overflow_mul-e : goal.overflow_mul-e
-overflow_mul-e c = let h = waits_inside c.args.bytes.now c.requires.1.1 in let a = h.high in let b = h.row in let d = h.column in omega (arith, a, b, c.byte_at-i.ensures)
+overflow_mul-e c = let e = cell_within _ _ _ c.in_hand-hand.result.within in omega (arith, e)
 
 pub overflow_add-e : goal.overflow_add-e
-overflow_add-e c = let h = waits_inside c.args.bytes.now c.requires.1.1 in let a = h.high in let b = h.row in let d = h.column in omega (arith, a, b, d, c.byte_at-i.ensures, c.byte_at-j.ensures)
+overflow_add-e c = let e = cell_within _ _ _ c.in_hand-hand.result.within in omega (arith, e)
 
 pub pair_here-pair-requires : goal.pair_here-pair-requires
-pair_here-pair-requires c = (c.requires.0, c.requires.1.0, let h = waits_inside c.args.bytes.now c.requires.1.1 in let a = h.high in let b = h.row in let d = h.column in omega (arith, a, b, d, c.byte_at-i.ensures, c.byte_at-j.ensures))
+pair_here-pair-requires c = (c.requires.0, c.requires.1.0, cell_within _ _ _ c.in_hand-hand.result.within)
 
 pub returns-in-Err : goal.returns-in-Err
 unfolding pair_properties properties_by
-returns-in-Err c = unit_6 (record { floats = c.args.floats.now; bytes = c.args.bytes.now }) _ (worked_6 (record { floats = c.args.floats.now; bytes = c.args.bytes.now }) _ _ _ _ c.byte_at-i.ensures c.byte_at-j.ensures c.pair_here-pair.ensures c.pair_properties.ensures c.in-Err.is)
+returns-in-Err c = unit_6 (record { floats = c.args.floats.now; bytes = c.args.bytes.now }) _ (worked_6 (record { floats = c.args.floats.now; bytes = c.args.bytes.now }) _ _ _ _ c.in_hand-hand.ensures.2 c.in_hand-hand.ensures.3 c.pair_here-pair.ensures c.pair_properties.ensures c.in-Err.is)
 
 pub store-requires : goal.store-requires
-store-requires c = (part_length 901 576 c.args.floats.now (omega (arith, c.requires.0)), let h = waits_inside c.args.bytes.now c.requires.1.1 in let a = h.high in let b = h.row in let d = h.column in omega (arith, a, b, d, c.byte_at-i.ensures, c.byte_at-j.ensures))
+store-requires c = (part_length 901 576 c.args.floats.now (omega (arith, c.requires.0)), cell_within _ _ _ c.in_hand-hand.result.within)
 
 pub settle-requires : goal.settle-requires
-settle-requires c = (search rules, c.requires.1)
+settle-requires c = (search rules, c.in_hand-hand.ensures)
 
 pub returns-in-Ok : goal.returns-in-Ok
 unfolding pair_properties properties_by
-returns-in-Ok c = unit_on (record { floats = c.args.floats.now; bytes = c.args.bytes.now }) _ _ _ _ (worked_held (record { floats = c.args.floats.now; bytes = c.args.bytes.now }) _ _ _ _ _ c.byte_at-i.ensures c.byte_at-j.ensures c.pair_here-pair.ensures c.pair_properties.ensures c.in-Ok.is) (tabled_at (record { floats = c.args.floats.now; bytes = c.args.bytes.now }) _ _ _ c.requires.0 c.store.ensures) c.settle.ensures.0 c.settle.ensures.1
+returns-in-Ok c = unit_on (record { floats = c.args.floats.now; bytes = c.args.bytes.now }) _ _ _ _ (worked_held (record { floats = c.args.floats.now; bytes = c.args.bytes.now }) _ _ _ _ _ c.in_hand-hand.ensures.2 c.in_hand-hand.ensures.3 c.pair_here-pair.ensures c.pair_properties.ensures c.in-Ok.is) (tabled_at (record { floats = c.args.floats.now; bytes = c.args.bytes.now }) _ _ _ c.requires.0 c.store.ensures) c.settle.ensures.0 c.settle.ensures.1
