@@ -1,16 +1,18 @@
 -- The calls of the desk, step by step over plain values. Assumes nothing.
 use Prim.Native.Nat.{ℕ, zero, suc, ◌+◌, ◌-◌, ◌*◌, ◌≤◌, ◌<◌}
-use Rattle.std.specs.Prelude.{Err, Ok, Result}
+use Rattle.std.specs.Prelude.{Err, Ok, Result, None, Some}
+use Rattle.std.specs.Prelude as Std
 use Rattle.number.specs.declared.refusal.Refusal.{Refusal}
 use Rattle.number.specs.Answer.{code}
 use native.Mathlib.Omega.{arith}
 use mathlib.Core.Path.{◌≡◌, refl, sym, ap, ◌∙◌, subst}
-use mathlib.Core.Bool.{Bool, true, false, not, ◌&&◌}
+use mathlib.Core.Bool.{Bool, true, false, not, ◌&&◌, cond}
 use mathlib.Core.Option.{Option, none, some}
 use mathlib.Core.List.{List, ◌++◌, append-nil}
 use lib.Ieee.{Float}
 use lib.ListN.{length, get_or, set, take, drop, replicate, length-replicate, drop_of_length-le}
-use borrow.Author.Tests.{eq-eqb, ne_eqb}
+use lib.Dec.{eqb}
+use borrow.Author.Tests.{eq-eqb, ne_eqb, eqb-true, eqb-false}
 use Rattle.number.specs.Ans.{Ans, held, refused, ◌>>=◌, demand}
 use Rattle.limits.specs.Limits.{state_within}
 use Rattle.mie_parameters.specs.Answer.{outcome, verdict, stored}
@@ -21,7 +23,7 @@ use Rattle.round_robin.specs.Desk.{places, above, seek, Step, going, done, idle,
 use Rattle.desk_place.specs.Layout.{over, Lists, place_floats, place_bytes, waits_in}
 use Rattle.desk_place.specs.Place.{Query, enter, unit, place_left, step_told}
 use Rattle.desk_place.proofs.Parts.{back, back_over}
-use Rattle.desk.specs.Desk.{last_at, right_desk, occupied_in, place_of, placed, shelf, quantum, state_lengths, door, begun, submitted, served_once, told_of, desk_of, place_told, entered_of}
+use Rattle.desk.specs.Desk.{last_at, right_desk, occupied_in, place_of, placed, found, shelf, quantum, state_lengths, door, begun, submitted, served_once, told_of, desk_of, place_told, entered_of}
 use Rattle.desk.proofs.Shelf.{lists_are, Right, Whole, whole_at}
 use Rattle.desk.proofs.Held.{demanded, unit_whole}
 use Rattle.desk.proofs.Entering.{g5, le}
@@ -67,6 +69,31 @@ module _ (test : ℕ → Bool) where
     where
       step : seek 0 test k ≡ s → places ≡ s
       step e = e
+
+-- its answer, at a place and at none
+pub found_at : (k s : ℕ) → k < places → k ≡ s → Some k ≡ found s
+unfolding found
+found_at k s h e = rw (← e, ne_eqb k places (λ z. omega (arith, z, h)))
+
+pub found_none : (s : ℕ) → places ≡ s → None ≡ found s
+unfolding found
+found_none s e = rw (eq-eqb s places (sym e))
+
+pub is_found : (s k : ℕ) → ◌≡◌ {A = Std.Option ℕ} (Some k) (found s) → (k ≡ s) × (k ≡ places → ⊥)
+unfolding found
+is_found s k h = by (eqb s places) refl h
+  where
+    by : (t : Bool) → eqb s places ≡ t → ◌≡◌ {A = Std.Option ℕ} (Some k) (cond t None (Some s)) → (k ≡ s) × (k ≡ places → ⊥)
+    by true e h = let z : ◌≡◌ {A = ℕ} 0 1 = cc in absurd (omega arith)
+    by false e h = let p : k ≡ s = cc in (p, λ z. eqb-false s places e (sym p ∙ z))
+
+pub is_none : (s : ℕ) → ◌≡◌ {A = Std.Option ℕ} None (found s) → s ≡ places
+unfolding found
+is_none s h = by (eqb s places) refl h
+  where
+    by : (t : Bool) → eqb s places ≡ t → ◌≡◌ {A = Std.Option ℕ} None (cond t None (Some s)) → s ≡ places
+    by true e h = eqb-true s places e
+    by false e h = let z : ◌≡◌ {A = ℕ} 0 1 = cc in absurd (omega arith)
 
 -- what the search ends at, where it ends at a place
 pub seek_passes : (test : ℕ → Bool) (n p : ℕ) → (seek n test p ≡ places → ⊥) → test (seek n test p) ≡ true

@@ -1,5 +1,5 @@
 -- Slip 12's desk: how the desk lies in two lists, and the three calls over any two lists.
-use Rattle.std.specs.Prelude.{ℕ, ◌+◌, ◌*◌, eqb, Float, get_or, length, set, replicate, List, Bool, true, ◌&&◌, Result}
+use Rattle.std.specs.Prelude.{ℕ, ◌+◌, ◌*◌, eqb, cond, Option, None, Some, Float, get_or, length, set, replicate, List, Bool, true, ◌&&◌, Result}
 use Rattle.number.specs.declared.refusal.Refusal.{Refusal}
 use Rattle.number.specs.Answer.{answer_by}
 use Rattle.number.specs.Ans.{Ans, held, refused, ◌>>=◌, demand}
@@ -40,6 +40,10 @@ shelf =
       last = λ l. get_or l.bytes last_at 0;
       served = λ l k. record { floats = l.floats; bytes = set l.bytes last_at k };
     }
+
+-- what a search for a place finds: none where it ends at `places`
+unfoldable pub found : ℕ → Option ℕ
+found k = cond (eqb k places) None (Some k)
 
 abbrev pub query_of : DeskQuery → Query
 query_of q = record { lists = quantum_lists q.lists; temperature = q.temperature; fractions = q.fractions.now; densities = q.densities.now; wanted = q.non_additive }

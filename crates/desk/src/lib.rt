@@ -9,7 +9,7 @@ ghost use Rattle.number.specs.Answer.{answer};
 ghost use Rattle.round_robin.specs.Desk.{places, seek, leaves};
 ghost use Rattle.desk_place.specs.Layout.{Lists, place_floats};
 ghost use Rattle.desk_place.specs.Place.{enter, unit};
-ghost use Rattle.desk.specs.Desk.{query_of, occupied_in, shelf, quantum, place_of, placed, right_desk, state_lengths, door, begun, submitted, served_once, served_told, desk_answer, told_of, desk_of, place_told, entered_of, last_at};
+ghost use Rattle.desk.specs.Desk.{query_of, occupied_in, shelf, quantum, place_of, placed, right_desk, state_lengths, door, begun, submitted, served_once, served_told, found, desk_answer, told_of, desk_of, place_told, entered_of, last_at};
 
 use desk_place::layout::{PLACE_BYTES, PLACE_FLOATS};
 use number::Refusal;
@@ -57,21 +57,21 @@ fn occupied(bytes: &[u8], k: usize) -> bool
     desk_place::waits(&bytes[from..to])
 }
 
-// The first place from `from` on, round the desk, that suits; PLACES where none does.
-fn seek<F: Fn(usize) -> bool>(suits: F, from: usize) -> usize
+// The first place from `from` on, round the desk, that suits.
+fn seek<F: Fn(usize) -> bool>(suits: F, from: usize) -> Option<usize>
     requires start { from < places }
     requires suits { (k : ℕ) → k < places → F.pre suits k }
-    ensures { (test : ℕ → Bool) → ((k : ℕ) (b : Bool) → k < places → F.post suits k b → b ≡ test k) → result ≡ seek places test from }
+    ensures { (test : ℕ → Bool) → ((k : ℕ) (b : Bool) → k < places → F.post suits k b → b ≡ test k) → result ≡ found (seek places test from) }
 {
     let mut k = from;
-    for i in 0usize..PLACES {
+    for _ in 0usize..PLACES {
         if suits(k) {
-            return k;
+            return Some(k);
         }
         let next = round_robin::above(k);
         k = next;
     }
-    PLACES
+    None
 }
 
 // A desk with no query, whose first place is served first. 1 for a list of another length.
@@ -144,10 +144,9 @@ pub fn submit(floats: &mut [f64], bytes: &mut [u8], q: &DeskQuery) -> Result<usi
         return Err(Refusal::Length);
     }
     door(q)?;
-    let k = seek(|k| !occupied(bytes, k), 0);
-    if k == PLACES {
+    let Some(k) = seek(|k| !occupied(bytes, k), 0) else {
         return Err(Refusal::Occupied);
-    }
+    };
     enter(floats, bytes, k, q);
     Ok(k)
 }
@@ -181,9 +180,8 @@ pub fn serve(floats: &mut [f64], bytes: &mut [u8]) -> Result<Served, Refusal>
     }
     let last = desk_place::byte_at(bytes, LAST_AT);
     let first = round_robin::above(last);
-    let k = seek(|k| occupied(bytes, k), first);
-    if k == PLACES {
+    let Some(k) = seek(|k| occupied(bytes, k), first) else {
         return Ok(Served::Idle);
-    }
+    };
     Ok(serve_at(floats, bytes, k))
 }

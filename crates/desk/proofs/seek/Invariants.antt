@@ -5,10 +5,10 @@ use mathlib.Core.Bool.{Bool}
 use Rattle.round_robin.specs.Desk.{places, seek}
 use Rattle.desk.proofs.seek.Given as goal
 
-abbrev pub invariant-loop-i : goal.invariant-loop-i
-invariant-loop-i g l =
-    (l.i ≤ places) × (l.k < places)
-    × ((test : ℕ → Bool) → ((k : ℕ) (b : Bool) → k < places → goal.F-post g l.suits k b → b ≡ test k) → seek (places - l.i) test l.k ≡ seek places test l.from)
+abbrev pub invariant-loop : goal.invariant-loop
+invariant-loop g l =
+    (l.counter ≤ places) × (l.k < places)
+    × ((test : ℕ → Bool) → ((k : ℕ) (b : Bool) → k < places → goal.F-post g l.suits k b → b ≡ test k) → seek (places - l.counter) test l.k ≡ seek places test l.from)
 
-abbrev pub decreases-loop-i : goal.decreases-loop-i
-decreases-loop-i g l = places - l.i
+abbrev pub decreases-loop : goal.decreases-loop
+decreases-loop g l = places - l.counter
