@@ -1,7 +1,7 @@
 // Slip 1 behind the C boundary: the quantum chain with slopes over a set that crosses as its lists.
 #![tactic(auto)]
 
-ghost use Rattle.std.specs.Prelude.{◌≡◌, true, length};
+ghost use Rattle.std.specs.Prelude.{◌≡◌, true, Float, List, length};
 ghost use Rattle.dual.specs.Value.{dual_of};
 ghost use Rattle.mie_parameters.specs.Answer.{outcome, verdict, stored};
 ghost use Rattle.set_lists.specs.Sets.{quantum_lists};
@@ -15,19 +15,14 @@ use number::Refusal;
 use saftvrqmie_energies_slopes::QuantumEnergiesSlopes;
 use set_lists::QuantumSet;
 
-fn write_slopes(e: QuantumEnergiesSlopes, out: &mut [f64])
-    requires { length out.old ≡ 6 }
-    ensures { out.new ≡ slopes_written (energies_slopes_in e) out.old }
+// What the definition writes into a list of six places.
+fn slopes_list(e: QuantumEnergiesSlopes) -> [f64; 6]
+    ensures { (l : List Float) → length l ≡ 6 → slopes_written (energies_slopes_in e) l ≡ result }
 {
     let h = e.hard_sphere;
     let d = e.dispersion;
     let a = e.non_additive;
-    out[0] = h.re;
-    out[1] = h.eps;
-    out[2] = d.re;
-    out[3] = d.eps;
-    out[4] = a.re;
-    out[5] = a.eps;
+    [h.re, h.eps, d.re, d.eps, a.re, a.eps]
 }
 
 // Value and slope of each contribution by turns. 1, 4, then 2, 7 for a supplied slope, the table's 6 and 7, the energies' 6 and 7.
@@ -50,6 +45,6 @@ pub fn vrq_energies_slopes(
     set_lists::quantum_answer(s, right)?;
     let set = set_lists::quantum_set(s);
     let e = saftvrqmie_slopes::energies_slopes(&set, t, x, rho, non_additive)?;
-    write_slopes(e, out);
+    out.copy_from_slice(&slopes_list(e));
     Ok(())
 }
