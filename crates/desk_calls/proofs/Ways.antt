@@ -9,7 +9,7 @@ use mathlib.Core.Bool.{Bool, true, false}
 use mathlib.Core.List.{List, [], ◌∷◌}
 use lib.Dec.{eqb}
 use lib.Ieee.{Float}
-use lib.ListN.{length, set}
+use lib.ListN.{length}
 use Rattle.number.specs.Ans.{Ans, held, refused, ◌>>=◌, demand}
 use Rattle.mie_parameters.specs.Answer.{outcome, verdict, status, stored, number_of}
 use Rattle.saftvrqmie_energies.specs.Energies.{EnergiesIn}
@@ -52,21 +52,14 @@ module _ (l m : Lists) (p : ℕ) where
 
 -- ---- a finished query's answer
 
-three_laid : (l : List Float) (e : EnergiesIn Float) → length l ≡ 3 → set (set (set l 0 e.hard_sphere) 1 e.dispersion) 2 e.non_additive ≡ e.hard_sphere ∷ e.dispersion ∷ e.non_additive ∷ []
-three_laid (a ∷ b ∷ c ∷ []) e h = refl
-three_laid [] e h = absurd (omega arith)
-three_laid (a ∷ []) e h = absurd (omega arith)
-three_laid (a ∷ b ∷ []) e h = absurd (omega arith)
-three_laid (a ∷ b ∷ c ∷ d ∷ l) e h = absurd (omega arith)
-
 module _ (a : Ans (EnergiesIn Float)) (l : List Float) where
   pub number_out : (n : ℕ) → a ≡ refused n → (n ≡ status a) × (l ≡ handed a l)
   unfolding status verdict handed
   number_out n h = rw h (refl, refl)
 
-  pub energies_out : (e : EnergiesIn Float) → a ≡ held e → length l ≡ 3 → (0 ≡ status a) × (set (set (set l 0 e.hard_sphere) 1 e.dispersion) 2 e.non_additive ≡ handed a l)
+  pub energies_out : (e : EnergiesIn Float) → a ≡ held e → (o : List Float) → o ≡ e.hard_sphere ∷ e.dispersion ∷ e.non_additive ∷ [] → (0 ≡ status a) × (o ≡ handed a l)
   unfolding status verdict handed
-  energies_out e h n = rw h (refl, three_laid l e n)
+  energies_out e h o p = rw h (refl, p)
 
 -- ---- serve
 

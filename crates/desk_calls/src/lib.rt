@@ -4,17 +4,14 @@
 ghost use Rattle.std.specs.Prelude.{◌≡◌, length};
 ghost use Rattle.mie_parameters.specs.Answer.{status, stored};
 ghost use Rattle.saftvrqmie_energies.specs.Energies.{energies_answer};
-ghost use Rattle.set_lists.specs.Sets.{QuantumLists};
 ghost use Rattle.round_robin.specs.Desk.{Entered};
 ghost use Rattle.desk_place.specs.Layout.{Lists};
-ghost use Rattle.desk_place.specs.Place.{Query};
-ghost use Rattle.desk.specs.Desk.{begun, submitted};
+ghost use Rattle.desk.specs.Desk.{query_of, begun, submitted};
 ghost use Rattle.desk_calls.specs.Calls.{Lent, handed, served_call};
 
 use desk::{DeskQuery, Served};
 use number::Refusal;
 use saftvrqmie_energies::QuantumEnergies;
-use set_lists::QuantumSet;
 
 // A desk with no query. 1 for a list of another length.
 pub fn begin(floats: &mut [f64], bytes: &mut [u8]) -> u8
@@ -25,40 +22,13 @@ pub fn begin(floats: &mut [f64], bytes: &mut [u8]) -> u8
     mie_parameters::number(answer)
 }
 
-// A query takes the lowest free place and is told it. 1, 4, 2, then 17 where all are occupied. The parameters are those of the C call, which hands them on.
-pub fn submit(
-    floats: &mut [f64],
-    bytes: &mut [u8],
-    count: usize,
-    m: &[f64],
-    sheets: &[f64],
-    orders: &[u8],
-    temperature: f64,
-    fractions: &[f64],
-    densities: &[f64],
-    non_additive: bool,
-    place: &mut usize,
-) -> u8
-    ensures { let s : QuantumLists = record { count = count; m = m.now; sheets = sheets.now; orders = orders.now } in
-        let q : Query = record { lists = s; temperature = temperature; fractions = fractions.now; densities = densities.now; wanted = non_additive } in
-        let l : Entered Lists = record { desk = record { floats = floats.entry.now; bytes = bytes.old }; place = place.old } in
-        let a = submitted l.desk q in
+// A query takes the lowest free place and is told it. 1, 4, 2, then 17 where all are occupied.
+pub fn submit(floats: &mut [f64], bytes: &mut [u8], query: &DeskQuery, place: &mut usize) -> u8
+    ensures { let l : Entered Lists = record { desk = record { floats = floats.entry.now; bytes = bytes.old }; place = place.old } in
+        let a = submitted l.desk (query_of query.now) in
         (result ≡ status a) × (record { desk = record { floats = floats.exit.now; bytes = bytes.new }; place = place.new } ≡ stored l a) }
 {
-    let lists = QuantumSet {
-        count,
-        m,
-        sheets,
-        orders,
-    };
-    let query = DeskQuery {
-        lists,
-        temperature,
-        fractions,
-        densities,
-        non_additive,
-    };
-    let answer = desk::submit(floats, bytes, &query);
+    let answer = desk::submit(floats, bytes, query);
     match answer {
         Err(r) => r.code(),
         Ok(k) => {
@@ -80,9 +50,7 @@ fn hand_out(e: Result<QuantumEnergies, Refusal>, number: &mut u8, out: &mut [f64
         }
         Ok(x) => {
             *number = 0;
-            out[0] = x.hard_sphere;
-            out[1] = x.dispersion;
-            out[2] = x.non_additive;
+            out.copy_from_slice(&[x.hard_sphere, x.dispersion, x.non_additive]);
         }
     }
 }

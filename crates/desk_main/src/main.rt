@@ -1,9 +1,10 @@
 // Works the calls of data/calls.bin at one desk, through the operations behind the C boundary. A record is eight words, least significant byte first; docs/VECTORS.md says which. Writes for each call its answer and what it tells.
 #![tactic(auto)]
 
-use desk::{BYTES, FLOATS};
+use desk::{BYTES, DeskQuery, FLOATS};
 use number::bits_of;
 use records::{Records, part};
+use set_lists::QuantumSet;
 use sizes::{SHEET, SHEETS, SIDE};
 use std::array;
 use std::fs::File;
@@ -45,19 +46,20 @@ fn submit(
     let fractions = [f[2]; SIDE];
     let densities = [f[3]; SIDE];
     let mut place = 99;
-    let answer = desk_calls::submit(
-        floats,
-        bytes,
-        usize::from(record[1]),
-        &m,
-        &sheets,
-        &orders,
-        f[1],
-        part(&fractions, 0, usize::from(record[2])),
-        part(&densities, 0, usize::from(record[3])),
-        record[4] != 0,
-        &mut place,
-    );
+    let lists = QuantumSet {
+        count: usize::from(record[1]),
+        m: &m,
+        sheets: &sheets,
+        orders: &orders,
+    };
+    let query = DeskQuery {
+        lists,
+        temperature: f[1],
+        fractions: part(&fractions, 0, usize::from(record[2])),
+        densities: part(&densities, 0, usize::from(record[3])),
+        non_additive: record[4] != 0,
+    };
+    let answer = desk_calls::submit(floats, bytes, &query, &mut place);
     println!(rt; "submit {answer} {place}")
 }
 

@@ -8,6 +8,9 @@ ghost use Rattle.desk_place.specs.Place.{Query};
 ghost use Rattle.desk.specs.Desk.{begun, submitted};
 ghost use Rattle.desk_calls.specs.Calls.{Lent, served_call};
 
+use desk::DeskQuery;
+use set_lists::QuantumSet;
+
 // A desk with no query. 1 for a list of another length.
 pub fn domthelv_desk_begin(floats: &mut [f64], bytes: &mut [u8]) -> u8
     ensures { let l : Lists = record { floats = floats.entry.now; bytes = bytes.old } in
@@ -36,19 +39,20 @@ pub fn domthelv_desk_submit(
         let a = submitted l.desk q in
         (result ≡ status a) × (record { desk = record { floats = floats.exit.now; bytes = bytes.new }; place = place.new } ≡ stored l a) }
 {
-    desk_calls::submit(
-        floats,
-        bytes,
+    let lists = QuantumSet {
         count,
         m,
         sheets,
         orders,
+    };
+    let query = DeskQuery {
+        lists,
         temperature,
         fractions,
         densities,
         non_additive,
-        place,
-    )
+    };
+    desk_calls::submit(floats, bytes, &query, place)
 }
 
 // One unit for the next occupied place above the one served last; `outcome` 0 where no query was waiting, 1 for a unit, 2 for a finished query with its place and number, 0 with energies. 1 for a list of another length.

@@ -3,6 +3,7 @@
 use unproved::desk::{BYTES, DeskQuery, FLOATS, Served, begin, serve, submit};
 use unproved::number::Refusal;
 use unproved::saftvrqmie_energies::{QuantumEnergies, Set, StateLists, energies_of};
+use unproved::set_lists::QuantumSet;
 use unproved::{limits, saftvrqmie, set_lists};
 
 const PLACES: usize = 16;
@@ -92,10 +93,14 @@ impl Query {
         q
     }
 
+    fn lists(&self) -> QuantumSet<'_> {
+        QuantumSet { count: self.count, m: &self.m, sheets: &self.sheets, orders: &self.orders }
+    }
+
     /// What the door says: every 1, then 4, then every 2.
     fn door(&self) -> Option<u8> {
         let right = self.fractions.len() == self.count && self.densities.len() == self.count;
-        match set_lists::quantum_answer(self.count, &self.m, &self.sheets, &self.orders, right) {
+        match set_lists::quantum_answer(&self.lists(), right) {
             Err(r) => Some(r.code()),
             Ok(()) => (!limits::state_within(self.count, self.temperature, &self.fractions, &self.densities)).then_some(2),
         }
@@ -113,10 +118,7 @@ impl Query {
 
     fn submit(&self, floats: &mut [f64], bytes: &mut [u8]) -> Result<usize, u8> {
         let query = DeskQuery {
-            count: self.count,
-            m: &self.m,
-            sheets: &self.sheets,
-            orders: &self.orders,
+            lists: self.lists(),
             temperature: self.temperature,
             fractions: &self.fractions,
             densities: &self.densities,
