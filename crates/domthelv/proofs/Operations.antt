@@ -1,6 +1,8 @@
 -- The operations behind the boundary, test by test, over plain values. Assumes nothing.
 use Prim.Native.Nat.{ℕ, ◌*◌}
 use Rattle.std.specs.Prelude.{Err, Ok, Result}
+use Rattle.std.specs.Result.{ForOk, IsOkAnd, MatchResult, is_ok}
+use Rattle.number.specs.Answer.{answer, answer_by}
 use Rattle.number.specs.declared.refusal.Refusal.{Refusal}
 use lib.Dec.{eqb}
 use lib.Ieee.{Float}
@@ -37,6 +39,7 @@ use Rattle.saftvrmie_energies_ends.specs.Operation.{dispersion_ends}
 use Rattle.saftvrmie_diameter_ends.specs.Operations as MieDiameter
 use Rattle.set_lists.specs.Sets.{QuantumLists, taken, quantum_lengths, quantum_set, MieLists, mie_lengths, mie_read, mie_set}
 use Rattle.set_lists.specs.Written.{QuantumLent, MieLent, set_written, mie_written}
+use Rattle.domthelv.specs.Asked.{energies_asked, ends_asked, radii_asked, diameter_ends_asked}
 use Rattle.domthelv.specs.Operations.{counts_written, order_counts_out, vrq_parameters, vrq_table, radii_lengths, radii_written, vrq_radii, energies_written, vrq_energies, ends_written, vrq_energies_ends, pair_written, vrq_diameter, vrq_diameter_ends, vrq_stage, vr_parameters, vr_diameters, vr_radius, vr_diameter, vr_dispersion, vr_dispersion_ends, vr_diameter_ends}
 
 -- `outcome` of an operation that leaves nothing behind
@@ -77,6 +80,50 @@ held_stored l x q p = rw p
 pub delivered : {S : Type 0} (q a : Ans S) (r : ℕ) (before after : S) → (r ≡ status a) × (after ≡ stored before a) → a ≡ q → (r ≡ status q) × (after ≡ stored before q)
 delivered q a r before after (s, t) e = (s ∙ ap status e, t ∙ ap (stored before) e)
 
+-- one step after another
+module _ {R S : Type 0} (a : Ans R) (f : R → Ans S) where
+  pub bind_refused : (k : ℕ) → a ≡ refused k → (a >>= f) ≡ refused k
+  unfolding ◌>>=◌
+  bind_refused k p = rw p
+
+  pub bind_held : (x : R) → a ≡ held x → (a >>= f) ≡ f x
+  unfolding ◌>>=◌
+  bind_held x p = rw p
+
+pub bind_bind : {R S T : Type 0} (a : Ans R) (f : R → Ans S) (g : S → Ans T) → ((a >>= f) >>= g) ≡ (a >>= λ x. f x >>= g)
+unfolding ◌>>=◌
+bind_bind (held x) f g = refl
+bind_bind (refused k) f g = refl
+
+pub refused_verdict : {S : Type 0} (q : Ans S) (n : ℕ) → q ≡ refused n → refused n ≡ verdict q
+unfolding verdict
+refused_verdict q n p = rw p
+
+-- a list of n places that `map` made of an answer: what the definition writes into any list of n places
+abbrev pub Listed : {T A : Type 0} → ℕ → (T → List A → List A) → Result T Refusal → Result (List A) Refusal → Type 0
+Listed {T} {A} n w a m = MatchResult a (λ x. IsOkAnd m (λ y. (length y ≡ n) × ((l : List A) → length l ≡ n → w x l ≡ y))) (λ e. m ≡ Err e)
+
+-- it is as long as the list that it is copied into
+pub fits : {T A : Type 0} (n : ℕ) (w : T → List A → List A) (l : List A) (a : Result T Refusal) (m : Result (List A) Refusal) → Listed n w a m → ForOk a (λ _. length l ≡ n) → (y : List A) → m ≡ Ok y → length l ≡ length y
+fits n w l (Ok x) m h p y e = p x refl ∙ sym (rw e at h).0
+fits n w l (Err r) m h p y e = absurd (mathlib.Core.Bool.false≢true (ap is_ok (sym h ∙ e)))
+
+-- such a list that `deliver_list` has stored
+module _ {T S A : Type 0} (of : T → S) (w : S → List A → List A) (n : ℕ) (l : List A) where
+  list_is : (a : Result T Refusal) (m : Result (List A) Refusal) → Listed n (λ x. w (of x)) a m → ForOk a (λ _. length l ≡ n) → answer m ≡ (answer_by of a >>= λ e. held (w e l))
+  unfolding ◌>>=◌
+  list_is (Ok x) (Ok y) h p = ap held (sym (h.1 l (p x refl)))
+  list_is (Ok x) (Err r) h p = absurd h
+  list_is (Err r) m h p = rw h
+
+  pub list_delivered : (a : Result T Refusal) (m : Result (List A) Refusal) (b : Ans S) (q : Ans (List A)) (r : ℕ) (y : List A) → Listed n (λ x. w (of x)) a m → ForOk a (λ _. length l ≡ n) → answer_by of a ≡ b → q ≡ (b >>= λ e. held (w e l))
+      → (r ≡ status (answer m)) × (y ≡ stored l (answer m)) → (r ≡ status q) × (y ≡ stored l q)
+  list_delivered a m b q r y h p e d g = delivered q (answer m) r l y g (list_is a m h p ∙ ap (λ (z : Ans S). z >>= λ e. held (w e l)) e ∙ sym d)
+
+pub by_self : {T : Type 0} (a : Result T Refusal) → answer_by (λ x. x) a ≡ answer a
+by_self (Ok x) = refl
+by_self (Err r) = refl
+
 pub radii_lengths_told : (l : Lent) → radii_lengths l ≡ true → (length l.values ≡ 6) × (length l.numbers ≡ 3)
 unfolding radii_lengths
 radii_lengths_told l p =
@@ -89,13 +136,9 @@ module _ (n : ℕ) (l : List ℕ) where
   unfolding order_counts_out demand ◌>>=◌
   counts_1 p = rw p
 
-  pub counts_refused : (k : ℕ) → eqb (length l) 3 ≡ true → order_counts n ≡ refused k → order_counts_out n l ≡ refused k
+  pub counts_is : eqb (length l) 3 ≡ true → order_counts_out n l ≡ (order_counts n >>= λ c. held (counts_written c l))
   unfolding order_counts_out demand ◌>>=◌
-  counts_refused k p q = rw (p, q)
-
-  pub counts_held : (c : OrderCounts) → eqb (length l) 3 ≡ true → order_counts n ≡ held c → order_counts_out n l ≡ held (counts_written c l)
-  unfolding order_counts_out demand ◌>>=◌
-  counts_held c p q = rw (p, q)
+  counts_is p = rw p
 
 module _ (x : Quantum.Lists) (l : QuantumLent) where
   pub parameters_1 : quantum_lengths l.m l.sheets l.orders ≡ false → vrq_parameters x l ≡ refused 1
@@ -131,57 +174,27 @@ module _ (s : QuantumLists) (t : Float) (l : Lent) where
     unfolding vrq_radii demand ◌>>=◌
     radii_1 p = rw p
 
-    module _ (p : radii_lengths l ≡ true) where
-      pub radii_set : (k : ℕ) → quantum_set (index_within s.count i j) s ≡ refused k → vrq_radii s i j t l ≡ refused k
-      unfolding vrq_radii demand ◌>>=◌
-      radii_set k q = rw (p, q)
-
-      module _ (x : SaftVRQMiePars) (q : quantum_set (index_within s.count i j) s ≡ held x) where
-        pub radii_refused : (k : ℕ) → radii_ij x i j t ≡ refused k → vrq_radii s i j t l ≡ refused k
-        unfolding vrq_radii demand ◌>>=◌
-        radii_refused k r = rw (p, q, r)
-
-        pub radii_held : (r : SearchesIn Float) → radii_ij x i j t ≡ held r → vrq_radii s i j t l ≡ held (radii_written r l)
-        unfolding vrq_radii demand ◌>>=◌
-        radii_held r h = rw (p, q, h)
+    pub radii_is : radii_lengths l ≡ true → vrq_radii s i j t l ≡ (radii_asked s i j t >>= λ r. held (radii_written r l))
+    unfolding vrq_radii demand ◌>>=◌
+    radii_is p = rw p (sym (bind_bind (quantum_set (index_within s.count i j) s) (λ y. radii_ij y i j t) (λ r. held (radii_written r l))))
 
 module _ (s : QuantumLists) (t : Float) (x rho table : List Float) (wanted : Bool) (l : List Float) where
   pub energies_1 : eqb (length l) 3 ≡ false → vrq_energies s t x rho table wanted l ≡ refused 1
   unfolding vrq_energies demand ◌>>=◌
   energies_1 p = rw p
 
-  module _ (p : eqb (length l) 3 ≡ true) where
-    pub energies_set : (k : ℕ) → quantum_set (state_lengths s.count x rho table) s ≡ refused k → vrq_energies s t x rho table wanted l ≡ refused k
-    unfolding vrq_energies demand ◌>>=◌
-    energies_set k q = rw (p, q)
-
-    module _ (y : SaftVRQMiePars) (q : quantum_set (state_lengths s.count x rho table) s ≡ held y) where
-      pub energies_refused : (k : ℕ) → energies y t x rho table wanted ≡ refused k → vrq_energies s t x rho table wanted l ≡ refused k
-      unfolding vrq_energies demand ◌>>=◌
-      energies_refused k r = rw (p, q, r)
-
-      pub energies_held : (e : EnergiesIn Float) → energies y t x rho table wanted ≡ held e → vrq_energies s t x rho table wanted l ≡ held (energies_written e l)
-      unfolding vrq_energies demand ◌>>=◌
-      energies_held e h = rw (p, q, h)
+  pub energies_is : eqb (length l) 3 ≡ true → vrq_energies s t x rho table wanted l ≡ (energies_asked s t x rho table wanted >>= λ e. held (energies_written e l))
+  unfolding vrq_energies demand ◌>>=◌
+  energies_is p = rw p (sym (bind_bind (quantum_set (state_lengths s.count x rho table) s) (λ y. energies y t x rho table wanted) (λ e. held (energies_written e l))))
 
 module _ (s : QuantumLists) (t : Float) (x rho table : List Float) (wanted : Bool) (l : List Float) where
   pub energies_ends_1 : eqb (length l) 6 ≡ false → vrq_energies_ends s t x rho table wanted l ≡ refused 1
   unfolding vrq_energies_ends demand ◌>>=◌
   energies_ends_1 p = rw p
 
-  module _ (p : eqb (length l) 6 ≡ true) where
-    pub energies_ends_set : (k : ℕ) → quantum_set (state_lengths s.count x rho table) s ≡ refused k → vrq_energies_ends s t x rho table wanted l ≡ refused k
-    unfolding vrq_energies_ends demand ◌>>=◌
-    energies_ends_set k q = rw (p, q)
-
-    module _ (y : SaftVRQMiePars) (q : quantum_set (state_lengths s.count x rho table) s ≡ held y) where
-      pub energies_ends_refused : (k : ℕ) → energies_ends port y t x rho table wanted ≡ refused k → vrq_energies_ends s t x rho table wanted l ≡ refused k
-      unfolding vrq_energies_ends demand ◌>>=◌
-      energies_ends_refused k r = rw (p, q, r)
-
-      pub energies_ends_held : (e : EnergiesIn Ends) → energies_ends port y t x rho table wanted ≡ held e → vrq_energies_ends s t x rho table wanted l ≡ held (ends_written e l)
-      unfolding vrq_energies_ends demand ◌>>=◌
-      energies_ends_held e h = rw (p, q, h)
+  pub energies_ends_is : eqb (length l) 6 ≡ true → vrq_energies_ends s t x rho table wanted l ≡ (ends_asked s t x rho table wanted >>= λ e. held (ends_written e l))
+  unfolding vrq_energies_ends demand ◌>>=◌
+  energies_ends_is p = rw p (sym (bind_bind (quantum_set (state_lengths s.count x rho table) s) (λ y. energies_ends port y t x rho table wanted) (λ e. held (ends_written e l))))
 
 module _ (s : QuantumLists) (i j : ℕ) (t sigma_eff r0 : Float) where
   pub diameter_set : (k : ℕ) → quantum_set (index_within s.count i j) s ≡ refused k → vrq_diameter s i j t sigma_eff r0 ≡ refused k
@@ -197,32 +210,18 @@ module _ (s : QuantumLists) (i j : ℕ) (t sigma_eff r0 : Float) where
     unfolding vrq_diameter_ends demand ◌>>=◌
     diameter_ends_1 p = rw p
 
-    module _ (p : eqb (length l) 2 ≡ true) where
-      pub diameter_ends_set : (k : ℕ) → quantum_set (index_within s.count i j) s ≡ refused k → vrq_diameter_ends s i j t sigma_eff r0 l ≡ refused k
-      unfolding vrq_diameter_ends demand ◌>>=◌
-      diameter_ends_set k q = rw (p, q)
-
-      module _ (x : SaftVRQMiePars) (q : quantum_set (index_within s.count i j) s ≡ held x) where
-        pub diameter_ends_refused : (k : ℕ) → diameter_ends port x i j t sigma_eff r0 ≡ refused k → vrq_diameter_ends s i j t sigma_eff r0 l ≡ refused k
-        unfolding vrq_diameter_ends demand ◌>>=◌
-        diameter_ends_refused k r = rw (p, q, r)
-
-        pub diameter_ends_held : (e : Ends) → diameter_ends port x i j t sigma_eff r0 ≡ held e → vrq_diameter_ends s i j t sigma_eff r0 l ≡ held (pair_written e l)
-        unfolding vrq_diameter_ends demand ◌>>=◌
-        diameter_ends_held e h = rw (p, q, h)
+    pub diameter_ends_is : eqb (length l) 2 ≡ true → vrq_diameter_ends s i j t sigma_eff r0 l ≡ (diameter_ends_asked s i j t sigma_eff r0 >>= λ e. held (pair_written e l))
+    unfolding vrq_diameter_ends demand ◌>>=◌
+    diameter_ends_is p = rw p (sym (bind_bind (quantum_set (index_within s.count i j) s) (λ y. diameter_ends port y i j t sigma_eff r0) (λ e. held (pair_written e l))))
 
 module _ (x : Quantum.Lists) (t : Float) (fractions rho : List Float) (wanted : Bool) (l : List Float) where
   pub stage_1 : eqb (length l) 3 ≡ false → vrq_stage x t fractions rho wanted l ≡ refused 1
   unfolding vrq_stage demand ◌>>=◌
   stage_1 p = rw p
 
-  pub stage_refused : (k : ℕ) → eqb (length l) 3 ≡ true → quantum_stage x t fractions rho wanted ≡ refused k → vrq_stage x t fractions rho wanted l ≡ refused k
+  pub stage_is : eqb (length l) 3 ≡ true → vrq_stage x t fractions rho wanted l ≡ (quantum_stage x t fractions rho wanted >>= λ e. held (energies_written e l))
   unfolding vrq_stage demand ◌>>=◌
-  stage_refused k p q = rw (p, q)
-
-  pub stage_held : (e : EnergiesIn Float) → eqb (length l) 3 ≡ true → quantum_stage x t fractions rho wanted ≡ held e → vrq_stage x t fractions rho wanted l ≡ held (energies_written e l)
-  unfolding vrq_stage demand ◌>>=◌
-  stage_held e p q = rw (p, q)
+  stage_is p = rw p
 
 module _ (x : Mie.Lists) (l : MieLent) where
   pub mie_parameters_1 : mie_lengths l.lists l.sheets ≡ false → vr_parameters x l ≡ refused 1
@@ -283,14 +282,9 @@ module _ (s : MieLists) where
         unfolding vr_dispersion_ends demand ◌>>=◌
         mie_dispersion_ends_set k q = rw (p, q)
 
-        module _ (y : SaftVRMiePars) (q : mie_set s ≡ held y) where
-          pub mie_dispersion_ends_refused : (k : ℕ) → dispersion_ends port y t x rho d chain ≡ refused k → vr_dispersion_ends s t x rho d chain l ≡ refused k
-          unfolding vr_dispersion_ends demand ◌>>=◌
-          mie_dispersion_ends_refused k r = rw (p, q, r)
-
-          pub mie_dispersion_ends_held : (e : Ends) → dispersion_ends port y t x rho d chain ≡ held e → vr_dispersion_ends s t x rho d chain l ≡ held (pair_written e l)
-          unfolding vr_dispersion_ends demand ◌>>=◌
-          mie_dispersion_ends_held e h = rw (p, q, h)
+        pub mie_dispersion_ends_is : (y : SaftVRMiePars) → mie_set s ≡ held y → vr_dispersion_ends s t x rho d chain l ≡ (dispersion_ends port y t x rho d chain >>= λ e. held (pair_written e l))
+        unfolding vr_dispersion_ends demand ◌>>=◌
+        mie_dispersion_ends_is y q = rw (p, q)
 
   module _ (i j : ℕ) (t r0 : Float) (l : List Float) where
     pub mie_diameter_ends_1 : eqb (length l) 2 ≡ false → vr_diameter_ends s i j t r0 l ≡ refused 1
@@ -302,11 +296,6 @@ module _ (s : MieLists) where
       unfolding vr_diameter_ends demand ◌>>=◌
       mie_diameter_ends_set k q = rw (p, q)
 
-      module _ (x : SaftVRMiePars) (q : mie_set s ≡ held x) where
-        pub mie_diameter_ends_refused : (k : ℕ) → MieDiameter.diameter_ends port x i j t r0 ≡ refused k → vr_diameter_ends s i j t r0 l ≡ refused k
-        unfolding vr_diameter_ends demand ◌>>=◌
-        mie_diameter_ends_refused k r = rw (p, q, r)
-
-        pub mie_diameter_ends_held : (e : Ends) → MieDiameter.diameter_ends port x i j t r0 ≡ held e → vr_diameter_ends s i j t r0 l ≡ held (pair_written e l)
-        unfolding vr_diameter_ends demand ◌>>=◌
-        mie_diameter_ends_held e h = rw (p, q, h)
+      pub mie_diameter_ends_is : (x : SaftVRMiePars) → mie_set s ≡ held x → vr_diameter_ends s i j t r0 l ≡ (MieDiameter.diameter_ends port x i j t r0 >>= λ e. held (pair_written e l))
+      unfolding vr_diameter_ends demand ◌>>=◌
+      mie_diameter_ends_is x q = rw (p, q)

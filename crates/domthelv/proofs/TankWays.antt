@@ -4,10 +4,10 @@ use lib.Dec.{eqb}
 use lib.Ieee.{Float}
 use lib.ListN.{length}
 use mathlib.Core.List.{List}
-use mathlib.Core.Path.{◌≡◌}
+use mathlib.Core.Path.{◌≡◌, refl}
 use mathlib.Core.Bool.{Bool}
 use borrow.Author.Tests.{eqb-true}
-use Rattle.number.specs.Ans.{held, refused, ◌>>=◌}
+use Rattle.number.specs.Ans.{held, ◌>>=◌}
 use Rattle.enclosure.specs.declared.Ends.{Ends}
 use Rattle.saftvrqmie_energies.specs.Energies.{EnergiesIn}
 use Rattle.saftvrqmie_tank.specs.Tank.{TankLists}
@@ -18,21 +18,13 @@ use Rattle.domthelv.specs.Operations.{energies_written, ends_written}
 use Rattle.domthelv.specs.Tank.{vrq_tank, vrq_tank_ends}
 
 module _ (s : QuantumLists) (q : TankLists) (wanted : Bool) (l : List Float) where
-  pub tank_refused : (k : ℕ) → listed_tank s q wanted (eqb (length l) 3) ≡ refused k → vrq_tank s q wanted l ≡ refused k
-  unfolding vrq_tank ◌>>=◌
-  tank_refused k p = rw p
+  pub tank_is : vrq_tank s q wanted l ≡ (listed_tank s q wanted (eqb (length l) 3) >>= λ e. held (energies_written e l))
+  unfolding vrq_tank
+  tank_is = refl
 
-  pub tank_held : (e : EnergiesIn Float) → listed_tank s q wanted (eqb (length l) 3) ≡ held e → vrq_tank s q wanted l ≡ held (energies_written e l)
-  unfolding vrq_tank ◌>>=◌
-  tank_held e p = rw p
-
-  pub ends_refused : (k : ℕ) → listed_tank_ends s q wanted (eqb (length l) 6) ≡ refused k → vrq_tank_ends s q wanted l ≡ refused k
-  unfolding vrq_tank_ends ◌>>=◌
-  ends_refused k p = rw p
-
-  pub ends_held : (e : EnergiesIn Ends) → listed_tank_ends s q wanted (eqb (length l) 6) ≡ held e → vrq_tank_ends s q wanted l ≡ held (ends_written e l)
-  unfolding vrq_tank_ends ◌>>=◌
-  ends_held e p = rw p
+  pub ends_is : vrq_tank_ends s q wanted l ≡ (listed_tank_ends s q wanted (eqb (length l) 6) >>= λ e. held (ends_written e l))
+  unfolding vrq_tank_ends
+  ends_is = refl
 
 -- the list that is written has its places
 module _ (s : QuantumLists) (q : TankLists) (wanted : Bool) (n : ℕ) where

@@ -1,29 +1,52 @@
 // The two-ended calls of both models at the C boundary.
-ghost use Rattle.std.specs.Prelude.{◌≡◌, length};
+ghost use Rattle.std.specs.Prelude.{◌≡◌, Float, List, length};
+ghost use Rattle.number.specs.Answer.{answer};
 ghost use Rattle.mie_parameters.specs.Answer.{status, stored};
-ghost use Rattle.set_lists.specs.Sets.{QuantumLists, MieLists};
+ghost use Rattle.set_lists.specs.Sets.{QuantumLists, quantum_lists, MieLists};
 ghost use Rattle.domthelv.specs.Operations.{ends_written, vrq_energies_ends, pair_written, vrq_diameter_ends, vr_dispersion_ends, vr_diameter_ends};
-ghost use Rattle.saftvrqmie_energies.specs.Energies.{energies_in};
+ghost use Rattle.domthelv.specs.Asked.{ends_asked, diameter_ends_asked};
+ghost use Rattle.saftvrqmie_energies.specs.Energies.{energies_in, energies_answer};
 
+use crate::functions::deliver_list;
+use crate::quantum::pair_set;
 use enclosure::Ends;
+use number::Refusal;
 use saftvrqmie_energies::{Set, StateLists};
 use saftvrqmie_energies_ends::EnergiesEnds;
 use set_lists::{MieSet, QuantumSet};
 
-// The call has tested the list's length before any work: here its answer is settled.
-pub fn write_ends(e: EnergiesEnds, out: &mut [f64])
-    requires { length out.old ≡ 6 }
-    ensures { out.new ≡ ends_written (energies_in e) out.old }
+// What the definition writes into a list of as many places.
+pub fn ends_list(e: EnergiesEnds) -> [f64; 6]
+    ensures { (length result ≡ 6) × ((l : List Float) → length l ≡ 6 → ends_written (energies_in e) l ≡ result) }
 {
     let h = e.hard_sphere;
     let d = e.dispersion;
     let a = e.non_additive;
-    out[0] = h.lower;
-    out[1] = h.upper;
-    out[2] = d.lower;
-    out[3] = d.upper;
-    out[4] = a.lower;
-    out[5] = a.upper;
+    [h.lower, h.upper, d.lower, d.upper, a.lower, a.upper]
+}
+
+fn pair_list(e: Ends) -> [f64; 2]
+    ensures { (length result ≡ 2) × ((l : List Float) → length l ≡ 2 → pair_written e l ≡ result) }
+{
+    [e.lower, e.upper]
+}
+
+// The ends of a set that crosses as its lists. 1, 4, then 2, 6, 7, 8.
+fn energies_ends(s: &QuantumSet, q: &StateLists) -> Result<EnergiesEnds, Refusal>
+    ensures { energies_answer result ≡ ends_asked (quantum_lists s.now) q.now.temperature q.now.fractions.now q.now.densities.now q.now.table.now q.now.non_additive }
+{
+    let right = saftvrqmie_energies::right_lengths(s.count, q.fractions, q.densities, q.table);
+    set_lists::quantum_answer(s, right)?;
+    let places = set_lists::places(s.m, 0);
+    let flat = set_lists::flat(s.sheets);
+    let records = set_lists::order_records(s.orders);
+    let set = Set {
+        count: s.count,
+        m: &places,
+        sheets: &flat,
+        orders: &records,
+    };
+    saftvrqmie_energies_ends::energies_ends_of(&set, q)
 }
 
 // Two ends of the quantum energies: low and high end of each. 1, 4, then 2, 6, 7, 8.
@@ -44,27 +67,13 @@ pub fn domthelv_vrq_energies_ends(
         (result ≡ status q) × (out.new ≡ stored out.old q) }
 {
     if out.len() != 6 {
-        return 1;
+        return Refusal::Length.code();
     }
-    let right = saftvrqmie_energies::right_lengths(count, fractions, densities, table);
     let lent = QuantumSet {
         count,
         m,
         sheets,
         orders,
-    };
-    let read = set_lists::quantum_answer(&lent, right);
-    let Ok(()) = read else {
-        return mie_parameters::number(read);
-    };
-    let places = set_lists::places(m, 0);
-    let flat = set_lists::flat(sheets);
-    let records = set_lists::order_records(orders);
-    let set = Set {
-        count,
-        m: &places,
-        sheets: &flat,
-        orders: &records,
     };
     let state = StateLists {
         temperature,
@@ -73,22 +82,22 @@ pub fn domthelv_vrq_energies_ends(
         table,
         non_additive,
     };
-    let worked = saftvrqmie_energies_ends::energies_ends_of(&set, &state);
-    match worked {
-        Err(r) => r.code(),
-        Ok(e) => {
-            write_ends(e, out);
-            0
-        }
-    }
+    deliver_list(energies_ends(&lent, &state).map(ends_list), out)
 }
 
-fn write_pair(e: Ends, out: &mut [f64])
-    requires { length out.old ≡ 2 }
-    ensures { out.new ≡ pair_written e out.old }
+// The same of a pair's diameter.
+fn diameter_ends(
+    s: &QuantumSet,
+    i: usize,
+    j: usize,
+    temperature: f64,
+    sigma_eff: f64,
+    r0: f64,
+) -> Result<Ends, Refusal>
+    ensures { answer result ≡ diameter_ends_asked (quantum_lists s.now) i j temperature sigma_eff r0 }
 {
-    out[0] = e.lower;
-    out[1] = e.upper;
+    let set = pair_set(s, i, j)?;
+    saftvrqmie_diameter_ends::hs_diameter_ij_ends(set, i, j, temperature, sigma_eff, r0)
 }
 
 // Two ends of a pair's diameter from its searched radii. 1, 4, then 2, 6, 7, 8.
@@ -109,35 +118,16 @@ pub fn domthelv_vrq_diameter_ends(
         (result ≡ status q) × (out.new ≡ stored out.old q) }
 {
     if out.len() != 2 {
-        return 1;
+        return Refusal::Length.code();
     }
-    let right = limits::index_within(count, i, j);
     let lent = QuantumSet {
         count,
         m,
         sheets,
         orders,
     };
-    let read = set_lists::quantum_answer(&lent, right);
-    let Ok(()) = read else {
-        return mie_parameters::number(read);
-    };
-    let set = set_lists::quantum_set(&lent);
-    let worked = saftvrqmie_diameter_ends::hs_diameter_ij_ends(
-        set,
-        i,
-        j,
-        temperature,
-        sigma_eff,
-        r0,
-    );
-    match worked {
-        Err(r) => r.code(),
-        Ok(e) => {
-            write_pair(e, out);
-            0
-        }
-    }
+    let worked = diameter_ends(&lent, i, j, temperature, sigma_eff, r0);
+    deliver_list(worked.map(pair_list), out)
 }
 
 // Two ends of dispersion, with the chain where it is wanted. 1, 2, 6, 7, 8.
@@ -157,10 +147,10 @@ pub fn domthelv_vr_dispersion_ends(
         (result ≡ status q) × (out.new ≡ stored out.old q) }
 {
     if out.len() != 2 {
-        return 1;
+        return Refusal::Length.code();
     }
     if !set_lists::mie_lengths(lists, sheets) {
-        return 1;
+        return Refusal::Length.code();
     }
     let lent = MieSet {
         count,
@@ -176,13 +166,7 @@ pub fn domthelv_vr_dispersion_ends(
         diameters,
         chain,
     );
-    match worked {
-        Err(r) => r.code(),
-        Ok(e) => {
-            write_pair(e, out);
-            0
-        }
-    }
+    deliver_list(worked.map(pair_list), out)
 }
 
 // Two ends of a pair's diameter from its reduced lower limit. 1, 2, 6, 7, 8.
@@ -201,10 +185,10 @@ pub fn domthelv_vr_diameter_ends(
         (result ≡ status q) × (out.new ≡ stored out.old q) }
 {
     if out.len() != 2 {
-        return 1;
+        return Refusal::Length.code();
     }
     if !set_lists::mie_lengths(lists, sheets) {
-        return 1;
+        return Refusal::Length.code();
     }
     let lent = MieSet {
         count,
@@ -213,11 +197,5 @@ pub fn domthelv_vr_diameter_ends(
     };
     let set = set_lists::mie_set(&lent);
     let worked = saftvrmie_diameter_ends::hs_diameter_ij_ends(set, i, j, temperature, r0);
-    match worked {
-        Err(r) => r.code(),
-        Ok(e) => {
-            write_pair(e, out);
-            0
-        }
-    }
+    deliver_list(worked.map(pair_list), out)
 }

@@ -1,5 +1,6 @@
 // The elementary functions at the C boundary, and the whole power.
-ghost use Rattle.std.specs.Prelude.{◌≡◌};
+ghost use Rattle.std.specs.Prelude.{◌≡◌, length};
+ghost use Rattle.std.specs.Result.{ForOk};
 ghost use Rattle.number.specs.Arith as Arith;
 ghost use Rattle.number.specs.Arith.{floats};
 ghost use Rattle.number.specs.Answer.{answer};
@@ -18,6 +19,20 @@ pub fn deliver(a: Result<f64, Refusal>, out: &mut f64) -> u8
         Err(r) => r.code(),
         Ok(v) => {
             *out = v;
+            0
+        }
+    }
+}
+
+// The same of a list: what is written has as many places, which the call has tested.
+pub fn deliver_list<T: Copy, const N: usize>(a: Result<[T; N], Refusal>, out: &mut [T]) -> u8
+    requires { ForOk a (λ l. length out.old ≡ length l) }
+    ensures { (result ≡ status (answer a)) × (out.new ≡ stored out.old (answer a)) }
+{
+    match a {
+        Err(r) => r.code(),
+        Ok(l) => {
+            out.copy_from_slice(&l);
             0
         }
     }

@@ -1,4 +1,5 @@
 // The C boundary: each function takes lists apart, calls a proved operation and stores its result.
+// Its parameters are those of the C call, one by one: domthelv_c exports it under the same clause, and include/domthelv.h has no structs.
 #![tactic(auto)]
 
 mod card_writing;

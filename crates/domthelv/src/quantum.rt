@@ -1,22 +1,24 @@
 // SAFT-VRQ Mie at the C boundary: parameters, table, a pair's searches and diameter, energies, the stage.
-ghost use Rattle.std.specs.Prelude.{◌≡◌, length};
+ghost use Rattle.std.specs.Prelude.{◌≡◌, true, ℕ, Float, List, length};
 ghost use Rattle.number.specs.Answer.{answer};
-ghost use Rattle.mie_parameters.specs.Answer.{status, stored};
-ghost use Rattle.set_lists.specs.Sets.{QuantumLists};
+ghost use Rattle.mie_parameters.specs.Answer.{outcome, verdict, status, stored};
+ghost use Rattle.limits.specs.Limits.{index_within};
+ghost use Rattle.set_lists.specs.Sets.{QuantumLists, quantum_lists, quantum_set};
 ghost use Rattle.set_lists.specs.Written.{QuantumLent};
 ghost use Rattle.domthelv.specs.Operations.{counts_written, order_counts_out, vrq_parameters, vrq_table, radii_written, radii_lengths, vrq_radii, energies_written, vrq_energies, vrq_diameter, vrq_stage};
-ghost use Rattle.domthelv.specs.Total.{total_written, total_stored, vrq_total};
+ghost use Rattle.domthelv.specs.Asked.{energies_asked, total_asked, radii_asked};
+ghost use Rattle.domthelv.specs.Total.{total_written, vrq_total};
 ghost use Rattle.saftvrqmie_parameters.specs.Parameters as Quantum;
 ghost use Rattle.saftvrqmie.specs.Table.{Lent};
-ghost use Rattle.saftvrqmie.specs.Pairs.{searches_in};
-ghost use Rattle.saftvrqmie_energies.specs.Energies.{energies_in};
+ghost use Rattle.saftvrqmie.specs.Pairs.{searches_in, searches_answer};
+ghost use Rattle.saftvrqmie_energies.specs.Energies.{energies_in, energies_answer};
 
-use crate::functions::deliver;
+use crate::functions::{deliver, deliver_list};
 use number::Refusal;
 use order_counts::OrderCounts;
 use saftvrqmie::PairSearches;
 use saftvrqmie_energies::{QuantumEnergies, Set, StateLists};
-use saftvrqmie_parameters::ComponentLists;
+use saftvrqmie_parameters::{ComponentLists, SaftVRQMiePars};
 use saftvrqmie_total::QuantumTotal;
 use set_lists::QuantumSet;
 
@@ -28,14 +30,11 @@ pub fn domthelv_vrq_record_m(m: f64) -> u8
     mie_parameters::number(answer)
 }
 
-// The lists that C lends are slices, and each call tests their lengths before any work: here and below, `requires` says so.
-fn write_counts(c: OrderCounts, out: &mut [u64])
-    requires { length out.old ≡ 3 }
-    ensures { out.new ≡ counts_written c out.old }
+// What the definition writes into a list of as many places: here and below.
+fn counts_list(c: OrderCounts) -> [u64; 3]
+    ensures { (length result ≡ 3) × ((l : List ℕ) → length l ≡ 3 → counts_written c l ≡ result) }
 {
-    out[0] = c.passing;
-    out[1] = c.meeting_4;
-    out[2] = c.meeting_5;
+    [c.passing, c.meeting_4, c.meeting_5]
 }
 
 // Of all lists of orders 0 to 3, one for each component: how many pass the order walk, meet 4, meet 5. 1 for `out`, then for the count.
@@ -47,13 +46,7 @@ pub fn domthelv_order_counts(count: usize, out: &mut [u64]) -> u8
         return Refusal::Length.code();
     }
     let counted = order_counts::order_counts(count);
-    match counted {
-        Err(r) => r.code(),
-        Ok(c) => {
-            write_counts(c, out);
-            0
-        }
-    }
+    deliver_list(counted.map(counts_list), out)
 }
 
 // Quantum parameters. 1, 2, 3, 4 or 5, 6.
@@ -113,6 +106,24 @@ pub fn domthelv_vrq_parameters(
     }
 }
 
+// The table of a set that crosses as its lists. 1, 4, then 2, 6, 7.
+fn table_of(
+    s: &QuantumSet,
+    temperature: f64,
+    table: &mut [f64],
+    counts: &mut [u8],
+) -> Result<(), Refusal>
+    ensures { let l : Lent = record { values = table.old; numbers = counts.old } in
+        let q = vrq_table (quantum_lists s.now) temperature l in
+        (outcome result true ≡ verdict q) × (table.new ≡ (stored l q).values) × (counts.new ≡ (stored l q).numbers) }
+{
+    let right = saftvrqmie::right_lists(s.count, table.len(), counts.len());
+    set_lists::quantum_answer(s, right)?;
+    let flat = set_lists::flat(s.sheets);
+    let records = set_lists::order_records(s.orders);
+    saftvrqmie::table_of(s.count, &flat, records, temperature, table, counts)
+}
+
 // Temperature table and counts. 1, 4, then 2, 6, 7.
 pub fn domthelv_vrq_table(
     count: usize,
@@ -128,21 +139,13 @@ pub fn domthelv_vrq_table(
         let q = vrq_table s temperature l in
         (result ≡ status q) × (table.new ≡ (stored l q).values) × (counts.new ≡ (stored l q).numbers) }
 {
-    let right = saftvrqmie::right_lists(count, table.len(), counts.len());
     let lent = QuantumSet {
         count,
         m,
         sheets,
         orders,
     };
-    let read = set_lists::quantum_answer(&lent, right);
-    let Ok(()) = read else {
-        return mie_parameters::number(read);
-    };
-    let flat = set_lists::flat(sheets);
-    let records = set_lists::order_records(orders);
-    let worked = saftvrqmie::table_of(count, &flat, records, temperature, table, counts);
-    mie_parameters::number(worked)
+    mie_parameters::number(table_of(&lent, temperature, table, counts))
 }
 
 fn radii_lengths(out: &[f64], counts: &[u8]) -> bool
@@ -151,6 +154,7 @@ fn radii_lengths(out: &[f64], counts: &[u8]) -> bool
     (out.len() == 6) & (counts.len() == 3)
 }
 
+// Two lists, whose lengths the call has tested.
 fn write_searches(p: PairSearches, out: &mut [f64], counts: &mut [u8])
     requires { (length out.old ≡ 6) × (length counts.old ≡ 3) }
     ensures { record { values = out.new; numbers = counts.new } ≡ radii_written (searches_in p) (record { values = out.old; numbers = counts.old }) }
@@ -167,6 +171,22 @@ fn write_searches(p: PairSearches, out: &mut [f64], counts: &mut [u8])
     counts[0] = p.sigma_count;
     counts[1] = p.zero_count;
     counts[2] = p.depth_count;
+}
+
+// The set that a pair is asked of. 1, 4.
+pub fn pair_set(s: &QuantumSet, i: usize, j: usize) -> Result<SaftVRQMiePars, Refusal>
+    ensures { let l = quantum_lists s.now in answer result ≡ quantum_set (index_within l.count i j) l }
+{
+    let right = limits::index_within(s.count, i, j);
+    set_lists::quantum_answer(s, right)?;
+    Ok(set_lists::quantum_set(s))
+}
+
+fn radii(s: &QuantumSet, i: usize, j: usize, temperature: f64) -> Result<PairSearches, Refusal>
+    ensures { searches_answer result ≡ radii_asked (quantum_lists s.now) i j temperature }
+{
+    let set = pair_set(s, i, j)?;
+    saftvrqmie::radii_ij(set, i, j, temperature)
 }
 
 // One pair's three searches: radius and last potential of sigma, zero, depth; their counts. 1, 4, then 2, 6.
@@ -189,20 +209,13 @@ pub fn domthelv_vrq_radii(
     if !radii_lengths(out, counts) {
         return Refusal::Length.code();
     }
-    let right = limits::index_within(count, i, j);
     let lent = QuantumSet {
         count,
         m,
         sheets,
         orders,
     };
-    let read = set_lists::quantum_answer(&lent, right);
-    let Ok(()) = read else {
-        return mie_parameters::number(read);
-    };
-    let set = set_lists::quantum_set(&lent);
-    let searched = saftvrqmie::radii_ij(set, i, j, temperature);
-    match searched {
+    match radii(&lent, i, j, temperature) {
         Err(r) => r.code(),
         Ok(p) => {
             write_searches(p, out, counts);
@@ -211,14 +224,28 @@ pub fn domthelv_vrq_radii(
     }
 }
 
-// The call has tested the list's length before any work: here its answer is settled.
-pub fn write_energies(e: QuantumEnergies, out: &mut [f64])
-    requires { length out.old ≡ 3 }
-    ensures { out.new ≡ energies_written (energies_in e) out.old }
+pub fn energies_list(e: QuantumEnergies) -> [f64; 3]
+    ensures { (length result ≡ 3) × ((l : List Float) → length l ≡ 3 → energies_written (energies_in e) l ≡ result) }
 {
-    out[0] = e.hard_sphere;
-    out[1] = e.dispersion;
-    out[2] = e.non_additive;
+    [e.hard_sphere, e.dispersion, e.non_additive]
+}
+
+// The energies of a set that crosses as its lists. 1, 4, then 2, 6, 7.
+fn energies(s: &QuantumSet, q: &StateLists) -> Result<QuantumEnergies, Refusal>
+    ensures { energies_answer result ≡ energies_asked (quantum_lists s.now) q.now.temperature q.now.fractions.now q.now.densities.now q.now.table.now q.now.non_additive }
+{
+    let right = saftvrqmie_energies::right_lengths(s.count, q.fractions, q.densities, q.table);
+    set_lists::quantum_answer(s, right)?;
+    let places = set_lists::places(s.m, 0);
+    let flat = set_lists::flat(s.sheets);
+    let records = set_lists::order_records(s.orders);
+    let set = Set {
+        count: s.count,
+        m: &places,
+        sheets: &flat,
+        orders: &records,
+    };
+    saftvrqmie_energies::energies_of(&set, q)
 }
 
 // Quantum energies: hard sphere, dispersion, non-additive (+0 where not wanted). 1, 4, then 2, 6, 7.
@@ -239,27 +266,13 @@ pub fn domthelv_vrq_energies(
         (result ≡ status q) × (out.new ≡ stored out.old q) }
 {
     if out.len() != 3 {
-        return 1;
+        return Refusal::Length.code();
     }
-    let right = saftvrqmie_energies::right_lengths(count, fractions, densities, table);
     let lent = QuantumSet {
         count,
         m,
         sheets,
         orders,
-    };
-    let read = set_lists::quantum_answer(&lent, right);
-    let Ok(()) = read else {
-        return mie_parameters::number(read);
-    };
-    let places = set_lists::places(m, 0);
-    let flat = set_lists::flat(sheets);
-    let records = set_lists::order_records(orders);
-    let set = Set {
-        count,
-        m: &places,
-        sheets: &flat,
-        orders: &records,
     };
     let state = StateLists {
         temperature,
@@ -268,40 +281,23 @@ pub fn domthelv_vrq_energies(
         table,
         non_additive,
     };
-    let worked = saftvrqmie_energies::energies_of(&set, &state);
-    match worked {
-        Err(r) => r.code(),
-        Ok(e) => {
-            write_energies(e, out);
-            0
-        }
-    }
+    deliver_list(energies(&lent, &state).map(energies_list), out)
 }
 
-fn write_total(w: QuantumTotal, out: &mut [f64])
-    requires { length out.old ≡ 4 }
-    ensures { out.new ≡ total_written w out.old }
+fn total_list(w: QuantumTotal) -> [f64; 4]
+    ensures { (length result ≡ 4) × ((l : List Float) → length l ≡ 4 → total_written w l ≡ result) }
 {
     let first = w.first;
     let last = w.last;
-    out[0] = first.sum;
-    out[1] = first.remainder;
-    out[2] = last.sum;
-    out[3] = last.remainder;
+    [first.sum, first.remainder, last.sum, last.remainder]
 }
 
-fn deliver_total(a: Result<QuantumTotal, Refusal>, out: &mut [f64]) -> u8
-    requires { length out.old ≡ 4 }
-    ensures { let q = total_stored (answer a) out.old in
-        (result ≡ status q) × (out.new ≡ stored out.old q) }
+// Their total. 1, 4, then 2, 6, 7.
+fn total(s: &QuantumSet, q: &StateLists) -> Result<QuantumTotal, Refusal>
+    ensures { answer result ≡ total_asked (quantum_lists s.now) q.now.temperature q.now.fractions.now q.now.densities.now q.now.table.now q.now.non_additive }
 {
-    match a {
-        Err(r) => r.code(),
-        Ok(w) => {
-            write_total(w, out);
-            0
-        }
-    }
+    let e = energies(s, q)?;
+    saftvrqmie_total::contributions_total(e, q.non_additive)
 }
 
 // Quantum energies as one number: the sum of hard sphere and dispersion and its remainder, then that sum with the non-additive part and its remainder (where not wanted, the first sum again and +0). 1, 4, then 2, 6, 7.
@@ -322,27 +318,13 @@ pub fn domthelv_vrq_total(
         (result ≡ status q) × (out.new ≡ stored out.old q) }
 {
     if out.len() != 4 {
-        return 1;
+        return Refusal::Length.code();
     }
-    let right = saftvrqmie_energies::right_lengths(count, fractions, densities, table);
     let lent = QuantumSet {
         count,
         m,
         sheets,
         orders,
-    };
-    let read = set_lists::quantum_answer(&lent, right);
-    let Ok(()) = read else {
-        return mie_parameters::number(read);
-    };
-    let places = set_lists::places(m, 0);
-    let flat = set_lists::flat(sheets);
-    let records = set_lists::order_records(orders);
-    let set = Set {
-        count,
-        m: &places,
-        sheets: &flat,
-        orders: &records,
     };
     let state = StateLists {
         temperature,
@@ -351,14 +333,21 @@ pub fn domthelv_vrq_total(
         table,
         non_additive,
     };
-    let worked = saftvrqmie_energies::energies_of(&set, &state);
-    match worked {
-        Err(r) => r.code(),
-        Ok(e) => {
-            let total = saftvrqmie_total::contributions_total(e, non_additive);
-            deliver_total(total, out)
-        }
-    }
+    deliver_list(total(&lent, &state).map(total_list), out)
+}
+
+fn diameter(
+    s: &QuantumSet,
+    i: usize,
+    j: usize,
+    temperature: f64,
+    sigma_eff: f64,
+    r0: f64,
+) -> Result<f64, Refusal>
+    ensures { answer result ≡ vrq_diameter (quantum_lists s.now) i j temperature sigma_eff r0 }
+{
+    let set = pair_set(s, i, j)?;
+    saftvrqmie::hs_diameter_ij(set, i, j, temperature, sigma_eff, r0)
 }
 
 // A pair's diameter from its searched radii. 1, 4, then 2, 6, 7.
@@ -378,20 +367,13 @@ pub fn domthelv_vrq_diameter(
         let q = vrq_diameter s i j temperature sigma_eff r0 in
         (result ≡ status q) × (out.new ≡ stored out.old q) }
 {
-    let right = limits::index_within(count, i, j);
     let lent = QuantumSet {
         count,
         m,
         sheets,
         orders,
     };
-    let read = set_lists::quantum_answer(&lent, right);
-    let Ok(()) = read else {
-        return mie_parameters::number(read);
-    };
-    let set = set_lists::quantum_set(&lent);
-    let worked = saftvrqmie::hs_diameter_ij(set, i, j, temperature, sigma_eff, r0);
-    deliver(worked, out)
+    deliver(diameter(&lent, i, j, temperature, sigma_eff, r0), out)
 }
 
 // From component lists to energies, with a table of its own. 1 for `out`, then the parameters' refusals, the table's, the energies'.
@@ -444,11 +426,5 @@ pub fn domthelv_vrq_stage(
         l_ij,
     };
     let worked = stages::quantum_stage(&lists, temperature, fractions, densities, non_additive);
-    match worked {
-        Err(r) => r.code(),
-        Ok(e) => {
-            write_energies(e, out);
-            0
-        }
-    }
+    deliver_list(worked.map(energies_list), out)
 }

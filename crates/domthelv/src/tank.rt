@@ -5,7 +5,10 @@ ghost use Rattle.saftvrqmie_tank.specs.Tank.{TankLists};
 ghost use Rattle.set_lists.specs.Sets.{QuantumLists};
 ghost use Rattle.domthelv.specs.Tank.{vrq_tank, vrq_tank_ends};
 
+use crate::functions::deliver_list;
 use crate::{ends, quantum};
+use saftvrqmie_tank::Layers;
+use set_lists::QuantumSet;
 
 // The energies of a tank: hard sphere, dispersion, non-additive. 14, 1, 4, then layer by layer 2, 6, 7, then 7 of the tank.
 pub fn domthelv_vrq_tank(
@@ -33,26 +36,21 @@ pub fn domthelv_vrq_tank(
         let q = vrq_tank s t non_additive out.old in
         (result ≡ status q) × (out.new ≡ stored out.old q) }
 {
-    let worked = tank_lists::listed_tank(
+    let set = QuantumSet {
         count,
         m,
         sheets,
         orders,
+    };
+    let q = Layers {
         layers,
         temperatures,
         fractions,
         densities,
         volumes,
-        non_additive,
-        out.len() == 3,
-    );
-    match worked {
-        Err(r) => r.code(),
-        Ok(e) => {
-            quantum::write_energies(e, out);
-            0
-        }
-    }
+    };
+    let worked = tank_lists::listed_tank(&set, &q, non_additive, out.len() == 3);
+    deliver_list(worked.map(quantum::energies_list), out)
 }
 
 // Two ends of a tank's energies: low and high end of each. 14, 1, 4, then layer by layer 2, 6, 7, then 7 of the tank, then 8.
@@ -81,24 +79,19 @@ pub fn domthelv_vrq_tank_ends(
         let q = vrq_tank_ends s t non_additive out.old in
         (result ≡ status q) × (out.new ≡ stored out.old q) }
 {
-    let worked = tank_lists::listed_tank_ends(
+    let set = QuantumSet {
         count,
         m,
         sheets,
         orders,
+    };
+    let q = Layers {
         layers,
         temperatures,
         fractions,
         densities,
         volumes,
-        non_additive,
-        out.len() == 6,
-    );
-    match worked {
-        Err(r) => r.code(),
-        Ok(e) => {
-            ends::write_ends(e, out);
-            0
-        }
-    }
+    };
+    let worked = tank_lists::listed_tank_ends(&set, &q, non_additive, out.len() == 6);
+    deliver_list(worked.map(ends::ends_list), out)
 }

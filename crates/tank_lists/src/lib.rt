@@ -4,8 +4,8 @@
 ghost use Rattle.std.specs.Prelude.{◌≡◌, ◌≤◌};
 ghost use Rattle.number.specs.Answer.{answer};
 ghost use Rattle.saftvrqmie_energies.specs.Energies.{energies_answer};
-ghost use Rattle.saftvrqmie_tank.specs.Tank.{TankLists, most_layers, lists_of};
-ghost use Rattle.set_lists.specs.Sets.{QuantumLists};
+ghost use Rattle.saftvrqmie_tank.specs.Tank.{most_layers, lists_of};
+ghost use Rattle.set_lists.specs.Sets.{quantum_lists};
 ghost use Rattle.tank_lists.specs.Lists.{tank_right, tank_set, listed_tank, listed_tank_ends};
 
 use number::Refusal;
@@ -24,100 +24,39 @@ fn tank_right(n: usize, q: &Layers, right: bool) -> bool
 }
 
 // The tank's set. 14, 1, 4.
-fn tank_set(
-    count: usize,
-    m: &[f64],
-    sheets: &[f64],
-    orders: &[u8],
-    q: &Layers,
-    right: bool,
-) -> Result<SaftVRQMiePars, Refusal>
-    ensures { let s : QuantumLists = record { count = count; m = m.now; sheets = sheets.now; orders = orders.now } in
-        answer result ≡ tank_set s (lists_of q.now) right }
+fn tank_set(s: &QuantumSet, q: &Layers, right: bool) -> Result<SaftVRQMiePars, Refusal>
+    ensures { answer result ≡ tank_set (quantum_lists s.now) (lists_of q.now) right }
 {
     if !saftvrqmie_tank::layers_within(q.layers) {
         return Err(Refusal::Layers);
     }
-    let right = tank_right(count, q, right);
-    let set = QuantumSet {
-        count,
-        m,
-        sheets,
-        orders,
-    };
-    set_lists::quantum_answer(&set, right)?;
-    Ok(set_lists::quantum_set(&set))
+    let right = tank_right(s.count, q, right);
+    set_lists::quantum_answer(s, right)?;
+    Ok(set_lists::quantum_set(s))
 }
 
 // `right`: whether the list that the answer is written into has its length. 14, 1, 4, then layer by layer 2, 6, 7, then 7 of the tank.
-// The parameters are those of the C call, which hands them on.
 pub fn listed_tank(
-    count: usize,
-    m: &[f64],
-    sheets: &[f64],
-    orders: &[u8],
-    layers: usize,
-    temperatures: &[f64],
-    fractions: &[f64],
-    densities: &[f64],
-    volumes: &[f64],
+    s: &QuantumSet,
+    q: &Layers,
     non_additive: bool,
     right: bool,
 ) -> Result<QuantumEnergies, Refusal>
-    ensures { let s : QuantumLists = record { count = count; m = m.now; sheets = sheets.now; orders = orders.now } in
-        let q : TankLists =
-        record {
-          layers = layers;
-          temperatures = temperatures.now;
-          fractions = fractions.now;
-          densities = densities.now;
-          volumes = volumes.now;
-        } in
-        energies_answer result ≡ listed_tank s q non_additive right }
+    ensures { energies_answer result ≡ listed_tank (quantum_lists s.now) (lists_of q.now) non_additive right }
 {
-    let q = Layers {
-        layers,
-        temperatures,
-        fractions,
-        densities,
-        volumes,
-    };
-    let set = tank_set(count, m, sheets, orders, &q, right)?;
-    saftvrqmie_tank::tank(&set, &q, non_additive)
+    let set = tank_set(s, q, right)?;
+    saftvrqmie_tank::tank(&set, q, non_additive)
 }
 
 // The same for the tank's ends. 14, 1, 4, then layer by layer 2, 6, 7, then 7 of the tank, then 8.
 pub fn listed_tank_ends(
-    count: usize,
-    m: &[f64],
-    sheets: &[f64],
-    orders: &[u8],
-    layers: usize,
-    temperatures: &[f64],
-    fractions: &[f64],
-    densities: &[f64],
-    volumes: &[f64],
+    s: &QuantumSet,
+    q: &Layers,
     non_additive: bool,
     right: bool,
 ) -> Result<EnergiesEnds, Refusal>
-    ensures { let s : QuantumLists = record { count = count; m = m.now; sheets = sheets.now; orders = orders.now } in
-        let q : TankLists =
-        record {
-          layers = layers;
-          temperatures = temperatures.now;
-          fractions = fractions.now;
-          densities = densities.now;
-          volumes = volumes.now;
-        } in
-        energies_answer result ≡ listed_tank_ends s q non_additive right }
+    ensures { energies_answer result ≡ listed_tank_ends (quantum_lists s.now) (lists_of q.now) non_additive right }
 {
-    let q = Layers {
-        layers,
-        temperatures,
-        fractions,
-        densities,
-        volumes,
-    };
-    let set = tank_set(count, m, sheets, orders, &q, right)?;
-    saftvrqmie_tank_ends::tank_ends(&set, &q, non_additive)
+    let set = tank_set(s, q, right)?;
+    saftvrqmie_tank_ends::tank_ends(&set, q, non_additive)
 }

@@ -1,5 +1,4 @@
 -- `tank_lists::tank_set` meets its contract. Assumes nothing.
-use mathlib.Core.Path.{refl, sym, ◌∙◌}
 use Rattle.number.proofs.Walk.{told, handed_on}
 use Rattle.set_lists.proofs.Sets.{passed_lengths, passed, not_passed, set_is}
 use Rattle.saftvrqmie_tank.proofs.Ways.{layers_high}

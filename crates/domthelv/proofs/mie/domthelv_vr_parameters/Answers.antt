@@ -12,7 +12,7 @@ returns-then-not-mie_lengths c = let q = mie_parameters_1 _ _ (told c.mie_length
 
 -- src/mie.rt:59:9
 pub returns-in-Err : goal.returns-in-Err
-returns-in-Err c = let q = (mie_parameters_refused _ _ _ (told c.mie_lengths.ensures c.if-not-mie_lengths.false) (via answer c.saft_vr_mie_pars.ensures c.in-Err.is)) in (refused_status _ _ _ c.code-2.ensures q, ap (λ (l : MieLent). l.lists) (refused_stored _ _ _ q), ap (λ (l : MieLent). l.sheets) (refused_stored _ _ _ q))
+returns-in-Err c = let q = (mie_parameters_refused _ _ _ (told c.mie_lengths.ensures c.if-not-mie_lengths.false) (via answer c.saft_vr_mie_pars.ensures c.in-Err.is)) in (refused_status _ _ _ c.code-in-Err.ensures q, ap (λ (l : MieLent). l.lists) (refused_stored _ _ _ q), ap (λ (l : MieLent). l.sheets) (refused_stored _ _ _ q))
 
 -- src/mie.rt:62:5
 pub write_mie-requires : goal.write_mie-requires

@@ -12,7 +12,7 @@ returns-then-not-quantum_lengths c = let q = parameters_1 _ _ (told c.quantum_le
 
 -- src/quantum.rt:115:9
 pub returns-in-Err : goal.returns-in-Err
-returns-in-Err c = let q = (parameters_refused _ _ _ (told c.quantum_lengths.ensures c.if-not-quantum_lengths.false) (via answer c.saft_vrq_mie_pars.ensures c.in-Err.is)) in (refused_status _ _ _ c.code-2.ensures q, ap (λ (l : QuantumLent). l.m) (refused_stored _ _ _ q), ap (λ (l : QuantumLent). l.sheets) (refused_stored _ _ _ q), ap (λ (l : QuantumLent). l.orders) (refused_stored _ _ _ q))
+returns-in-Err c = let q = (parameters_refused _ _ _ (told c.quantum_lengths.ensures c.if-not-quantum_lengths.false) (via answer c.saft_vrq_mie_pars.ensures c.in-Err.is)) in (refused_status _ _ _ c.code-in-Err.ensures q, ap (λ (l : QuantumLent). l.m) (refused_stored _ _ _ q), ap (λ (l : QuantumLent). l.sheets) (refused_stored _ _ _ q), ap (λ (l : QuantumLent). l.orders) (refused_stored _ _ _ q))
 
 -- src/quantum.rt:118:5
 pub write_quantum-requires : goal.write_quantum-requires

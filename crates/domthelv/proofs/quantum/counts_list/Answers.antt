@@ -1,0 +1,9 @@
+-- `domthelv::quantum::counts_list` meets its contract. Assumes nothing.
+use mathlib.Core.Path.{refl}
+use Rattle.domthelv.specs.Operations.{counts_written}
+use Rattle.domthelv.proofs.Places.{three_places}
+use Rattle.domthelv.proofs.quantum.counts_list.Goals as goal
+
+pub returns : goal.returns
+unfolding counts_written
+returns c = (refl, three_places _ _ _)
