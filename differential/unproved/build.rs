@@ -11,8 +11,8 @@ fn without_contracts(text: &str) -> String {
         let word = line.trim_start();
         if word.starts_with("ghost use ") {
             rest = &rest[rest.find(";\n").unwrap() + 2..];
-        } else if word.starts_with("ghost ") {
-            rest = after_brackets(rest, '{', '}').trim_start_matches([';', ' ', '\n']);
+        } else if word.starts_with("ghost ") || word.starts_with("pub ghost ") {
+            rest = after_brackets(rest, '{', '}').trim_start_matches([';', ',', ' ', '\n']);
         } else if word.trim_end() == "+ Drop" {
             rest = &rest[line.len()..];
         } else if ["requires", "ensures"].iter().any(|w| word.strip_prefix(w).is_some_and(|w| w.starts_with([' ', '*']))) {
