@@ -23,12 +23,10 @@ use Rattle.saftvrmie_parameters.specs.declared.SaftVRMiePars.{SaftVRMiePars}
 use Rattle.limits.specs.Limits.{index_within}
 use Rattle.saftvrqmie.specs.Table.{Lent, right_lists, temperature_table, pairs_of}
 use Rattle.saftvrqmie.specs.Pairs as Pairs
-use Rattle.saftvrqmie.specs.Pairs.{SearchesIn, radii_ij}
+use Rattle.saftvrqmie.specs.Pairs.{radii_ij}
 use Rattle.order_counts.specs.Counts.{order_counts}
-use Rattle.order_counts.specs.declared.OrderCounts.{OrderCounts}
-use Rattle.saftvrqmie_energies.specs.Energies.{EnergiesIn, state_lengths, energies}
+use Rattle.saftvrqmie_energies.specs.Energies.{state_lengths, energies}
 use Rattle.elementary.specs.Port.{port}
-use Rattle.enclosure.specs.declared.Ends.{Ends}
 use Rattle.saftvrqmie_energies_ends.specs.Operation.{energies_ends}
 use Rattle.saftvrqmie_diameter_ends.specs.Operations.{diameter_ends}
 use Rattle.stages.specs.Stages.{quantum_stage}

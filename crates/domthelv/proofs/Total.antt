@@ -1,5 +1,4 @@
 -- The total behind the boundary, test by test, over plain values. Assumes nothing.
-use Prim.Native.Nat.{ℕ}
 use lib.Dec.{eqb}
 use lib.Ieee.{Float}
 use lib.ListN.{length}

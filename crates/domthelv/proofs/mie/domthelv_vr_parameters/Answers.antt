@@ -3,7 +3,6 @@ use Rattle.number.specs.Answer.{answer}
 use Rattle.domthelv.proofs.Operations.{mie_parameters_1, mie_parameters_refused, mie_parameters_held, refused_status, refused_stored, held_status, held_stored}
 use Rattle.number.proofs.Walk.{told, via}
 use mathlib.Core.Path.{ap, ◌∙◌}
-use Rattle.mie_parameters.specs.Answer.{number_of}
 use Rattle.domthelv.proofs.mie.domthelv_vr_parameters.Goals as goal
 
 -- src/mie.rt:45:9

@@ -3,7 +3,6 @@ use Rattle.number.specs.Answer.{answer}
 use Rattle.domthelv.proofs.Operations.{parameters_1, parameters_refused, parameters_held, refused_status, refused_stored, held_status, held_stored}
 use Rattle.number.proofs.Walk.{told, via}
 use mathlib.Core.Path.{ap, ◌∙◌}
-use Rattle.mie_parameters.specs.Answer.{number_of}
 use Rattle.domthelv.proofs.quantum.domthelv_vrq_parameters.Goals as goal
 
 -- src/quantum.rt:99:9
