@@ -55,7 +55,7 @@ fn hand_out(e: Result<QuantumEnergies, Refusal>, number: &mut u8, out: &mut [f64
     }
 }
 
-// One unit for the next occupied place above the one served last. 1 for a list of another length.
+// One unit for the next occupied place above the one served last. 1 for a list of another length. The outcomes' numbers are C's, and stand in this match only: `Served` has values beside its cases, so no discriminant gives them.
 pub fn serve(
     floats: &mut [f64],
     bytes: &mut [u8],
