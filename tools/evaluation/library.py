@@ -201,6 +201,8 @@ NATIVE = {
         "from_bits": (2, "of_bits({0}, {1})"), "to_bits": (2, "to_bits({0}, {1})"), "is_nan": (1, "({0} != {0})"),
     },
     "Rattle.std.specs.Bool": {"beq": (2, "({0} is {1})")},
+    # of a proof: in a condition of a helper of interval, no definition that an operation gives
+    "Rattle.number.proofs.Order": {"over": (1, "({0} == {0} and (isfinite({0}) or {0} > 0))"), "under": (1, "({0} == {0} and (isfinite({0}) or {0} < 0))")},
     "Rattle.std.specs.Int": {"w64": (0, "8"), "from_le_bytes": (2, "from_le_bytes({0}, {1})")},
     "Rattle.std.specs.Int.Count": {"count_leading_zeros": (2, "leading_zeros({0}, {1})")},
     OPTION: {"none": (0, "('none',)"), "some": (1, "('some', {0})")},
