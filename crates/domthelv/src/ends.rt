@@ -32,6 +32,7 @@ fn pair_list(e: Ends) -> [f64; 2]
 }
 
 // The ends of a set that crosses as its lists. 1, 4, then 2, 6, 7, 8.
+#[inline(always)]
 fn energies_ends(s: &QuantumSet, q: &StateLists) -> Result<EnergiesEnds, Refusal>
     ensures { energies_answer result ≡ ends_asked (quantum_lists s.now) q.now.temperature q.now.fractions.now q.now.densities.now q.now.table.now q.now.non_additive }
 {
@@ -86,6 +87,7 @@ pub fn domthelv_vrq_energies_ends(
 }
 
 // The same of a pair's diameter.
+#[inline(always)]
 fn diameter_ends(
     s: &QuantumSet,
     i: usize,

@@ -107,6 +107,7 @@ pub fn domthelv_vrq_parameters(
 }
 
 // The table of a set that crosses as its lists. 1, 4, then 2, 6, 7.
+#[inline(always)]
 fn table_of(
     s: &QuantumSet,
     temperature: f64,
@@ -173,7 +174,8 @@ fn write_searches(p: PairSearches, out: &mut [f64], counts: &mut [u8])
     counts[2] = p.depth_count;
 }
 
-// The set that a pair is asked of. 1, 4.
+// The set that a pair is asked of. 1, 4. Inlined, as what calls it: a set that is handed on is copied.
+#[inline(always)]
 pub fn pair_set(s: &QuantumSet, i: usize, j: usize) -> Result<SaftVRQMiePars, Refusal>
     ensures { let l = quantum_lists s.now in answer result ≡ quantum_set (index_within l.count i j) l }
 {
@@ -182,6 +184,7 @@ pub fn pair_set(s: &QuantumSet, i: usize, j: usize) -> Result<SaftVRQMiePars, Re
     Ok(set_lists::quantum_set(s))
 }
 
+#[inline(always)]
 fn radii(s: &QuantumSet, i: usize, j: usize, temperature: f64) -> Result<PairSearches, Refusal>
     ensures { searches_answer result ≡ radii_asked (quantum_lists s.now) i j temperature }
 {
@@ -231,6 +234,7 @@ pub fn energies_list(e: QuantumEnergies) -> [f64; 3]
 }
 
 // The energies of a set that crosses as its lists. 1, 4, then 2, 6, 7.
+#[inline(always)]
 fn energies(s: &QuantumSet, q: &StateLists) -> Result<QuantumEnergies, Refusal>
     ensures { energies_answer result ≡ energies_asked (quantum_lists s.now) q.now.temperature q.now.fractions.now q.now.densities.now q.now.table.now q.now.non_additive }
 {
@@ -293,6 +297,7 @@ fn total_list(w: QuantumTotal) -> [f64; 4]
 }
 
 // Their total. 1, 4, then 2, 6, 7.
+#[inline(always)]
 fn total(s: &QuantumSet, q: &StateLists) -> Result<QuantumTotal, Refusal>
     ensures { answer result ≡ total_asked (quantum_lists s.now) q.now.temperature q.now.fractions.now q.now.densities.now q.now.table.now q.now.non_additive }
 {
@@ -336,6 +341,7 @@ pub fn domthelv_vrq_total(
     deliver_list(total(&lent, &state).map(total_list), out)
 }
 
+#[inline(always)]
 fn diameter(
     s: &QuantumSet,
     i: usize,
