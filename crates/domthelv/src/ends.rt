@@ -14,6 +14,7 @@ use number::Refusal;
 use saftvrqmie_energies::{Set, StateLists};
 use saftvrqmie_energies_ends::EnergiesEnds;
 use set_lists::{MieSet, QuantumSet};
+use sizes::SHEETS;
 
 // What the definition writes into a list of as many places.
 pub fn ends_list(e: EnergiesEnds) -> [f64; 6]
@@ -39,12 +40,15 @@ fn energies_ends(s: &QuantumSet, q: &StateLists) -> Result<EnergiesEnds, Refusal
     let right = saftvrqmie_energies::right_lengths(s.count, q.fractions, q.densities, q.table);
     set_lists::quantum_answer(s, right)?;
     let places = set_lists::places(s.m, 0);
-    let flat = set_lists::flat(s.sheets);
+    // Where they lie: a set of references to a copy would keep the copy.
+    let Ok(flat) = <&[f64; SHEETS]>::try_from(s.sheets) else {
+        return Err(Refusal::Length);
+    };
     let records = set_lists::order_records(s.orders);
     let set = Set {
         count: s.count,
         m: &places,
-        sheets: &flat,
+        sheets: flat,
         orders: &records,
     };
     saftvrqmie_energies_ends::energies_ends_of(&set, q)

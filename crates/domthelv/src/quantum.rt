@@ -21,6 +21,7 @@ use saftvrqmie_energies::{QuantumEnergies, Set, StateLists};
 use saftvrqmie_parameters::{ComponentLists, SaftVRQMiePars};
 use saftvrqmie_total::QuantumTotal;
 use set_lists::QuantumSet;
+use sizes::SHEETS;
 
 // `SaftVRQMieRecord::new`: 3 if m is not 1.
 pub fn domthelv_vrq_record_m(m: f64) -> u8
@@ -241,12 +242,15 @@ fn energies(s: &QuantumSet, q: &StateLists) -> Result<QuantumEnergies, Refusal>
     let right = saftvrqmie_energies::right_lengths(s.count, q.fractions, q.densities, q.table);
     set_lists::quantum_answer(s, right)?;
     let places = set_lists::places(s.m, 0);
-    let flat = set_lists::flat(s.sheets);
+    // Where they lie: a set of references to a copy would keep the copy.
+    let Ok(flat) = <&[f64; SHEETS]>::try_from(s.sheets) else {
+        return Err(Refusal::Length);
+    };
     let records = set_lists::order_records(s.orders);
     let set = Set {
         count: s.count,
         m: &places,
-        sheets: &flat,
+        sheets: flat,
         orders: &records,
     };
     saftvrqmie_energies::energies_of(&set, q)

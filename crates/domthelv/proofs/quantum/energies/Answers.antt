@@ -4,6 +4,7 @@ use Rattle.domthelv.proofs.Operations.{bind_refused, bind_held}
 use Rattle.number.proofs.Walk.{handed_on}
 use mathlib.Core.Path.{sym, ◌∙◌}
 use native.Mathlib.Omega.{arith}
+use Rattle.set_lists.proofs.Copies.{taken_whole}
 use Rattle.domthelv.proofs.quantum.energies.Goals as goal
 
 pub returns-in_err-quantum_answer : goal.returns-in_err-quantum_answer
@@ -12,11 +13,11 @@ returns-in_err-quantum_answer c = rw (handed_on _ c.from_residual.ensures) (sym 
 pub places-places-requires : goal.places-places-requires
 places-places-requires c = let h = (lengths _ _ _ (passed_lengths _ _ _ c.right_lengths-right.ensures _ c.quantum_answer.ensures c.in_ok-quantum_answer.was)).places in omega (arith, h)
 
-pub flat-flat-requires : goal.flat-flat-requires
-flat-flat-requires c = (lengths _ _ _ (passed_lengths _ _ _ c.right_lengths-right.ensures _ c.quantum_answer.ensures c.in_ok-quantum_answer.was)).flat
+pub returns-in_default : goal.returns-in_default
+returns-in_default c = absurd (c.in_default.ensures.1 (lengths _ _ _ (passed_lengths _ _ _ c.right_lengths-right.ensures _ c.quantum_answer.ensures c.in_ok-quantum_answer.was)).flat)
 
 pub order_records-records-requires : goal.order_records-records-requires
 order_records-records-requires c = (lengths _ _ _ (passed_lengths _ _ _ c.right_lengths-right.ensures _ c.quantum_answer.ensures c.in_ok-quantum_answer.was)).records
 
 pub returns : goal.returns
-returns c = c.energies_of.ensures ∙ sym (bind_held _ _ _ (set_by _ _ _ _ _ (passed _ _ _ c.right_lengths-right.ensures _ c.quantum_answer.ensures c.in_ok-quantum_answer.was) c.places-places.ensures c.flat-flat.ensures c.order_records-records.ensures))
+returns c = c.energies_of.ensures ∙ sym (bind_held _ _ _ (set_by _ _ _ _ _ (passed _ _ _ c.right_lengths-right.ensures _ c.quantum_answer.ensures c.in_ok-quantum_answer.was) c.places-places.ensures (c.in-Ok.ensures.1.same ∙ taken_whole _ _ (lengths _ _ _ (passed_lengths _ _ _ c.right_lengths-right.ensures _ c.quantum_answer.ensures c.in_ok-quantum_answer.was)).flat) c.order_records-records.ensures))
