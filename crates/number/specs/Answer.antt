@@ -1,6 +1,7 @@
 -- What an operation answers: the value, or the refusal by document 01's number.
-use Rattle.std.specs.Prelude.{ℕ, Result, Ok, Err}
-use Rattle.number.specs.Ans.{Ans, held, refused}
+use Rattle.std.specs.Prelude.{ℕ, Float, Result, Ok, Err}
+use Rattle.std.specs.Float.Ieee.Scale.{finite}
+use Rattle.number.specs.Ans.{Ans, held, refused, ◌>>=◌, demand}
 use Rattle.number.specs.declared.refusal.Refusal.{Refusal}
 use Rattle.number.specs.declared.refusal.Refusal.TheVariants.{Length, Limit, Segments, Order, MixedOrders, Domain, NotFinite, Unsound, Short, Heading, Filling, Room, Layers, StoredZero, Components, Occupied}
 
@@ -31,3 +32,9 @@ answer_by of (Err r) = refused (code r)
 abbrev pub answer : {T : Type 0} → Result T Refusal → Ans T
 answer (Ok x) = held x
 answer (Err r) = refused (code r)
+
+-- 7: a number is not finite
+unfoldable pub if_finite : Float → Ans Float
+if_finite x =
+    demand 7 (finite x) >>= λ _.
+    held x

@@ -6,6 +6,7 @@ ghost use Rattle.std.specs.Float.{binary64};
 ghost use Rattle.std.specs.Float.Ieee.{le};
 ghost use Rattle.std.specs.Float.Ieee.Scale.{finite};
 ghost use Rattle.number.specs.Neighbour.{step_up, step_down, next_up, next_down, least, greatest, absolute};
+ghost use Rattle.number.specs.Answer.{answer, if_finite};
 ghost use Rattle.number.specs.Arith as Arith;
 ghost use Rattle.number.specs.Arith.{floats};
 
@@ -43,6 +44,16 @@ pub fn is_finite(x: f64) -> bool
 {
     let inf = f64::from_bits(0x7ff0_0000_0000_0000);
     if x < inf { -inf < x } else { false }
+}
+
+// The number itself, for `?`. 7 where it is not finite.
+pub fn if_finite(x: f64) -> Result<f64, Refusal>
+    ensures { answer result ≡ if_finite x }
+{
+    if !is_finite(x) {
+        return Err(Refusal::NotFinite);
+    }
+    Ok(x)
 }
 
 // The pattern of the next float up.

@@ -3,7 +3,6 @@ use Prim.Native.Nat.{ℕ, ◌≤◌}
 use native.Mathlib.Omega.{arith}
 use lib.Dec.{eqb}
 use lib.Ieee.{Float}
-use lib.Ieee.Scale.{finite}
 use lib.ListN.{length}
 use mathlib.Core.List.{List}
 use mathlib.Core.Path.{◌≡◌, refl}
@@ -11,7 +10,7 @@ use mathlib.Core.Bool.{Bool, true, false, ◌&&◌}
 use borrow.Author.Tests.{eqb-true}
 use Rattle.number.specs.Ans.{Ans, held, refused, ◌>>=◌, demand}
 use Rattle.std.specs.Prelude.{Result, Ok, Err, cond}
-use Rattle.number.specs.Answer.{answer, answer_by}
+use Rattle.number.specs.Answer.{answer, answer_by, if_finite}
 use Rattle.number.specs.declared.refusal.Refusal.{Refusal}
 use Rattle.number.specs.Arith.{floats}
 use Rattle.number.specs.Functions.{calls}
@@ -76,11 +75,6 @@ module _ (s : SaftVRMiePars) (t : Float) (x rho d : List Float) (chain : Bool) w
       unfolding energy_by demand ◌>>=◌
       refuses_6 k r = rw (p, q, r)
 
-      module _ (v : Float) (r : energy_run floats (calls floats port) s t x rho d chain ≡ held v) where
-        pub refuses_7 : finite v ≡ false → refused 7 ≡ energy s t x rho d chain
-        unfolding energy_by demand ◌>>=◌
-        refuses_7 e = rw (p, q, r, e)
-
-        pub holds : finite v ≡ true → held v ≡ energy s t x rho d chain
-        unfolding energy_by demand ◌>>=◌
-        holds e = rw (p, q, r, e)
+      pub refuses_or_holds : (v : Float) (w : Ans Float) → energy_run floats (calls floats port) s t x rho d chain ≡ held v → w ≡ if_finite v → w ≡ energy s t x rho d chain
+      unfolding energy_by if_finite demand ◌>>=◌
+      refuses_or_holds v w r e = rw (p, q, r) e

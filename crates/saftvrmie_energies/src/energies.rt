@@ -85,7 +85,7 @@ pub fn energy_run<S: ChainNum>(
     helmholtz_energy_density_disp(s, xs)
 }
 
-// Dispersion of a set that is lent list by list. 1, 2, 6, 7.
+// Dispersion of a set that is lent list by list. 1, 2, 6, 7. Not of a State: tried, `dispersion` would make one of its own set's lists and the caller's, and the borrow rules do not take two lifetimes at State's one.
 pub fn dispersion_of(
     set: &Set,
     temperature: f64,
@@ -106,10 +106,7 @@ pub fn dispersion_of(
     tested(&s)?;
     let mut xs = [0.0; SIDE];
     let v = energy_run::<Dual>(&s, chain, &mut xs)?;
-    if !number::is_finite(v) {
-        return Err(Refusal::NotFinite);
-    }
-    Ok(v)
+    number::if_finite(v)
 }
 
 // The Helmholtz energy density of dispersion, with or without chain, from a list of diameters. 1, 2, 6, 7.

@@ -2,8 +2,8 @@
 use borrow.Author.Rules.{rules}
 use mathlib.Core.Bool.{true}
 use Rattle.mie_parameters.proofs.Laws.{held_at, refused_at}
-use Rattle.saftvrmie_energies.proofs.Laws.{right_high, right_x, right_rho, right_d, first_passed, second_passed, test_told, refuses_1, refuses_2, refuses_6, refuses_7, holds}
-use Rattle.number.proofs.Walk.{via, told, handed_on}
+use Rattle.saftvrmie_energies.proofs.Laws.{right_high, right_x, right_rho, right_d, first_passed, second_passed, test_told, refuses_1, refuses_2, refuses_6, refuses_or_holds}
+use Rattle.number.proofs.Walk.{via, handed_on}
 use Rattle.number.specs.Answer.{answer_by}
 use Rattle.saftvrmie_energies.proofs.energies.dispersion_of.Goals as goal
 
@@ -20,12 +20,7 @@ returns-in_err-v c =
     let h = held_at _ _ _ c.tested.ensures c.in_ok-tested.was in
     rw (handed_on _ c.from_residual-in_err-v.ensures) (refuses_6 _ _ _ _ _ _ (first_passed _ _ h) (second_passed _ _ h) _ (via (answer_by (λ x. x)) (c.energy_run.ensures true) c.in_err-v.was))
 
-pub returns-then-not-is_finite : goal.returns-then-not-is_finite
-returns-then-not-is_finite c =
-    let h = held_at _ _ _ c.tested.ensures c.in_ok-tested.was in
-    refuses_7 _ _ _ _ _ _ (first_passed _ _ h) (second_passed _ _ h) _ (via (answer_by (λ x. x)) (c.energy_run.ensures true) c.in_ok-v.was) (told c.is_finite.ensures c.if-not-is_finite.true)
-
 pub returns : goal.returns
 returns c =
     let h = held_at _ _ _ c.tested.ensures c.in_ok-tested.was in
-    holds _ _ _ _ _ _ (first_passed _ _ h) (second_passed _ _ h) _ (via (answer_by (λ x. x)) (c.energy_run.ensures true) c.in_ok-v.was) (told c.is_finite.ensures c.if-not-is_finite.false)
+    refuses_or_holds _ _ _ _ _ _ (first_passed _ _ h) (second_passed _ _ h) _ _ (via (answer_by (λ x. x)) (c.energy_run.ensures true) c.in_ok-v.was) c.if_finite.ensures
