@@ -64,41 +64,37 @@ pub fn components_within(n: usize, sigma: &[f64], epsilon_k: &[f64], lr: &[f64],
     (0..n).all(|i| component_within(component_at(sigma, epsilon_k, lr, la, i)))
 }
 
-fn all_within(low: f64, high: f64, n: usize, l: &[f64]) -> bool
-    requires { length l.now ≡ n }
-    ensures { result ≡ all_within low high n (at l.now) }
+// The list tests below are of the whole list: an operation has refused one that is not as long as the count with 1 before it asks them.
+fn all_within(low: f64, high: f64, l: &[f64]) -> bool
+    ensures { result ≡ all_within low high (length l.now) (at l.now) }
 {
-    l[..n].iter().all(|x| number::within(low, high, *x))
+    l.iter().all(|x| number::within(low, high, *x))
 }
 
-// The three list tests below take lists as long as the count: an operation has refused others with 1 before it asks them.
-pub fn masses_within(n: usize, mass: &[f64]) -> bool
-    requires { length mass.now ≡ n }
-    ensures { result ≡ masses_within n (at mass.now) }
+pub fn masses_within(mass: &[f64]) -> bool
+    ensures { result ≡ masses_within (length mass.now) (at mass.now) }
 {
-    all_within(1.0e-27, 1.0e-23, n, mass)
+    all_within(1.0e-27, 1.0e-23, mass)
 }
 
-pub fn segments_within(n: usize, m: &[f64]) -> bool
-    requires { length m.now ≡ n }
-    ensures { result ≡ segments_within n (at m.now) }
+pub fn segments_within(m: &[f64]) -> bool
+    ensures { result ≡ segments_within (length m.now) (at m.now) }
 {
-    all_within(0.5, 64.0, n, m)
+    all_within(0.5, 64.0, m)
 }
 
-pub fn shares_within(n: usize, x: &[f64]) -> bool
-    requires { length x.now ≡ n }
-    ensures { result ≡ shares_within n (at x.now) }
+pub fn shares_within(x: &[f64]) -> bool
+    ensures { result ≡ shares_within (length x.now) (at x.now) }
 {
-    all_within(0.0, 1.0, n, x)
+    all_within(0.0, 1.0, x)
 }
 
-// What energies take beside a set. The lists are as long as the count: an operation refuses others with 1 before it asks.
+// What energies take beside a set. The count stays beside the two lists: without it the clause would ask that they are equally long, which each caller has only by the count.
 pub fn state_within(n: usize, t: f64, x: &[f64], rho: &[f64]) -> bool
     requires { (length x.now ≡ n) × (length rho.now ≡ n) }
     ensures { result ≡ state_within n t x.now rho.now }
 {
-    temperature_within(t) & shares_within(n, x) & shares_within(n, rho)
+    temperature_within(t) & shares_within(x) & shares_within(rho)
 }
 
 pub fn same_bits(x: f64, y: f64) -> bool
@@ -133,10 +129,8 @@ pub fn pairs_within(n: usize, k: &[f64]) -> bool
     (0..n).all(|i| row_within(n, k, i))
 }
 
-// Of a list as long as the count, as above.
-pub fn all_one(n: usize, m: &[f64]) -> bool
-    requires { length m.now ≡ n }
-    ensures { result ≡ all_one n (at m.now) }
+pub fn all_one(m: &[f64]) -> bool
+    ensures { result ≡ all_one (length m.now) (at m.now) }
 {
-    m[..n].iter().all(|x| *x == 1.0)
+    m.iter().all(|x| *x == 1.0)
 }

@@ -181,7 +181,7 @@ fn within_limits(l: &ComponentLists) -> bool
     ensures { result ≡ within_in (lists_of l.now) }
 {
     limits::components_within(l.count, l.sigma, l.epsilon_k, l.lr, l.la)
-        & limits::segments_within(l.count, l.m)
+        & limits::segments_within(l.m)
         & limits::pairs_within(l.count, l.k_ij)
         & limits::pairs_within(l.count, l.gamma_ij)
 }

@@ -257,7 +257,7 @@ fn within_limits(l: &ComponentLists) -> bool
     ensures { result ≡ within_in (lists_of l.now) }
 {
     limits::components_within(l.count, l.sigma, l.epsilon_k, l.lr, l.la)
-        & limits::masses_within(l.count, l.mass)
+        & limits::masses_within(l.mass)
         & limits::pairs_within(l.count, l.k_ij)
         & limits::pairs_within(l.count, l.l_ij)
 }
@@ -283,7 +283,7 @@ pub fn saft_vrq_mie_pars(l: &ComponentLists) -> Result<SaftVRQMiePars, Refusal>
     if !within_limits(l) {
         return Err(Refusal::Limit);
     }
-    if !limits::all_one(l.count, l.m) {
+    if !limits::all_one(l.m) {
         return Err(Refusal::Segments);
     }
     order_walk(l.fh)?;

@@ -9,4 +9,6 @@ returns c =
       c.shares_within-2.ensures,
       c.shares_within.ensures,
       c.temperature_within.ensures,
+      c.requires.0,
+      c.requires.1,
     )

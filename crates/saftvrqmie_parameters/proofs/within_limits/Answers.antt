@@ -4,4 +4,4 @@ use Rattle.saftvrqmie_parameters.proofs.within_limits.Goals as goal
 
 pub returns : goal.returns
 unfolding within_limits
-returns c = rw (c.pairs_within-2.ensures, c.pairs_within.ensures, c.masses_within.ensures, c.components_within.ensures)
+returns c = rw (c.pairs_within-2.ensures, c.pairs_within.ensures, c.masses_within.ensures, c.requires.5, c.components_within.ensures)
