@@ -2,6 +2,7 @@
 use Rattle.std.specs.Prelude.{ℕ, ◌+◌, ◌*◌, eqb, leb, ltb, Float, List, Bool, false, not, ◌&&◌, cond}
 use Rattle.std.specs.Float.Ieee.{neg, le, lt, eq, to_bits, is_nan}
 use Rattle.std.specs.Float.{binary64}
+use Rattle.number.specs.Ans.{Ans, ◌>>=◌, demand}
 use Rattle.number.specs.Arith.{decimal}
 use Rattle.number.specs.Lists.{at}
 use Rattle.sizes.specs.Sizes.{side}
@@ -57,6 +58,12 @@ shares_within n x = all_within (decimal false 0 0) (decimal false 1 0) n x
 -- temperature 1 to 2000 K
 unfoldable pub temperature_within : Float → Bool
 temperature_within t = in_limits (decimal false 1 0) (decimal false 2000 0) t
+
+-- an operation on a pair: 1 for the count and the indices; 2 for the temperature
+unfoldable pub pair_asked : ℕ → ℕ → ℕ → Float → Ans Bool
+pair_asked n i j t =
+    demand 1 (index_within n i j) >>= λ _.
+    demand 2 (temperature_within t)
 
 -- what energies take beside a set: the temperature, mole fractions and densities
 unfoldable pub state_within : ℕ → Float → List Float → List Float → Bool

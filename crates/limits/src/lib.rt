@@ -1,11 +1,15 @@
 // Document 01's limits of what is taken, shared by both models.
 #![tactic(auto)]
 
-ghost use Rattle.std.specs.Prelude.{◌≡◌, ◌*◌, ◌<◌, ◌≤◌, length};
+ghost use Rattle.std.specs.Prelude.{true, ◌≡◌, ◌*◌, ◌<◌, ◌≤◌, length};
+ghost use Rattle.std.specs.Prelude.{OnOk};
+ghost use Rattle.number.specs.Answer.{answer_by};
 ghost use Rattle.number.specs.Lists.{at};
 ghost use Rattle.sizes.specs.Sizes.{side};
 ghost use Rattle.number.specs.Walk.{every};
-ghost use Rattle.limits.specs.Limits.{square, components, in_limits, count_within, index_within, component_within, components_within, all_within, masses_within, segments_within, shares_within, temperature_within, state_within, same_bits, pair_within, pairs_within, all_one};
+ghost use Rattle.limits.specs.Limits.{square, components, in_limits, count_within, index_within, component_within, components_within, all_within, masses_within, segments_within, shares_within, temperature_within, pair_asked, state_within, same_bits, pair_within, pairs_within, all_one};
+
+use number::Refusal;
 
 // The numbers of one component that both models take.
 #[derive(Clone, Copy)]
@@ -33,6 +37,20 @@ pub fn temperature_within(t: f64) -> bool
     ensures { result ≡ temperature_within t }
 {
     number::within(1.0, 2000.0, t)
+}
+
+// What an operation on the pair (i, j) at a temperature tests, for `?`. 1, 2.
+pub fn pair_asked(n: usize, i: usize, j: usize, t: f64) -> Result<(), Refusal>
+    ensures asked { answer_by (λ _. true) result ≡ pair_asked n i j t }
+    ensures inside { OnOk result ((i < side) × (j < side)) }
+{
+    if !index_within(n, i, j) {
+        return Err(Refusal::Length);
+    }
+    if !temperature_within(t) {
+        return Err(Refusal::Limit);
+    }
+    Ok(())
 }
 
 // Component i of lists that reach that far: for loops over the count, which the lists' lengths were tested against.

@@ -123,12 +123,7 @@ pub fn c_eps_at<D: PlainNum>(sheets: &[f64; SHEETS], temperature: f64, e: usize)
 pub fn radius_ij(set: SaftVRMiePars, i: usize, j: usize, temperature: f64) -> Result<f64, Refusal>
     ensures { answer result ≡ radius_ij set i j temperature }
 {
-    if !limits::index_within(set.count, i, j) {
-        return Err(Refusal::Length);
-    }
-    if !limits::temperature_within(temperature) {
-        return Err(Refusal::Limit);
-    }
+    limits::pair_asked(set.count, i, j, temperature)?;
     let sheets = set.sheets;
     let e = SIDE * i + j;
     let la = entry::<f64>(&sheets, 3, e);
@@ -147,12 +142,7 @@ pub fn diameter_ij(
 ) -> Result<f64, Refusal>
     ensures { answer result ≡ diameter_ij set i j temperature r0 }
 {
-    if !limits::index_within(set.count, i, j) {
-        return Err(Refusal::Length);
-    }
-    if !limits::temperature_within(temperature) {
-        return Err(Refusal::Limit);
-    }
+    limits::pair_asked(set.count, i, j, temperature)?;
     let sheets = set.sheets;
     let e = SIDE * i + j;
     let la = entry::<f64>(&sheets, 3, e);
@@ -160,9 +150,5 @@ pub fn diameter_ij(
     let c_eps_t = c_eps_at(&sheets, temperature, e);
     let sigma = entry::<f64>(&sheets, 0, e);
     let d = saftvrmie_diameter::diameter_from(la, lr, c_eps_t, sigma, r0)?;
-    if number::is_finite(d) {
-        Ok(d)
-    } else {
-        Err(Refusal::NotFinite)
-    }
+    number::if_finite(d)
 }

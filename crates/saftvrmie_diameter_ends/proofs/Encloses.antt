@@ -2,14 +2,18 @@
 use Prim.Native.Nat.{ℕ, ◌+◌}
 use lib.Ieee.{Float}
 use mathlib.Core.Path.{◌≡◌, ap, ◌∙◌}
-use mathlib.Core.Bool.{true, false}
+use mathlib.Core.Bool.{true}
 use Rattle.number.specs.Ans.{Ans, held, refused}
 use Rattle.number.specs.Arith.{Arith, floats}
 use Rattle.number.specs.Functions.{Functions, Answers, calls}
 use Rattle.number.specs.Lists.{at}
 use Rattle.sizes.specs.Sizes.{cell}
 use Rattle.number.proofs.Rel.{Rel, FunRel, Both, calls_rel}
-use Rattle.limits.specs.Limits.{index_within, temperature_within}
+use Rattle.std.specs.Prelude.{Result, Ok, Err}
+use Rattle.number.specs.declared.refusal.Refusal.{Refusal}
+use Rattle.number.specs.Answer.{answer_by, code}
+use Rattle.limits.specs.Limits.{pair_asked}
+use Rattle.limits.proofs.Asked.{asked_held, asked_refused}
 use Rattle.enclosure.specs.declared.Enclosure.{Enclosure}
 use Rattle.enclosure.specs.declared.Ends.{Ends}
 use Rattle.enclosure.specs.Enclosure.{enclosures, point}
@@ -35,25 +39,22 @@ module _ (E : Answers) (s : SaftVRMiePars) (i j : ℕ) (t r0 : Float) where
   pub run_values : Both Value (diameter_run enclosures (calls enclosures E) s i j t r0) (diameter_run floats (calls floats E) s i j t r0)
   run_values = run_rel enclosures floats values (calls enclosures E) (calls floats E) (calls_rel enclosures floats values E) s i j t r0
 
-  pub ends_1 : index_within s.count i j ≡ false → refused 1 ≡ diameter_ends E s i j t r0
-  unfolding diameter_ends diameter_ij_by
-  ends_1 = operation_1 run_values _ _
-
-  module _ (p : index_within s.count i j ≡ true) where
-    pub ends_2 : temperature_within t ≡ false → refused 2 ≡ diameter_ends E s i j t r0
+  module _ (f : Result (Unit {0}) Refusal) (asked : answer_by (λ _. true) f ≡ pair_asked s.count i j t) where
+    pub ends_asked : (r : Refusal) → f ≡ Err r → refused (code r) ≡ diameter_ends E s i j t r0
     unfolding diameter_ends diameter_ij_by
-    ends_2 = operation_2 run_values _ _ p
+    ends_asked r e = asked_refused _ _ _ _ f asked r e (λ k. refused k ≡ diameter_ends E s i j t r0) (operation_1 run_values _ _) (operation_2 run_values _ _)
 
     -- from what the code works
-    pub ends_on : temperature_within t ≡ true → (la lr c sigma r : Enclosure) (a : Ans Enclosure) (b : Ans Ends)
+    pub ends_on : f ≡ Ok tt → (la lr c sigma r : Enclosure) (a : Ans Enclosure) (b : Ans Ends)
         → la ≡ point (pair_at s.sheets i j).la → lr ≡ point (pair_at s.sheets i j).lr
         → c ≡ c_eps_t enclosures (point t) (point (pair_at s.sheets i j).c) (point (pair_at s.sheets i j).epsilon_k)
         → sigma ≡ point (at s.sheets (0 + cell i j)) → r ≡ point r0
         → a ≡ diameter_from enclosures (calls enclosures E) la lr c sigma r → b ≡ ends_alone a → b ≡ diameter_ends E s i j t r0
     unfolding diameter_ends diameter_ij_by
-    ends_on q la lr c sigma r a b f g h k l m n =
-        let w : a ≡ diameter_run enclosures (calls enclosures E) s i j t r0 = m ∙ rw (f, g, h, k, first_sheet s.sheets (cell i j), l) in
-        n ∙ (ap ends_alone w ∙ operation_alone run_values _ _ p q)
+    ends_on on la lr c sigma r a b v g h k l m n =
+        let o = asked_held _ _ _ _ f asked on in
+        let w : a ≡ diameter_run enclosures (calls enclosures E) s i j t r0 = m ∙ rw (v, g, h, k, first_sheet s.sheets (cell i j), l) in
+        n ∙ (ap ends_alone w ∙ operation_alone run_values _ _ o.0 o.1)
 
   -- for any elementary answers and any fair choice of the constants: the float operation's result and the exact run's
   pub diameter_encloses : (q : Choice) → Fair q → (e : Ends) → diameter_ends E s i j t r0 ≡ held e → Encloses e (diameter_ij_by E s i j t r0) (diameter_run (exacts q) (calls (exacts q) E) s i j t r0)

@@ -46,12 +46,7 @@ pub fn hs_diameter_ij_ends(
 ) -> Result<Ends, Refusal>
     ensures { answer result ≡ diameter_ends port set i j temperature r0 }
 {
-    if !limits::index_within(set.count, i, j) {
-        return Err(Refusal::Length);
-    }
-    if !limits::temperature_within(temperature) {
-        return Err(Refusal::Limit);
-    }
+    limits::pair_asked(set.count, i, j, temperature)?;
     let sheets = set.sheets;
     let e = SIDE * i + j;
     let la = saftvrmie::entry::<Enclosure>(&sheets, 3, e);

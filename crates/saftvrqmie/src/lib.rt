@@ -204,12 +204,7 @@ pub fn radii_ij(
 ) -> Result<PairSearches, Refusal>
     ensures { searches_answer result ≡ radii_ij set i j temperature }
 {
-    if !limits::index_within(set.count, i, j) {
-        return Err(Refusal::Length);
-    }
-    if !limits::temperature_within(temperature) {
-        return Err(Refusal::Limit);
-    }
+    limits::pair_asked(set.count, i, j, temperature)?;
     let sheets = set.sheets;
     let orders = set.orders;
     let pair = saftvrqmie_potential::pair_at(&sheets, orders, temperature, SIDE * i + j);
@@ -227,18 +222,10 @@ pub fn hs_diameter_ij(
 ) -> Result<f64, Refusal>
     ensures { answer result ≡ diameter_ij set i j temperature sigma_eff r0 }
 {
-    if !limits::index_within(set.count, i, j) {
-        return Err(Refusal::Length);
-    }
-    if !limits::temperature_within(temperature) {
-        return Err(Refusal::Limit);
-    }
+    limits::pair_asked(set.count, i, j, temperature)?;
     let sheets = set.sheets;
     let orders = set.orders;
     let pair = saftvrqmie_potential::pair_at(&sheets, orders, temperature, SIDE * i + j);
     let d = saftvrqmie_searches::hs_diameter(pair, sigma_eff, r0)?;
-    if !number::is_finite(d) {
-        return Err(Refusal::NotFinite);
-    }
-    Ok(d)
+    number::if_finite(d)
 }

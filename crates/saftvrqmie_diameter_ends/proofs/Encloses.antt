@@ -2,13 +2,17 @@
 use Prim.Native.Nat.{ℕ}
 use lib.Ieee.{Float}
 use mathlib.Core.Path.{◌≡◌, refl, ap, ◌∙◌}
-use mathlib.Core.Bool.{true, false}
+use mathlib.Core.Bool.{true}
 use Rattle.number.specs.Ans.{Ans, held, refused}
 use Rattle.number.specs.Arith.{Arith, floats}
 use Rattle.number.specs.Functions.{Functions, Answers, calls}
 use Rattle.sizes.specs.Sizes.{cell}
 use Rattle.number.proofs.Rel.{Rel, FunRel, Both, calls_rel}
-use Rattle.limits.specs.Limits.{index_within, temperature_within}
+use Rattle.std.specs.Prelude.{Result, Ok, Err}
+use Rattle.number.specs.declared.refusal.Refusal.{Refusal}
+use Rattle.number.specs.Answer.{answer_by, code}
+use Rattle.limits.specs.Limits.{pair_asked}
+use Rattle.limits.proofs.Asked.{asked_held, asked_refused}
 use Rattle.enclosure.specs.declared.Enclosure.{Enclosure}
 use Rattle.enclosure.specs.declared.Ends.{Ends}
 use Rattle.enclosure.specs.Enclosure.{enclosures, point}
@@ -49,22 +53,19 @@ module _ (E : Answers) (s : SaftVRQMiePars) (i j : ℕ) (t sigma_eff r0 : Float)
   pub run_values : Both Value (diameter_run enclosures (calls enclosures E) s i j t sigma_eff r0) (diameter_run floats (calls floats E) s i j t sigma_eff r0)
   run_values = run_rel enclosures floats values (calls enclosures E) (calls floats E) (calls_rel enclosures floats values E) s i j t sigma_eff r0
 
-  pub ends_1 : index_within s.count i j ≡ false → refused 1 ≡ diameter_ends E s i j t sigma_eff r0
-  unfolding diameter_ends diameter_ij_by
-  ends_1 = operation_1 run_values _ _
-
-  module _ (p : index_within s.count i j ≡ true) where
-    pub ends_2 : temperature_within t ≡ false → refused 2 ≡ diameter_ends E s i j t sigma_eff r0
+  module _ (f : Result (Unit {0}) Refusal) (asked : answer_by (λ _. true) f ≡ pair_asked s.count i j t) where
+    pub ends_asked : (r : Refusal) → f ≡ Err r → refused (code r) ≡ diameter_ends E s i j t sigma_eff r0
     unfolding diameter_ends diameter_ij_by
-    ends_2 = operation_2 run_values _ _ p
+    ends_asked r e = asked_refused _ _ _ _ f asked r e (λ k. refused k ≡ diameter_ends E s i j t sigma_eff r0) (operation_1 run_values _ _) (operation_2 run_values _ _)
 
     -- from what the code works
-    pub ends_on : temperature_within t ≡ true → (w : Pair Enclosure Float) (x : PairIn Enclosure) (u y z : Enclosure) (a : Ans Enclosure) (b : Ans Ends)
+    pub ends_on : f ≡ Ok tt → (w : Pair Enclosure Float) (x : PairIn Enclosure) (u y z : Enclosure) (a : Ans Enclosure) (b : Ans Ends)
         → u ≡ point t → w ≡ pair_at_entry s.sheets s.orders u (cell i j) → x ≡ pair_by point (λ v. v) w → y ≡ point sigma_eff → z ≡ point r0 → a ≡ diameter enclosures (calls enclosures E) x y z → b ≡ ends_alone a → b ≡ diameter_ends E s i j t sigma_eff r0
     unfolding diameter_ends diameter_ij_by
-    ends_on q w x u y z a b d e f g h k l =
-        let m : a ≡ diameter_run enclosures (calls enclosures E) s i j t sigma_eff r0 = k ∙ rw (f, e, d, g, h) in
-        l ∙ (ap ends_alone m ∙ operation_alone run_values _ _ p q)
+    ends_on on w x u y z a b d e v g h k l =
+        let o = asked_held _ _ _ _ f asked on in
+        let m : a ≡ diameter_run enclosures (calls enclosures E) s i j t sigma_eff r0 = k ∙ rw (v, e, d, g, h) in
+        l ∙ (ap ends_alone m ∙ operation_alone run_values _ _ o.0 o.1)
 
   -- for any elementary answers and any fair choice of the constants: the float operation's result and the exact run's
   pub diameter_encloses : (q : Choice) → Fair q → (e : Ends) → diameter_ends E s i j t sigma_eff r0 ≡ held e → Encloses e (diameter_ij_by E s i j t sigma_eff r0) (diameter_run (exacts q) (calls (exacts q) E) s i j t sigma_eff r0)

@@ -53,12 +53,7 @@ pub fn hs_diameter_ij_ends(
 ) -> Result<Ends, Refusal>
     ensures { answer result ≡ diameter_ends port set i j temperature sigma_eff r0 }
 {
-    if !limits::index_within(set.count, i, j) {
-        return Err(Refusal::Length);
-    }
-    if !limits::temperature_within(temperature) {
-        return Err(Refusal::Limit);
-    }
+    limits::pair_asked(set.count, i, j, temperature)?;
     let sheets = set.sheets;
     let orders = set.orders;
     let t = Enclosure::point(temperature);
