@@ -1,5 +1,8 @@
 -- What the energies of the quantum model are worked from, in the numbers N: sheets of a set and of a table by their entry e.
-use Rattle.std.specs.Prelude.{ℕ, ◌*◌, ◌<◌, ◌≤◌, ◌≡◌, Float, List}
+use Rattle.std.specs.Prelude.{ℕ, ◌*◌, ◌<◌, ◌≤◌, ◌≡◌, Float, List, Result}
+use Rattle.number.specs.Ans.{Ans}
+use Rattle.number.specs.Answer.{answer_by}
+use Rattle.number.specs.declared.refusal.Refusal.{Refusal}
 use Rattle.number.specs.Arith.{Arith}
 use Rattle.number.specs.Lists.{nth}
 use Rattle.sizes.specs.Sizes.{side, sheet, cell}
@@ -19,6 +22,10 @@ pub record SheetsIn (N : Type 0) : Type 0 where
 -- what an operation has tested with 1, `has` saying which entries of a list a run can read
 abbrev pub Right : {D : Type 0} → (List Float → List Float → ℕ → Type 0) → State D → Type 0
 Right has s = (0 < s.n) × (s.n ≤ side) × Entries has (4 * sheet) s.table × Entries has s.n s.fractions × Entries has s.n s.densities
+
+-- a row's answer is that of f, from a sum that is taken as a D
+abbrev pub Rows : {D N : Type 0} → ℕ → (D → N) → (N → N) → (ℕ → D → Result D Refusal → Type 0) → (ℕ → N → Ans N) → Type 0
+Rows n of taken post f = (i : ℕ) (v : _) (sum : _) (r : _) → i < n → taken v ≡ of sum → post i sum r → answer_by of r ≡ f i v
 
 module _ (A : Arith) where
   open A use {Num, lit}

@@ -2,8 +2,10 @@
 // In `beside true`, where a negated number is a D.
 #![tactic(auto)]
 
-ghost use Rattle.std.specs.Prelude.{◌≡◌, ◌<◌, ℕ, true, map};
+ghost use Rattle.std.specs.Prelude.{◌≡◌, ◌+◌, ◌*◌, ◌<◌, ◌≤◌, ℕ, true, map};
+ghost use Rattle.number.specs.Ans.{Ans};
 ghost use Rattle.number.specs.Answer.{answer_by};
+ghost use Rattle.number.specs.Arith.{whole};
 ghost use Rattle.number.specs.Lists.{nth};
 ghost use Rattle.number.specs.Walk.{walk};
 ghost use Rattle.sizes.specs.Sizes.{sheet};
@@ -11,7 +13,7 @@ ghost use Rattle.mie_parameters.specs.Answer.{outcome};
 ghost use Rattle.saftvrqmie_hard_sphere.specs.State.{points, sheet_in, Tabled, Reads};
 ghost use Rattle.saftvrqmie_dispersion.specs.Perturbation.{dispersion_by};
 ghost use Rattle.saftvrqmie_dispersion.specs.Alpha.{alpha};
-ghost use Rattle.saftvrqmie_dispersion_sums.specs.State.{sheets_by, Pairs, Right};
+ghost use Rattle.saftvrqmie_dispersion_sums.specs.State.{sheets_by, Pairs, Right, Rows};
 ghost use Rattle.saftvrqmie_dispersion_sums.specs.Dispersion.{mixture_by, inv_xs_sum, segment_fractions, packing_row, packing, alpha_row, first_row, first, second_row, second, third_row, third, mixture, dispersion_pair_at, dispersion};
 
 use dual_num::{DualNum, NumberList};
@@ -73,19 +75,19 @@ fn packing_row<D: DualNum>(
     n: usize,
     xs: &[D; SIDE],
     table: &NumberList,
-    k: usize,
+    from: usize,
     i: usize,
     sum: D,
 ) -> D
-    requires { Tabled D.has n table.now × (k < 4) × (i < n) }
+    requires { Tabled D.has n table.now × (from ≤ 3 * sheet) × (i < n) }
     ensures { let A = D.beside true in
         (x : ℕ → A.Num) (v : A.Num) → Reads A (D.of true) n xs.now x → D.taken true v ≡ D.of true sum →
-        let d = sheet_in (D.entry_of true table.now.values.now table.now.slopes.now) k in
+        let d = λ (e : ℕ). D.entry_of true table.now.values.now table.now.slopes.now (from + e) in
         D.of true result ≡ packing_row A (D.functions true) n x d i v }
 {
     let mut r = sum;
     for j in 0usize..n {
-        let d = D::entry(table, k * SHEET + (SIDE * i + j));
+        let d = D::entry(table, from + (SIDE * i + j));
         let xi = component(xs, i);
         let xj = component(xs, j);
         r = r + xi * xj * d.cube();
@@ -93,17 +95,17 @@ fn packing_row<D: DualNum>(
     r
 }
 
-// `zeta_saft_vrq_mie` of sheet k.
-fn packing<D: DualNum>(n: usize, xs: &[D; SIDE], table: &NumberList, k: usize, rho_s: D) -> D
-    requires { Tabled D.has n table.now × (k < 4) }
+// `zeta_saft_vrq_mie` of the sheet that starts at `from`.
+fn packing<D: DualNum>(n: usize, xs: &[D; SIDE], table: &NumberList, from: usize, rho_s: D) -> D
+    requires { Tabled D.has n table.now × (from ≤ 3 * sheet) }
     ensures { let A = D.beside true in
         (x : ℕ → A.Num) → Reads A (D.of true) n xs.now x →
-        let d = sheet_in (D.entry_of true table.now.values.now table.now.slopes.now) k in
+        let d = λ (e : ℕ). D.entry_of true table.now.values.now table.now.slopes.now (from + e) in
         D.of true result ≡ packing A (D.functions true) n x d (D.of true rho_s) }
 {
     let mut r = zero::<D>();
     for i in 0usize..n {
-        r = packing_row(n, xs, table, k, i, r);
+        r = packing_row(n, xs, table, from, i, r);
     }
     r * D::frac_pi_6() * rho_s
 }
@@ -119,8 +121,8 @@ fn mixture<D: DualNum>(s: &State<D>, xs: &[D; SIDE]) -> SegmentState<D>
     let table = s.table;
     let rho = s.densities;
     let rho_s = segment_density::<D>(s.n, &rho, s.m);
-    let zeta = packing(s.n, xs, &table, 1, rho_s);
-    let zeta_bar = packing(s.n, xs, &table, 0, rho_s);
+    let zeta = packing(s.n, xs, &table, HS_DIAMETER, rho_s);
+    let zeta_bar = packing(s.n, xs, &table, SIGMA_EFF, rho_s);
     SegmentState {
         rho_s,
         zeta,
@@ -203,6 +205,22 @@ fn perturbed_pair<D: DualNum>(
     saftvrqmie_dispersion::dispersion_pair(&pair, d, sigma, q, w.zeta)
 }
 
+// A sum from +0 on, row by row, up to the first that refuses.
+fn rows<D: DualNum, F: Fn(usize, D) -> Result<D, Refusal>>(n: usize, row: F) -> Result<D, Refusal>
+    requires begun { 0 < n }
+    requires callable { (i : ℕ) (sum : D) → i < n → F.pre row i sum }
+    ensures { let A = D.beside true in
+        (f : ℕ → A.Num → Ans A.Num) → Rows n (D.of true) (D.taken true) (F.post row) f →
+        answer_by (D.of true) result ≡ walk n f (whole A 0) }
+{
+    let mut sum = zero::<D>();
+    for i in 0usize..n {
+        let next = row(i, sum)?;
+        sum = next;
+    }
+    Ok(sum)
+}
+
 fn first_row<D: DualNum>(
     s: &State<D>,
     xs: &[D; SIDE],
@@ -239,12 +257,17 @@ fn first<D: DualNum>(s: &State<D>, xs: &[D; SIDE], w: &SegmentState<D>) -> Resul
         (x : ℕ → A.Num) → Reads A (D.of true) s.now.n xs.now x →
         answer_by (D.of true) result ≡ first A (D.functions true) sheets x (mixture_by (D.of true) w.now) }
 {
-    let mut a1 = zero::<D>();
-    for i in 0usize..s.n {
-        let next = first_row(s, xs, w, i, a1)?;
-        a1 = next;
-    }
-    Ok(a1)
+    rows(
+        s.n,
+        |i, a1|
+            requires { Right D.has s.now × (i < s.now.n) }
+            ensures { let A = D.beside true in
+                let table = D.entry_of true s.entry.now.table.values.now s.entry.now.table.slopes.now in
+                let sheets = sheets_by A s.entry.now.n s.entry.now.sheets.now s.entry.now.orders (D.of true s.entry.now.temperature) table in
+                (x : ℕ → A.Num) (v : A.Num) → Reads A (D.of true) s.entry.now.n xs.entry.now x → D.taken true v ≡ D.of true a1 →
+                answer_by (D.of true) result ≡ first_row A (D.functions true) sheets x (mixture_by (D.of true) w.entry.now) i v }
+        { first_row(s, xs, w, i, a1) },
+    )
 }
 
 fn second_row<D: DualNum>(
@@ -292,11 +315,17 @@ fn second<D: DualNum>(
         (x : ℕ → A.Num) (a : ℕ → A.Num) → Reads A (D.of true) s.now.n xs.now x → Pairs A s.now.n (map (D.of true) alphas.now) a →
         answer_by (D.of true) result ≡ second A (D.functions true) sheets x (mixture_by (D.of true) w.now) a }
 {
-    let mut a2 = zero::<D>();
-    for i in 0usize..s.n {
-        let next = second_row(s, xs, w, alphas, i, a2)?;
-        a2 = next;
-    }
+    let a2 = rows(
+        s.n,
+        |i, a2|
+            requires { Right D.has s.now × (i < s.now.n) }
+            ensures { let A = D.beside true in
+                let table = D.entry_of true s.entry.now.table.values.now s.entry.now.table.slopes.now in
+                let sheets = sheets_by A s.entry.now.n s.entry.now.sheets.now s.entry.now.orders (D.of true s.entry.now.temperature) table in
+                (x : ℕ → A.Num) (a : ℕ → A.Num) (v : A.Num) → Reads A (D.of true) s.entry.now.n xs.entry.now x → Pairs A s.entry.now.n (map (D.of true) alphas.entry.now) a → D.taken true v ≡ D.of true a2 →
+                answer_by (D.of true) result ≡ second_row A (D.functions true) sheets x (mixture_by (D.of true) w.entry.now) a i v }
+        { second_row(s, xs, w, alphas, i, a2) },
+    )?;
     let k = saftvrqmie_dispersion::k(w.zeta);
     Ok(a2 * k)
 }
@@ -341,12 +370,16 @@ fn third<D: DualNum>(
         (x : ℕ → A.Num) (a : ℕ → A.Num) → Reads A (D.of true) s.now.n xs.now x → Pairs A s.now.n (map (D.of true) alphas.now) a →
         answer_by (D.of true) result ≡ third A (D.functions true) s.now.n depths x (D.of true zeta_bar) a }
 {
-    let mut a3 = zero::<D>();
-    for i in 0usize..s.n {
-        let next = third_row(s, xs, zeta_bar, alphas, i, a3)?;
-        a3 = next;
-    }
-    Ok(a3)
+    rows(
+        s.n,
+        |i, a3|
+            requires { Right D.has s.now × (i < s.now.n) }
+            ensures { let A = D.beside true in
+                let depths = sheet_in (D.entry_of true s.entry.now.table.values.now s.entry.now.table.slopes.now) 2 in
+                (x : ℕ → A.Num) (a : ℕ → A.Num) (v : A.Num) → Reads A (D.of true) s.entry.now.n xs.entry.now x → Pairs A s.entry.now.n (map (D.of true) alphas.entry.now) a → D.taken true v ≡ D.of true a3 →
+                answer_by (D.of true) result ≡ third_row A (D.functions true) s.entry.now.n depths x (D.of true zeta_bar) a i v }
+        { third_row(s, xs, zeta_bar, alphas, i, a3) },
+    )
 }
 
 // n_s is summed anew, as in the Rust. xs and alphas are room: a run of any numbers has no array of its own.
