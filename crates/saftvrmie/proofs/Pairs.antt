@@ -22,7 +22,7 @@ use Rattle.saftvrmie_parameters.specs.declared.SaftVRMiePars.{SaftVRMiePars}
 use Rattle.saftvrmie.specs.Diameters.{diameter_at}
 use Rattle.saftvrmie.specs.Pairs.{radius_ij, diameter_ij_by, diameter_ij}
 
--- the code reads the first sheet as it reads the others, from 64 * 0 on
+-- the code reads the first sheet as it reads the others, from SIGMA_IJ on
 pub first_sheet : (l : List Float) (e : ℕ) → at l (0 + e) ≡ at l e
 first_sheet l e = ap (λ (z : ℕ). at l z) (zero-add e)
 

@@ -15,14 +15,15 @@ ghost use Rattle.saftvrmie.specs.Pairs.{radius_ij, diameter_ij};
 use number::{Arithmetic, Refusal};
 use plain_num::PlainNum;
 use saftvrmie_parameters::SaftVRMiePars;
-use sizes::{SHEET, SHEETS, SIDE};
+use sizes::mie_set::{C_IJ, EPSILON_K_IJ, LA_IJ, LR_IJ, SIGMA_IJ};
+use sizes::{SHEETS, SIDE};
 
-// A number of a set, plain in any run.
-pub fn entry<D: PlainNum>(sheets: &[f64; SHEETS], k: usize, e: usize) -> D::Plain
-    requires { (k < 6) × (e < sheet) }
-    ensures { (w : Bool) → D.plain w result ≡ (D.beside w).lit (at sheets.now (sheet * k + e)) }
+// A number of a set, from the sheet that starts at `from`, plain in any run.
+pub fn entry<D: PlainNum>(sheets: &[f64; SHEETS], from: usize, e: usize) -> D::Plain
+    requires { (from ≤ 5 * sheet) × (e < sheet) }
+    ensures { (w : Bool) → D.plain w result ≡ (D.beside w).lit (at sheets.now (from + e)) }
 {
-    D::Plain::lit(sheets[SHEET * k + e])
+    D::Plain::lit(sheets[from + e])
 }
 
 fn diameter_at(sheets: &[f64; SHEETS], temperature: f64, i: usize) -> Result<f64, Refusal>
@@ -30,11 +31,11 @@ fn diameter_at(sheets: &[f64; SHEETS], temperature: f64, i: usize) -> Result<f64
     ensures { answer result ≡ diameter_at sheets.now temperature i }
 {
     let e = SIDE * i + i;
-    let sigma = entry::<f64>(sheets, 0, e);
-    let epsilon_k = entry::<f64>(sheets, 1, e);
-    let lr = entry::<f64>(sheets, 2, e);
-    let la = entry::<f64>(sheets, 3, e);
-    let c = entry::<f64>(sheets, 4, e);
+    let sigma = entry::<f64>(sheets, SIGMA_IJ, e);
+    let epsilon_k = entry::<f64>(sheets, EPSILON_K_IJ, e);
+    let lr = entry::<f64>(sheets, LR_IJ, e);
+    let la = entry::<f64>(sheets, LA_IJ, e);
+    let c = entry::<f64>(sheets, C_IJ, e);
     saftvrmie_diameter::hs_diameter_ij(la, lr, c, epsilon_k, sigma, temperature)
 }
 
@@ -114,8 +115,8 @@ pub fn c_eps_at<D: PlainNum>(sheets: &[f64; SHEETS], temperature: f64, e: usize)
     ensures { (w : Bool) → let A = D.beside w in
         D.of w result ≡ c_eps_t A (A.lit temperature) (A.lit (at sheets.now (4 * sheet + e))) (A.lit (at sheets.now (1 * sheet + e))) }
 {
-    let c = entry::<D>(sheets, 4, e);
-    let epsilon_k = entry::<D>(sheets, 1, e);
+    let c = entry::<D>(sheets, C_IJ, e);
+    let epsilon_k = entry::<D>(sheets, EPSILON_K_IJ, e);
     saftvrmie_diameter::c_eps_t(D::entered(temperature), c, epsilon_k)
 }
 
@@ -126,8 +127,8 @@ pub fn radius_ij(set: SaftVRMiePars, i: usize, j: usize, temperature: f64) -> Re
     limits::pair_asked(set.count, i, j, temperature)?;
     let sheets = set.sheets;
     let e = SIDE * i + j;
-    let la = entry::<f64>(&sheets, 3, e);
-    let lr = entry::<f64>(&sheets, 2, e);
+    let la = entry::<f64>(&sheets, LA_IJ, e);
+    let lr = entry::<f64>(&sheets, LR_IJ, e);
     let c_eps_t = c_eps_at(&sheets, temperature, e);
     saftvrmie_diameter::lower_integratal_limit(la, lr, c_eps_t)
 }
@@ -145,10 +146,10 @@ pub fn diameter_ij(
     limits::pair_asked(set.count, i, j, temperature)?;
     let sheets = set.sheets;
     let e = SIDE * i + j;
-    let la = entry::<f64>(&sheets, 3, e);
-    let lr = entry::<f64>(&sheets, 2, e);
+    let la = entry::<f64>(&sheets, LA_IJ, e);
+    let lr = entry::<f64>(&sheets, LR_IJ, e);
     let c_eps_t = c_eps_at(&sheets, temperature, e);
-    let sigma = entry::<f64>(&sheets, 0, e);
+    let sigma = entry::<f64>(&sheets, SIGMA_IJ, e);
     let d = saftvrmie_diameter::diameter_from(la, lr, c_eps_t, sigma, r0)?;
     number::if_finite(d)
 }

@@ -15,6 +15,7 @@ use number::Refusal;
 use saftvrmie_diameter::NO_BASE;
 use saftvrmie_parameters::SaftVRMiePars;
 use sizes::SIDE;
+use sizes::mie_set::{LA_IJ, LR_IJ, SIGMA_IJ};
 
 // A pair's diameter from its reduced lower limit.
 pub fn diameter_from(
@@ -49,10 +50,10 @@ pub fn hs_diameter_ij_ends(
     limits::pair_asked(set.count, i, j, temperature)?;
     let sheets = set.sheets;
     let e = SIDE * i + j;
-    let la = saftvrmie::entry::<Enclosure>(&sheets, 3, e);
-    let lr = saftvrmie::entry::<Enclosure>(&sheets, 2, e);
+    let la = saftvrmie::entry::<Enclosure>(&sheets, LA_IJ, e);
+    let lr = saftvrmie::entry::<Enclosure>(&sheets, LR_IJ, e);
     let c_eps_t = saftvrmie::c_eps_at::<Enclosure>(&sheets, temperature, e);
-    let sigma = saftvrmie::entry::<Enclosure>(&sheets, 0, e);
+    let sigma = saftvrmie::entry::<Enclosure>(&sheets, SIGMA_IJ, e);
     let r = Enclosure::point(r0);
     enclosure::ends_of(diameter_from(la, lr, c_eps_t, sigma, r))
 }
