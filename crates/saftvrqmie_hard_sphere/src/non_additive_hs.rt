@@ -1,4 +1,5 @@
 // The non-additive hard sphere's contribution (saftvrqmie/eos/non_additive_hs.rs).
+// Loops count, as in hard_sphere.rs, which says why.
 ghost use Rattle.std.specs.Prelude.{◌≡◌, ◌<◌, ℕ, Bool, cond};
 ghost use Rattle.number.specs.Arith.{whole};
 ghost use Rattle.number.specs.Lists.{nth};
