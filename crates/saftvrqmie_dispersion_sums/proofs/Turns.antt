@@ -1,5 +1,6 @@
 -- Turns of the sums over pairs and ways of the contribution, in any arithmetic and over plain values. Assumes nothing.
-use Prim.Native.Nat.{ℕ, ◌+◌}
+use Prim.Native.Nat.{ℕ, ◌+◌, ◌-◌, ◌≤◌}
+use native.Mathlib.Omega.{arith}
 use lib.ListN.{set}
 use mathlib.Core.List.{List}
 use mathlib.Core.Path.{◌≡◌, sym, ap, ◌∙◌}
@@ -14,6 +15,16 @@ use Rattle.number.specs.Lists.{nth}
 use Rattle.mie_parameters.specs.Sums.{weighted, orders_sum}
 use Rattle.saftvrqmie_dispersion_sums.specs.State.{SheetsIn}
 use Rattle.saftvrqmie_dispersion_sums.specs.Dispersion.{MixtureIn, segment_fractions, alphas, first, second, third, mixture, dispersion, alpha_turn, first_turn, second_pair_turn, third_turn, dispersion_pair_at, lead_at}
+
+-- a turn of a loop that begins at i, counted from 0
+pub of_none : (i : ℕ) → i - i ≡ 0
+of_none i = omega arith
+
+pub from_start : (i j : ℕ) → i ≤ j → j ≡ i + (j - i)
+from_start i j p = omega (arith, p)
+
+pub from_next : (i j : ℕ) → i ≤ j → j + 1 - i ≡ (j - i) + 1
+from_next i j p = omega (arith, p)
 
 module _ (A : Arith) (F : Functions A.Num) where
   open A use {Num, add as ◌⊕◌, mul as ◌⊗◌}
@@ -31,6 +42,10 @@ module _ (A : Arith) (F : Functions A.Num) where
       pub alpha_held : (r : Num) → a ≡ held r → alpha_turn A F s i k l ≡ held (set (set l e r) (cell (i + k) i) r)
       unfolding alpha_turn ◌>>=◌
       alpha_held r g = rw (here, g)
+
+      -- from the place of the column
+      pub alpha_held_at : (j : ℕ) → j ≡ i + k → (r : Num) → a ≡ held r → alpha_turn A F s i k l ≡ held (set (set l (cell i j) r) (cell j i) r)
+      alpha_held_at j d r g = rw d (alpha_held r g)
 
       pub alpha_outside : (n : ℕ) → a ≡ refused n → alpha_turn A F s i k l ≡ refused n
       unfolding alpha_turn ◌>>=◌

@@ -1,5 +1,6 @@
 // The dispersion's contribution (saftvrqmie/eos/dispersion.rs), of any run: segment and packing fractions, alphas, the sums of the three orders.
 // In `beside true`, where a negated number is a D.
+// Loops count: `entry` takes a place, as saftvrqmie_hard_sphere says. Beside `rows` stand the alphas, whose rows write to lent room, which an Fn cannot, and packing, whose rows do not refuse.
 #![tactic(auto)]
 
 ghost use Rattle.std.specs.Prelude.{◌≡◌, ◌+◌, ◌*◌, ◌<◌, ◌≤◌, ℕ, true, map};
@@ -154,11 +155,11 @@ fn alpha_row<D: DualNum>(s: &State<D>, i: usize, alphas: &mut [D; SHEET]) -> Res
         let sheets = sheets_by A s.now.n s.now.sheets.now s.now.orders (D.of true s.now.temperature) table in
         outcome result (map (D.of true) alphas.new) ≡ alpha_row A (D.functions true) sheets i (map (D.of true) alphas.old) }
 {
-    for k in 0usize..s.n - i {
-        let e = SIDE * i + (i + k);
+    for j in i..s.n {
+        let e = SIDE * i + j;
         let a = alpha_at(s, e)?;
         alphas[e] = a;
-        alphas[SIDE * (i + k) + i] = a;
+        alphas[SIDE * j + i] = a;
     }
     Ok(())
 }
@@ -237,14 +238,14 @@ fn first_row<D: DualNum>(
 {
     let table = s.table;
     let mut a1 = sum;
-    for k in 0usize..s.n - i {
-        let e = SIDE * i + (i + k);
+    for j in i..s.n {
+        let e = SIDE * i + j;
         let pair = perturbed_pair(s, w, e);
         let v = saftvrqmie_dispersion::first_order_perturbation_ij(&pair)?;
         let d = D::entry(&table, HS_DIAMETER + e);
         let xi = component(xs, i);
-        let xj = component(xs, i + k);
-        a1 = a1 + saftvrqmie_dispersion::lead(i, i + k, xi, xj, w.rho_s, d) * v;
+        let xj = component(xs, j);
+        a1 = a1 + saftvrqmie_dispersion::lead(i, j, xi, xj, w.rho_s, d) * v;
     }
     Ok(a1)
 }
@@ -287,16 +288,16 @@ fn second_row<D: DualNum>(
 {
     let table = s.table;
     let mut a2 = sum;
-    for k in 0usize..s.n - i {
-        let e = SIDE * i + (i + k);
+    for j in i..s.n {
+        let e = SIDE * i + j;
         let pair = perturbed_pair(s, w, e);
         let v = saftvrqmie_dispersion::second_order_perturbation_ij::<D, true>(&pair)?;
         let d = D::entry(&table, HS_DIAMETER + e);
         let a = pair_entry(alphas, e);
         let chi = saftvrqmie_dispersion::chi(a, w.zeta_bar);
         let xi = component(xs, i);
-        let xj = component(xs, i + k);
-        let f = saftvrqmie_dispersion::lead(i, i + k, xi, xj, w.rho_s, d);
+        let xj = component(xs, j);
+        let f = saftvrqmie_dispersion::lead(i, j, xi, xj, w.rho_s, d);
         a2 = a2 + f * (chi + D::Plain::lit(1.0)) * v;
     }
     Ok(a2)

@@ -9,11 +9,11 @@ use Rattle.saftvrqmie_dispersion_sums.specs.State.{sheets_by}
 use Rattle.saftvrqmie_dispersion_sums.specs.Dispersion.{mixture_by, first_turn}
 use Rattle.saftvrqmie_dispersion_sums.proofs.first_row.Given as goal
 
-abbrev pub invariant-loop-k : goal.invariant-loop-k
-invariant-loop-k g l =
+abbrev pub invariant-loop-j : goal.invariant-loop-j
+invariant-loop-j g l =
     let D = g.D.DualNum in
     let A = D.beside true in
-    (l.k-end ≡ l.s.n - l.i) × (l.k ≤ l.k-end) × ((x : ℕ → A.Num) (v : A.Num) → Reads A (D.of true) l.s.n l.xs x → D.taken true v ≡ D.of true l.initial.a1 → Walked (D.of true) (D.taken true) l.k l.a1 (walk l.k (first_turn A (D.functions true) (sheets_by A l.s.n l.s.sheets.now l.s.orders (D.of true l.s.temperature) (D.entry_of true l.s.table.values.now l.s.table.slopes.now)) x (mixture_by (D.of true) l.w) l.i) v))
+    (l.i ≤ l.j) × (l.j ≤ l.s.n) × ((x : ℕ → A.Num) (v : A.Num) → Reads A (D.of true) l.s.n l.xs x → D.taken true v ≡ D.of true l.initial.a1 → Walked (D.of true) (D.taken true) (l.j - l.i) l.a1 (walk (l.j - l.i) (first_turn A (D.functions true) (sheets_by A l.s.n l.s.sheets.now l.s.orders (D.of true l.s.temperature) (D.entry_of true l.s.table.values.now l.s.table.slopes.now)) x (mixture_by (D.of true) l.w) l.i) v))
 
-abbrev pub decreases-loop-k : goal.decreases-loop-k
-decreases-loop-k g l = l.k-end - l.k
+abbrev pub decreases-loop-j : goal.decreases-loop-j
+decreases-loop-j g l = l.s.n - l.j

@@ -10,11 +10,11 @@ use Rattle.saftvrqmie_dispersion_sums.specs.State.{sheets_by, Pairs}
 use Rattle.saftvrqmie_dispersion_sums.specs.Dispersion.{mixture_by, second_pair_turn}
 use Rattle.saftvrqmie_dispersion_sums.proofs.second_row.Given as goal
 
-abbrev pub invariant-loop-k : goal.invariant-loop-k
-invariant-loop-k g l =
+abbrev pub invariant-loop-j : goal.invariant-loop-j
+invariant-loop-j g l =
     let D = g.D.DualNum in
     let A = D.beside true in
-    (l.k-end ≡ l.s.n - l.i) × (l.k ≤ l.k-end) × ((x a : ℕ → A.Num) (v : A.Num) → Reads A (D.of true) l.s.n l.xs x → Pairs A l.s.n (map (D.of true) l.alphas) a → D.taken true v ≡ D.of true l.initial.a2 → Walked (D.of true) (D.taken true) l.k l.a2 (walk l.k (second_pair_turn A (D.functions true) (sheets_by A l.s.n l.s.sheets.now l.s.orders (D.of true l.s.temperature) (D.entry_of true l.s.table.values.now l.s.table.slopes.now)) x (mixture_by (D.of true) l.w) a l.i) v))
+    (l.i ≤ l.j) × (l.j ≤ l.s.n) × ((x a : ℕ → A.Num) (v : A.Num) → Reads A (D.of true) l.s.n l.xs x → Pairs A l.s.n (map (D.of true) l.alphas) a → D.taken true v ≡ D.of true l.initial.a2 → Walked (D.of true) (D.taken true) (l.j - l.i) l.a2 (walk (l.j - l.i) (second_pair_turn A (D.functions true) (sheets_by A l.s.n l.s.sheets.now l.s.orders (D.of true l.s.temperature) (D.entry_of true l.s.table.values.now l.s.table.slopes.now)) x (mixture_by (D.of true) l.w) a l.i) v))
 
-abbrev pub decreases-loop-k : goal.decreases-loop-k
-decreases-loop-k g l = l.k-end - l.k
+abbrev pub decreases-loop-j : goal.decreases-loop-j
+decreases-loop-j g l = l.s.n - l.j
