@@ -4,10 +4,12 @@ use native.Mathlib.Nat.{mod-eq_of_lt, mul-mod_left}
 use native.Mathlib.Omega.{arith}
 use lib.Pow.{mod-pow-add, shl-shr}
 use lib.ListN.{length, take, drop, get_or, length-append, length-take, length-drop, take-append-drop, get_or-append}
-use lib.Seq.{drop-cons, take-add, drop-drop, get_or-drop, drop-append-le, take-append-le, take-append-add, take_at, drop_at, drop-nil}
+use lib.Seq.{take_all, get_or-take, drop-cons, take-add, drop-drop, get_or-drop, drop-append-le, take-append-le, take-append-add, take_at, drop_at, drop-nil}
 use mathlib.Core.Path.{◌≡◌, refl, sym, ap, ◌∙◌}
 use mathlib.Core.Bool.{Bool, true, false, cond}
 use mathlib.Core.List.{List, [], ◌∷◌, ◌++◌}
+use Rattle.std.specs.Int.{w64, from_be_bytes}
+use Rattle.std.specs.Simd.{first_chunks}
 use Rattle.bit_fields.specs.Bits.{numeral, digits, bits_of}
 use Rattle.bit_fields.proofs.Digits.{numeral_append, digits_length, numeral_digits, numeral_drop, numeral_take, numeral_next, numeral_below, digit_at}
 
@@ -57,6 +59,36 @@ byte_next l w q i h =
     let v : numeral (digits 8 b) ≡ b = numeral_digits 8 b ∙ mod-eq_of_lt (w (q + i)) in
     rw (e, take-add (8 * i) 8 x, g, take_at (digits 8 b) r 8 (digits_length 8 b), numeral_append (take (8 * i) x) (digits 8 b), v, digits_length 8 b) (omega arith)
 
+-- eight bytes, the first worth most
+byte_in : (l : List ℕ) (q i : ℕ) → i < 8 → get_or (take 8 (drop q l)) i 0 ≡ get_or l (q + i) 0
+byte_in l q i h = get_or-take 8 (drop q l) i 0 h ∙ get_or-drop q l i 0
+
+pub word_is : (l : List ℕ) → Bytes l → (q : ℕ) → q + 8 ≤ length l → from_be_bytes w64 (take 8 (drop q l)) ≡ numeral (take 64 (drop (8 * q) (bits_of l)))
+unfolding numeral
+word_is l w q h =
+    let x = drop (8 * q) (bits_of l) in
+    let v₀ : numeral (take 0 x) ≡ 0 = refl in
+    let v₁ : numeral (take 8 x) ≡ 256 * numeral (take 0 x) + get_or l (q + 0) 0 = byte_next l w q 0 (omega arith) in
+    let v₂ : numeral (take 16 x) ≡ 256 * numeral (take 8 x) + get_or l (q + 1) 0 = byte_next l w q 1 (omega arith) in
+    let v₃ : numeral (take 24 x) ≡ 256 * numeral (take 16 x) + get_or l (q + 2) 0 = byte_next l w q 2 (omega arith) in
+    let v₄ : numeral (take 32 x) ≡ 256 * numeral (take 24 x) + get_or l (q + 3) 0 = byte_next l w q 3 (omega arith) in
+    let v₅ : numeral (take 40 x) ≡ 256 * numeral (take 32 x) + get_or l (q + 4) 0 = byte_next l w q 4 (omega arith) in
+    let v₆ : numeral (take 48 x) ≡ 256 * numeral (take 40 x) + get_or l (q + 5) 0 = byte_next l w q 5 (omega arith) in
+    let v₇ : numeral (take 56 x) ≡ 256 * numeral (take 48 x) + get_or l (q + 6) 0 = byte_next l w q 6 (omega arith) in
+    let v₈ : numeral (take 64 x) ≡ 256 * numeral (take 56 x) + get_or l (q + 7) 0 = byte_next l w q 7 (omega arith) in
+    rw (byte_in l q 0 (omega arith), byte_in l q 1 (omega arith), byte_in l q 2 (omega arith), byte_in l q 3 (omega arith), byte_in l q 4 (omega arith), byte_in l q 5 (omega arith), byte_in l q 6 (omega arith), byte_in l q 7 (omega arith)) (omega (arith, v₀, v₁, v₂, v₃, v₄, v₅, v₆, v₇, v₈))
+
+-- the first of the runs of eight of a list from byte q on
+first_run : (k : ℕ) (l d : List ℕ) → 0 < k → get_or (first_chunks 8 k l) 0 d ≡ take 8 l
+first_run zero l d h = elim h [ ]
+first_run (suc k) l d h = refl
+
+pub run_from : (l d : List ℕ) (q : ℕ) → q + 8 ≤ length l → get_or (first_chunks 8 (length (take (length l - q) (drop q l)) / 8) (take (length l - q) (drop q l))) 0 d ≡ take 8 (drop q l)
+run_from l d q h =
+    let n = length-drop q l in
+    let e : take (length l - q) (drop q l) ≡ drop q l = take_all (length l - q) (drop q l) (rw n (omega arith)) in
+    rw e (first_run (length (drop q l) / 8) (drop q l) d (omega (arith, n)))
+
 -- ---- 64 bits that begin inside a byte
 pub part_high : (l : List Bool) (s : ℕ) → length l ≡ 64 → s ≤ 64 → numeral (drop s l) ≡ numeral l % 2 ^ (64 - s)
 part_high l s e h = let d : length (drop s l) ≡ 64 - s = rw (length-drop s l, e) in rw d at (numeral_drop s l)
@@ -99,7 +131,7 @@ shifted v s h =
     let f = rw (e, shl-shr v s, d) at (mod-pow-add (v * 2 ^ s) (64 - s) s) in
     omega (arith, f)
 
--- ---- the readers' loops
+-- ---- the reader's loop
 pub narrow_next : (l : List ℕ) (at width i value bit : ℕ) → at + width ≤ 8 * length l → i < width → value ≡ numeral (take i (drop at (bits_of l))) → bit ≡ cond (get_or (bits_of l) (at + i) false) 1 0
     → 2 * value + bit ≡ numeral (take (i + 1) (drop at (bits_of l)))
 narrow_next l at width i value bit h g p q =
@@ -113,13 +145,6 @@ narrow_fits l at i value h p = rw p (numeral_below 62 i (drop at (bits_of l)) (o
 pub bit_small : (b : Bool) → cond b 1 0 < 2
 bit_small true = omega arith
 bit_small false = omega arith
-
-pub word_next : (l : List ℕ) → Bytes l → (q i value byte : ℕ) → q + 8 ≤ length l → i < 8 → value ≡ numeral (take (8 * i) (drop (8 * q) (bits_of l))) → byte ≡ get_or l (q + i) 0
-    → 256 * value + byte ≡ numeral (take (8 * (i + 1)) (drop (8 * q) (bits_of l)))
-word_next l w q i value byte h g p e = rw (p, e) (sym (byte_next l w q i (omega arith)))
-
-pub word_fits : (l : List ℕ) (q i value : ℕ) → i < 8 → value ≡ numeral (take (8 * i) (drop (8 * q) (bits_of l))) → value < 2 ^ 56
-word_fits l q i value h p = rw p (numeral_below 56 (8 * i) (drop (8 * q) (bits_of l)) (omega arith))
 
 pub bit_below : (l : List Bool) (k r : ℕ) → r ≡ cond (get_or l k false) 1 0 → r < 2
 bit_below l k r p = rw p (bit_small (get_or l k false))

@@ -30,11 +30,8 @@ fn word(l: &[u8], q: usize) -> u64
     requires { q + 8 ≤ length l.now }
     ensures { result ≡ numeral (take 64 (drop (8 * q) (bits_of l.now))) }
 {
-    let mut value = 0;
-    for i in 0usize..8usize {
-        value = 256 * value + u64::from(l[q + i]);
-    }
-    value
+    let words = l[q..].as_chunks().0;
+    u64::from_be_bytes(words[0])
 }
 
 // A field of 64 bits: the bytes that it begins and ends in are shifted into their places.
