@@ -8,9 +8,8 @@ use Rattle.number.specs.declared.refusal.Refusal.TheVariants.{Length, Limit, Seg
 use native.Mathlib.Omega.{arith}
 use lib.Dec.{eqb, leb}
 use lib.ListN.{length, take, drop}
-use lib.Seq.{length-take-le}
-use mathlib.Core.Path.{◌≡◌, refl, ◌∙◌}
-use mathlib.Core.Bool.{Bool, true, false, ◌&&◌}
+use mathlib.Core.Path.{◌≡◌, refl}
+use mathlib.Core.Bool.{Bool, true, false, cond, ◌&&◌}
 use mathlib.Core.List.{List, ◌++◌}
 use borrow.Author.Tests.{le-leb, lt-leb, leb-true, eqb-true}
 use Rattle.number.specs.Ans.{Ans, held, refused, ◌>>=◌, demand}
@@ -19,10 +18,11 @@ use Rattle.limits.specs.Limits.{count_within}
 use Rattle.saftvrqmie_parameters.specs.Parameters as Quantum
 use Rattle.saftvrmie_parameters.specs.Parameters as Mie
 use Rattle.card.specs.Fields.{joined}
-use Rattle.card.specs.Card.{older}
+use Rattle.card.specs.Card.{Card, older, size, value_count}
 use Rattle.card.proofs.Whole.{and_left, and_right}
 use Rattle.card_writer.specs.Writing.{card_bytes, CardRoom, card_stored}
-use Rattle.card_of_lists.specs.Cards.{quantum_component, mie_component, pair_rows, quantum_card, mie_card, passed, passed_by, vrq_card, vr_card}
+use Rattle.card_of_lists.specs.Cards.{quantum_component, mie_component, pair_rows, quantum_card, mie_card, passed, passed_by, older_card, vrq_card, vr_card}
+use Rattle.card_of_lists.proofs.Values.{parts_small}
 
 -- ---- the tests for 1 to 5
 pub passed_other : (r : Refusal) → (r ≡ Domain → ⊥) → refused (code r) ≡ passed_by (Some r)
@@ -161,18 +161,10 @@ module _ (x : Quantum.Lists) (l : CardRoom) (a : Result (Unit {0}) Refusal) (p :
     unfolding Quantum.saft_vrq_mie_pars
     vrq_lengths = quantum_lengths x (passes 1 (Quantum.right_lengths x) _ true refl held_true).test
 
-    pub vrq_many : 8 < x.count → refused 10 ≡ vrq_card x l
-    unfolding vrq_card demand ◌>>=◌
-    vrq_many h = rw (held_true, lt-leb x.count 8 h)
-
-    pub vrq_goes : (total : ℕ) (first last : List ℕ) → x.count ≤ 8 → total ≡ x.count * 6 + x.count * (x.count - 1)
-        → take (x.count * 6) first ≡ joined x.count (quantum_component x.sigma x.epsilon_k x.lr x.la x.mass x.fh)
-        → take (x.count * 6 + x.count * (x.count - 1)) last ≡ take (x.count * 6) first ++ pair_rows x.count x.k_ij x.l_ij
-        → vrq_card x l ≡ card_stored (card_bytes older (record { kind = 0; count = x.count; values = take (total - 0) (drop 0 last) })) l
-    unfolding vrq_card quantum_card demand ◌>>=◌
-    vrq_goes total first last h t c d =
-        let z : total - 0 ≡ total = omega arith in
-        rw (held_true, le-leb x.count 8 h, z, t, d, c)
+    pub vrq_goes : (first : List ℕ) → take (x.count * 6) first ≡ joined x.count (quantum_component x.sigma x.epsilon_k x.lr x.la x.mass x.fh)
+        → older_card (record { kind = 0; count = x.count; values = take (x.count * 6) first ++ pair_rows x.count x.k_ij x.l_ij }) l ≡ vrq_card x l
+    unfolding vrq_card quantum_card ◌>>=◌
+    vrq_goes first c = rw (held_true, c)
 
 -- ---- the card of SAFT-VR Mie
 module _ (x : Mie.Lists) (l : CardRoom) (a : Result (Unit {0}) Refusal) (p : outcome a true ≡ passed (Mie.saft_vr_mie_pars x)) where
@@ -188,20 +180,27 @@ module _ (x : Mie.Lists) (l : CardRoom) (a : Result (Unit {0}) Refusal) (p : out
     unfolding Mie.saft_vr_mie_pars
     vr_lengths = mie_lengths_told x (passes 1 (Mie.right_lengths x) _ true refl mie_true).test
 
-    pub vr_many : 8 < x.count → refused 10 ≡ vr_card x l
-    unfolding vr_card demand ◌>>=◌
-    vr_many h = rw (mie_true, lt-leb x.count 8 h)
+    pub vr_goes : (first : List ℕ) → take (x.count * 5) first ≡ joined x.count (mie_component x.m x.sigma x.epsilon_k x.lr x.la)
+        → older_card (record { kind = 1; count = x.count; values = take (x.count * 5) first ++ pair_rows x.count x.k_ij x.gamma_ij }) l ≡ vr_card x l
+    unfolding vr_card mie_card ◌>>=◌
+    vr_goes first c = rw (mie_true, c)
 
-    pub vr_goes : (total : ℕ) (first last : List ℕ) → x.count ≤ 8 → total ≡ x.count * 5 + x.count * (x.count - 1)
-        → take (x.count * 5) first ≡ joined x.count (mie_component x.m x.sigma x.epsilon_k x.lr x.la)
-        → take (x.count * 5 + x.count * (x.count - 1)) last ≡ take (x.count * 5) first ++ pair_rows x.count x.k_ij x.gamma_ij
-        → vr_card x l ≡ card_stored (card_bytes older (record { kind = 1; count = x.count; values = take (total - 0) (drop 0 last) })) l
-    unfolding vr_card mie_card demand ◌>>=◌
-    vr_goes total first last h t c d =
-        let z : total - 0 ≡ total = omega arith in
-        rw (mie_true, le-leb x.count 8 h, z, t, d, c)
+-- ---- a card whose components' numbers are in place
+module _ (c : Card) (l : CardRoom) where
+  pub many : 8 < c.count → refused 10 ≡ older_card c l
+  unfolding demand ◌>>=◌
+  many h = rw (lt-leb c.count 8 h)
 
-pub part_many : (values : List ℕ) (total n : ℕ) → length values ≡ 204 → total ≤ 204 → total ≡ n → length (take (total - 0) (drop 0 values)) ≡ n
-part_many values total n e h t =
-    let z : total - 0 ≡ total = omega arith in
-    rw z (length-take-le total values (omega (arith, e)) ∙ t)
+  pub goes : (total start : ℕ) (last : List ℕ) → c.count ≤ 8 → total ≡ value_count c.kind c.count → start + c.count * (c.count - 1) ≡ total → take (start + c.count * (c.count - 1)) last ≡ c.values
+      → older_card c l ≡ card_stored (card_bytes older (record { kind = c.kind; count = c.count; values = take (total - 0) (drop 0 last) })) l
+  unfolding demand ◌>>=◌
+  goes total start last h t s d =
+      let z : total - 0 ≡ start + c.count * (c.count - 1) = omega (arith, s) in
+      rw (le-leb c.count 8 h, z, d)
+
+pub start_small : (kind n : ℕ) → n ≤ 12 → n * size kind ≤ 72
+start_small kind n h = parts_small n (size kind) h (few (eqb kind 0))
+  where
+    few : (b : Bool) → cond b 6 5 ≤ 6
+    few true = omega arith
+    few false = omega arith

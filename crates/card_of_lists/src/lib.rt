@@ -6,10 +6,10 @@ ghost use Rattle.sizes.specs.Sizes.{side};
 ghost use Rattle.mie_parameters.specs.Answer.{outcome, verdict, stored};
 ghost use Rattle.saftvrqmie_parameters.specs.Parameters as Quantum;
 ghost use Rattle.saftvrmie_parameters.specs.Parameters as Mie;
-ghost use Rattle.card.specs.Card.{most_values};
+ghost use Rattle.card.specs.Card.{Card, number_of, size, most_values};
 ghost use Rattle.card.specs.Fields.{joined};
 ghost use Rattle.card_writer.specs.Writing.{CardRoom};
-ghost use Rattle.card_of_lists.specs.Cards.{quantum_component_of, mie_component_of, pair_row, pair_rows, passed_by, vrq_card, vr_card};
+ghost use Rattle.card_of_lists.specs.Cards.{quantum_component_of, mie_component_of, pair_row, pair_rows, passed_by, older_card, vrq_card, vr_card};
 
 use card::{Heading, Kind, MOST, VALUES};
 use number::Refusal;
@@ -82,6 +82,40 @@ fn passed(refused: Option<Refusal>) -> Result<(), Refusal>
     }
 }
 
+// The card of components whose numbers are in place, with the pairs' behind them: 10, 12.
+fn stored(
+    kind: Kind,
+    n: usize,
+    values: &mut [u64],
+    k_ij: &[f64],
+    l_ij: &[f64],
+    card: &mut [u8],
+    told: &mut usize,
+) -> Result<(), Refusal>
+    requires { (1 ≤ n) × (n ≤ side) × (length values.old ≡ most_values) × (length k_ij.now ≡ n * n) × (length l_ij.now ≡ n * n) }
+    ensures { let c : Card =
+        record {
+          kind = number_of kind;
+          count = n;
+          values = take (n * size (number_of kind)) values.old ++ pair_rows n k_ij.now l_ij.now;
+        } in
+        let room : CardRoom = record { card = card.entry.now; length = told.old } in
+        let q = older_card c room in
+        (outcome result true ≡ verdict q) × (card.exit.now ≡ (stored room q).card) × (told.new ≡ (stored room q).length) }
+{
+    if MOST < n {
+        return Err(Refusal::Heading);
+    }
+    let head = Heading {
+        kind,
+        count: n,
+        newer: false,
+    };
+    let total = head.value_count();
+    pair_rows(values, total - n * (n - 1), n, k_ij, l_ij);
+    card_writer::store(head, &values[0..total], card, told)
+}
+
 // The card of a quantum fluid into a lent list, and its length: the parameters' 1 to 5, 10, 12.
 pub fn vrq_card(l: &QuantumLists, card: &mut [u8], told: &mut usize) -> Result<(), Refusal>
     ensures { let room : CardRoom = record { card = card.entry.now; length = told.old } in
@@ -89,19 +123,17 @@ pub fn vrq_card(l: &QuantumLists, card: &mut [u8], told: &mut usize) -> Result<(
         (outcome result true ≡ verdict q) × (card.exit.now ≡ (stored room q).card) × (told.new ≡ (stored room q).length) }
 {
     passed(saftvrqmie_parameters::saft_vrq_mie_pars(l).err())?;
-    if MOST < l.count {
-        return Err(Refusal::Heading);
-    }
     let mut values = [0; VALUES];
     quantum_components(&mut values, l);
-    pair_rows(&mut values, l.count * 6, l.count, l.k_ij, l.l_ij);
-    let head = Heading {
-        kind: Kind::Quantum,
-        count: l.count,
-        newer: false,
-    };
-    let total = head.value_count();
-    card_writer::store(head, &values[0..total], card, told)
+    stored(
+        Kind::Quantum,
+        l.count,
+        &mut values,
+        l.k_ij,
+        l.l_ij,
+        card,
+        told,
+    )
 }
 
 // The card of a fluid of SAFT-VR Mie likewise: the parameters' 1 and 2, 10, 12.
@@ -111,17 +143,15 @@ pub fn vr_card(l: &MieLists, card: &mut [u8], told: &mut usize) -> Result<(), Re
         (outcome result true ≡ verdict q) × (card.exit.now ≡ (stored room q).card) × (told.new ≡ (stored room q).length) }
 {
     passed(saftvrmie_parameters::saft_vr_mie_pars(l).err())?;
-    if MOST < l.count {
-        return Err(Refusal::Heading);
-    }
     let mut values = [0; VALUES];
     mie_components(&mut values, l);
-    pair_rows(&mut values, l.count * 5, l.count, l.k_ij, l.gamma_ij);
-    let head = Heading {
-        kind: Kind::Mie,
-        count: l.count,
-        newer: false,
-    };
-    let total = head.value_count();
-    card_writer::store(head, &values[0..total], card, told)
+    stored(
+        Kind::Mie,
+        l.count,
+        &mut values,
+        l.k_ij,
+        l.gamma_ij,
+        card,
+        told,
+    )
 }
