@@ -7,11 +7,9 @@ ghost use Rattle.number.specs.Answer.{answer};
 ghost use Rattle.mie_parameters.specs.Answer.{outcome, verdict, stored};
 ghost use Rattle.saftvrqmie_parameters.specs.Parameters as Quantum;
 ghost use Rattle.saftvrmie_parameters.specs.Parameters as Mie;
-ghost use Rattle.set_lists.specs.Sets.{quantum_lengths, mie_lengths};
-ghost use Rattle.set_lists.specs.Written.{QuantumLent, MieLent};
 ghost use Rattle.card.specs.Card.{Card, form_of};
 ghost use Rattle.card_lists.specs.Lists.{quantum_lists, mie_lists};
-ghost use Rattle.card_parameters.specs.Parameters.{CardLent, card_lengths, quantum_stored, mie_stored, card_parameters};
+ghost use Rattle.card_parameters.specs.Parameters.{CardLent, card_lengths, card_parameters};
 
 use card::{Kind, VALUES};
 use number::Refusal;
@@ -76,50 +74,13 @@ fn mie_set(values: &[u64], n: usize) -> Result<SaftVRMiePars, Refusal>
     })
 }
 
-// A quantum set into lists whose lengths were tested.
-fn quantum_stored(
-    values: &[u64],
-    n: usize,
-    m: &mut [f64],
-    sheets: &mut [f64],
-    orders: &mut [u8],
-) -> Result<(), Refusal>
-    requires { (n ≤ side) × (length values.now ≡ n * 6 + n * (n - 1)) × (quantum_lengths m.old sheets.old orders.old ≡ true) }
-    ensures { let c : Card = record { kind = 0; count = n; values = values.now } in
-        let l : QuantumLent = record { m = m.entry.now; sheets = sheets.old; orders = orders.old } in
-        let q = quantum_stored c l in
-        (outcome result true ≡ verdict q) × (m.exit.now ≡ (stored l q).m) × (sheets.new ≡ (stored l q).sheets) × (orders.new ≡ (stored l q).orders) }
-{
-    let set = quantum_set(values, n)?;
-    set_lists::write_quantum(set, m, sheets, orders);
-    Ok(())
-}
-
-// A set of SAFT-VR Mie likewise.
-fn mie_stored(
-    values: &[u64],
-    n: usize,
-    lists: &mut [f64],
-    sheets: &mut [f64],
-) -> Result<(), Refusal>
-    requires { (n ≤ side) × (length values.now ≡ n * 5 + n * (n - 1)) × (mie_lengths lists.old sheets.old ≡ true) }
-    ensures { let c : Card = record { kind = 1; count = n; values = values.now } in
-        let l : MieLent = record { lists = lists.entry.now; sheets = sheets.old } in
-        let q = mie_stored c l in
-        (outcome result true ≡ verdict q) × (lists.exit.now ≡ (stored l q).lists) × (sheets.new ≡ (stored l q).sheets) }
-{
-    let set = mie_set(values, n)?;
-    set_lists::write_mie(set, lists, sheets);
-    Ok(())
-}
-
 fn card_lengths(m: &[f64], lists: &[f64], sheets: &[f64], orders: &[u8]) -> bool
     ensures { result ≡ card_lengths m.now lists.now sheets.now orders.now }
 {
     set_lists::quantum_lengths(m, sheets, orders) & set_lists::mie_lengths(lists, sheets)
 }
 
-// A card's model and count, and its set in the lists of that model. 1, then the card's refusals, then the parameters'. The lent lists are the C call's own, one by one, as in `quantum_stored`: in a struct of six `&mut` each would be named once more at both calls and in this contract.
+// A card's model and count, and its set in the lists of that model. 1, then the card's refusals, then the parameters'. The lent lists are the C call's own, one by one: in a struct of six `&mut` each would be named once more at both calls and in this contract.
 pub fn parameters(
     card: &[u8],
     newer: bool,
@@ -151,8 +112,14 @@ pub fn parameters(
     let n = head.count;
     let total = head.value_count();
     match head.kind {
-        Kind::Quantum => quantum_stored(&values[0..total], n, m, sheets, orders)?,
-        Kind::Mie => mie_stored(&values[0..total], n, lists, sheets)?,
+        Kind::Quantum => {
+            let set = quantum_set(&values[0..total], n)?;
+            set_lists::write_quantum(set, m, sheets, orders);
+        }
+        Kind::Mie => {
+            let set = mie_set(&values[0..total], n)?;
+            set_lists::write_mie(set, lists, sheets);
+        }
     }
     *model = head.kind as u8;
     *count = n;
