@@ -50,38 +50,49 @@ fn pairs_before(n: usize, i: usize) -> usize
     i * (2 * n - 1 - i) / 2
 }
 
-// Number e of a pair; the card's numbers reach to the last pair's.
-fn pair_entry(values: &[u64], start: usize, n: usize, e: usize, i: usize, j: usize) -> f64
-    requires { (n ≤ side) × (i < n) × (j < n) × HasPairs values.now start n e }
-    ensures { result ≡ pair_entry values.now start n e i j }
-{
-    if i == j {
-        return 0.0;
-    }
-    let low = i.min(j);
-    let high = i.max(j);
-    let pair = pairs_before(n, low) + (high - 1 - low);
-    number::of_bits(values[start + 2 * pair + e])
+// The numbers of the pairs of n components, which begin at `start` among a card's.
+#[derive(Clone, Copy)]
+pub struct PairNumbers<'a> {
+    pub values: &'a [u64],
+    pub start: usize,
+    pub n: usize,
 }
 
-fn pair_row(values: &[u64], start: usize, n: usize, e: usize, i: usize, list: &mut [f64])
-    requires { (n ≤ side) × (i < n) × (length list.old ≡ sheet) × HasPairs values.now start n e }
-    ensures { let row = joined n (λ j. pair_entry values.now start n e i j ∷ []) in
-        (length list.new ≡ sheet) × (take (n * i + n) list.new ≡ take (n * i) list.old ++ row) }
-{
-    for j in 0usize..n {
-        list[n * i + j] = pair_entry(values, start, n, e, i, j);
+impl<'a> PairNumbers<'a> {
+    // Number e of a pair.
+    fn entry(self, e: usize, i: usize, j: usize) -> f64
+        requires { (i < self.n) × (j < self.n) × (self.n ≤ side) × HasPairs self.values.now self.start self.n e }
+        ensures { let p = self.entry in result ≡ pair_entry p.values.now p.start p.n e i j }
+    {
+        if i == j {
+            return 0.0;
+        }
+        let low = i.min(j);
+        let high = i.max(j);
+        let pair = pairs_before(self.n, low) + (high - 1 - low);
+        number::of_bits(self.values[self.start + 2 * pair + e])
     }
-}
 
-// Number e of all pairs, as a square.
-pub fn pair_list(values: &[u64], start: usize, n: usize, e: usize) -> [f64; SHEET]
-    requires { (n ≤ side) × HasPairs values.now start n e }
-    ensures { take (n * n) result ≡ pair_list values.now start n e }
-{
-    let mut list = [0.0; SHEET];
-    for i in 0usize..n {
-        pair_row(values, start, n, e, i, &mut list);
+    fn row(self, e: usize, i: usize, list: &mut [f64])
+        requires { (i < self.n) × (length list.old ≡ sheet) × (self.n ≤ side) × HasPairs self.values.now self.start self.n e }
+        ensures { let p = self.entry in
+            let row = joined p.n (λ j. pair_entry p.values.now p.start p.n e i j ∷ []) in
+            (length list.new ≡ sheet) × (take (p.n * i + p.n) list.new ≡ take (p.n * i) list.old ++ row) }
+    {
+        for j in 0usize..self.n {
+            list[self.n * i + j] = self.entry(e, i, j);
+        }
     }
-    list
+
+    // Number e of all pairs, as a square.
+    pub fn list(self, e: usize) -> [f64; SHEET]
+        requires { (self.n ≤ side) × HasPairs self.values.now self.start self.n e }
+        ensures { let p = self.entry in take (p.n * p.n) result ≡ pair_list p.values.now p.start p.n e }
+    {
+        let mut list = [0.0; SHEET];
+        for i in 0usize..self.n {
+            self.row(e, i, &mut list);
+        }
+        list
+    }
 }

@@ -12,6 +12,7 @@ ghost use Rattle.card_lists.specs.Lists.{quantum_lists, mie_lists};
 ghost use Rattle.card_parameters.specs.Parameters.{CardLent, card_lengths, card_parameters};
 
 use card::{Kind, VALUES};
+use card_lists::PairNumbers;
 use number::Refusal;
 use saftvrmie_parameters::SaftVRMiePars;
 use saftvrqmie_parameters::SaftVRQMiePars;
@@ -23,7 +24,6 @@ fn quantum_set(values: &[u64], n: usize) -> Result<SaftVRQMiePars, Refusal>
         answer result ≡ Quantum.saft_vrq_mie_pars (quantum_lists c) }
 {
     let square = n * n;
-    let start = n * 6;
     let m = card_lists::ones(n);
     let sigma = card_lists::column(values, 6, n, 0);
     let epsilon_k = card_lists::column(values, 6, n, 1);
@@ -31,8 +31,13 @@ fn quantum_set(values: &[u64], n: usize) -> Result<SaftVRQMiePars, Refusal>
     let la = card_lists::column(values, 6, n, 3);
     let mass = card_lists::column(values, 6, n, 4);
     let order = card_lists::orders(values, n);
-    let k_ij = card_lists::pair_list(values, start, n, 0);
-    let l_ij = card_lists::pair_list(values, start, n, 1);
+    let pairs = PairNumbers {
+        values,
+        start: n * 6,
+        n,
+    };
+    let k_ij = pairs.list(0);
+    let l_ij = pairs.list(1);
     saftvrqmie_parameters::saft_vrq_mie_pars(&saftvrqmie_parameters::ComponentLists {
         count: n,
         m: &m[0..n],
@@ -54,14 +59,18 @@ fn mie_set(values: &[u64], n: usize) -> Result<SaftVRMiePars, Refusal>
         answer result ≡ Mie.saft_vr_mie_pars (mie_lists c) }
 {
     let square = n * n;
-    let start = n * 5;
     let m = card_lists::column(values, 5, n, 0);
     let sigma = card_lists::column(values, 5, n, 1);
     let epsilon_k = card_lists::column(values, 5, n, 2);
     let lr = card_lists::column(values, 5, n, 3);
     let la = card_lists::column(values, 5, n, 4);
-    let k_ij = card_lists::pair_list(values, start, n, 0);
-    let gamma_ij = card_lists::pair_list(values, start, n, 1);
+    let pairs = PairNumbers {
+        values,
+        start: n * 5,
+        n,
+    };
+    let k_ij = pairs.list(0);
+    let gamma_ij = pairs.list(1);
     saftvrmie_parameters::saft_vr_mie_pars(&saftvrmie_parameters::ComponentLists {
         count: n,
         m: &m[0..n],

@@ -7,4 +7,4 @@ use Rattle.saftvrqmie_parameters.specs.Parameters as Quantum
 use Rattle.card_parameters.proofs.quantum_set.Goals as goal
 
 pub returns : goal.returns
-returns c = c.saft_vrq_mie_pars.ensures ∙ ap (λ (x : Quantum.Lists). Quantum.saft_vrq_mie_pars x) (quantum_is c.args.values.now c.args.n _ _ _ _ _ _ _ _ _ (part c.args.n c.ones-m.result _ c.ones-m.ensures) (part c.args.n c.column-sigma.result _ c.column-sigma.ensures) (part c.args.n c.column-epsilon_k.result _ c.column-epsilon_k.ensures) (part c.args.n c.column-lr.result _ c.column-lr.ensures) (part c.args.n c.column-la.result _ c.column-la.ensures) (part c.args.n c.column-mass.result _ c.column-mass.ensures) (part c.args.n c.orders-order.result _ c.orders-order.ensures) (part (c.args.n * c.args.n) c.pair_list-k_ij.result _ c.pair_list-k_ij.ensures) (part (c.args.n * c.args.n) c.pair_list-l_ij.result _ c.pair_list-l_ij.ensures))
+returns c = c.saft_vrq_mie_pars.ensures ∙ ap (λ (x : Quantum.Lists). Quantum.saft_vrq_mie_pars x) (quantum_is c.args.values.now c.args.n _ _ _ _ _ _ _ _ _ (part c.args.n c.ones-m.result _ c.ones-m.ensures) (part c.args.n c.column-sigma.result _ c.column-sigma.ensures) (part c.args.n c.column-epsilon_k.result _ c.column-epsilon_k.ensures) (part c.args.n c.column-lr.result _ c.column-lr.ensures) (part c.args.n c.column-la.result _ c.column-la.ensures) (part c.args.n c.column-mass.result _ c.column-mass.ensures) (part c.args.n c.orders-order.result _ c.orders-order.ensures) (part (c.args.n * c.args.n) c.list-k_ij.result _ c.list-k_ij.ensures) (part (c.args.n * c.args.n) c.list-l_ij.result _ c.list-l_ij.ensures))
