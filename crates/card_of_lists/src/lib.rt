@@ -17,6 +17,7 @@ use saftvrmie_parameters::ComponentLists as MieLists;
 use saftvrqmie_parameters::ComponentLists as QuantumLists;
 
 // The components' numbers. By index, here and below: it places the lists and the numbers both, and of what an adapter of iter_mut writes a proof knows nothing.
+// A function each: one over a trait of both lists, with a component's numbers as an array, took 72 lines for 30, and the borrow checker does not cover one over a closure that gives them (`Fn(usize) -> [u64; N]`).
 fn quantum_components(values: &mut [u64], l: &QuantumLists)
     requires { (length values.old ≡ most_values) × (length l.now.fh.now ≡ l.now.count) × Quantum.Fitting (Quantum.lists_of l.now) }
     ensures { take (l.now.count * 6) values.new ≡ joined l.now.count (quantum_component_of (Quantum.lists_of l.now)) }

@@ -17,7 +17,7 @@ use number::Refusal;
 use saftvrmie_parameters::SaftVRMiePars;
 use saftvrqmie_parameters::SaftVRQMiePars;
 
-// The quantum set of a card's numbers, whose count was tested.
+// The quantum set of a card's numbers, whose count was tested. A function for each model: it names the lists of that model's struct one by one, so that a trait's method would be all of it.
 fn quantum_set(values: &[u64], n: usize) -> Result<SaftVRQMiePars, Refusal>
     requires { (n ≤ side) × (length values.now ≡ n * 6 + n * (n - 1)) }
     ensures { let c : Card = record { kind = 0; count = n; values = values.now } in
