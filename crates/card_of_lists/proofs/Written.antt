@@ -21,8 +21,14 @@ use Rattle.card.specs.Fields.{joined}
 use Rattle.card.specs.Card.{Card, older, size, value_count}
 use Rattle.card.proofs.Whole.{and_left, and_right}
 use Rattle.card_writer.specs.Writing.{card_bytes, CardRoom, card_stored}
-use Rattle.card_of_lists.specs.Cards.{quantum_component, mie_component, pair_rows, quantum_card, mie_card, passed, passed_by, older_card, vrq_card, vr_card}
+use Rattle.card_of_lists.specs.Cards.{quantum_component, mie_component, pair_rows, quantum_card, mie_card, passed, passed_by, vrq_card, vr_card}
 use Rattle.card_of_lists.proofs.Values.{parts_small}
+
+-- what `stored` answers: 10, 12
+abbrev pub older_card : Card → CardRoom → Ans CardRoom
+older_card c l =
+    demand 10 (leb c.count older.most) >>= λ _.
+    card_stored (card_bytes older c) l
 
 -- ---- the tests for 1 to 5
 pub passed_other : (r : Refusal) → (r ≡ Domain → ⊥) → refused (code r) ≡ passed_by (Some r)

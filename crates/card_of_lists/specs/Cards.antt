@@ -66,12 +66,6 @@ abbrev pub passed_by : Option Refusal → Ans Bool
 passed_by None = held true
 passed_by (Some r) = cond (eqb (code r) 6) (held true) (refused (code r))
 
--- a card into what a call lends: 10, 12
-abbrev pub older_card : Card → CardRoom → Ans CardRoom
-older_card c l =
-    demand 10 (leb c.count older.most) >>= λ _.
-    card_stored (card_bytes older c) l
-
 -- Slip 8: 'The fuel card of Slip 2 still holds at most eight, and its writer gives 10 for more, directly after those tests for 1 to 5.' 12 after them
 unfoldable pub vrq_card : Quantum.Lists → CardRoom → Ans CardRoom
 vrq_card x l =

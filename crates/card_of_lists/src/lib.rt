@@ -1,15 +1,16 @@
 // Component lists as a card's numbers, and the operations that write the card.
 #![tactic(auto)]
 
-ghost use Rattle.std.specs.Prelude.{true, ◌≡◌, ◌++◌, ◌+◌, ◌*◌, ◌-◌, ◌<◌, ◌≤◌, length, take};
+ghost use Rattle.std.specs.Prelude.{true, ◌≡◌, ◌++◌, ◌+◌, ◌*◌, ◌-◌, ◌<◌, ◌≤◌, leb, length, take};
 ghost use Rattle.sizes.specs.Sizes.{side};
 ghost use Rattle.mie_parameters.specs.Answer.{outcome, verdict, stored};
 ghost use Rattle.saftvrqmie_parameters.specs.Parameters as Quantum;
 ghost use Rattle.saftvrmie_parameters.specs.Parameters as Mie;
-ghost use Rattle.card.specs.Card.{Card, number_of, size, most_values};
+ghost use Rattle.card.specs.Card.{Card, number_of, older, size, most_values};
 ghost use Rattle.card.specs.Fields.{joined};
-ghost use Rattle.card_writer.specs.Writing.{CardRoom};
-ghost use Rattle.card_of_lists.specs.Cards.{quantum_component_of, mie_component_of, pair_row, pair_rows, passed_by, older_card, vrq_card, vr_card};
+ghost use Rattle.card_writer.specs.Writing.{card_bytes, CardRoom, card_stored};
+ghost use Rattle.number.specs.Ans.{◌>>=◌ as bound_to, demand};
+ghost use Rattle.card_of_lists.specs.Cards.{quantum_component_of, mie_component_of, pair_row, pair_rows, passed_by, vrq_card, vr_card};
 
 use card::{Heading, Kind, MOST, VALUES};
 use number::Refusal;
@@ -101,7 +102,7 @@ fn stored(
           values = take (n * size (number_of kind)) values.old ++ pair_rows n k_ij.now l_ij.now;
         } in
         let room : CardRoom = record { card = card.entry.now; length = told.old } in
-        let q = older_card c room in
+        let q = bound_to (demand 10 (leb n older.most)) (λ _. card_stored (card_bytes older c) room) in
         (outcome result true ≡ verdict q) × (card.exit.now ≡ (stored room q).card) × (told.new ≡ (stored room q).length) }
 {
     if MOST < n {
