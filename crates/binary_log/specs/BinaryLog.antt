@@ -1,8 +1,9 @@
 -- The binary logarithm of a base: its value, in fixed point.
-use Rattle.std.specs.Prelude.{true, false, cond, ℕ, ◌+◌, ◌-◌, ◌*◌, ◌/◌, ◌%◌, ◌^◌, leb, get_or, Float}
+use Rattle.std.specs.Prelude.{true, false, cond, ℕ, ◌+◌, ◌-◌, ◌*◌, ◌/◌, ◌^◌, leb, get_or, Float}
 use Rattle.std.specs.Float.{binary64}
 use Rattle.std.specs.Float.Ieee.{to_bits}
 use Rattle.number.specs.Domain.{base_inside}
+use Rattle.fixed_point.specs.Fields.{significand}
 use Rattle.fixed_point.specs.Horner.{horner}
 use Rattle.binary_log.specs.Tables.{log_factors, logs, odd_terms, even_terms}
 use Rattle.binary_log.specs.declared.Log.{Log}
@@ -27,7 +28,7 @@ unfoldable pub log_of : Float → Log
 log_of x =
     let b = to_bits binary64 x in
     let field = b / 2 ^ 52 in
-    let log = significand_log (b % 2 ^ 52 + 2 ^ 52) in
+    let log = significand_log (significand b) in
     cond (base_inside x)
     (cond (leb 1023 field)
     (record { base = x; size = (field - 1023) * 2 ^ 61 + log; negative = false })

@@ -8,7 +8,7 @@ ghost use Rattle.number.specs.Domain.{base_inside};
 ghost use Rattle.binary_log.specs.Tables.{log_factors, logs};
 ghost use Rattle.binary_log.specs.BinaryLog.{eight_terms, significand_log, log_of};
 
-use fixed_point::{high_product, term_step};
+use fixed_point::{high_product, significand, term_step};
 
 // A base with its binary logarithm: the size in units of 2^-61, and whether it is below 0.
 #[derive(Clone, Copy)]
@@ -222,7 +222,7 @@ pub fn log_base(x: f64) -> Log
     }
     let b = f64::to_bits(x);
     let field = b / 0x10_0000_0000_0000;
-    let log = significand_log(b % 0x10_0000_0000_0000 + 0x10_0000_0000_0000);
+    let log = significand_log(significand(b));
     if 1023 <= field {
         Log {
             base: x,

@@ -1,5 +1,5 @@
 -- The exponential's argument x, from - 700 to 700: its size over ln 2 in fixed point. Assumes nothing.
-use mathlib.Core.Path.{◌≡◌, refl, sym, ◌∙◌, subst}
+use mathlib.Core.Path.{◌≡◌, refl, sym, ap, ap₂, ◌∙◌, subst}
 use mathlib.Core.Bool.{Bool, true, false, ◌&&◌, not}
 use Prim.Native.Nat.{ℕ, ◌+◌, ◌-◌, ◌*◌, ◌/◌, ◌%◌, ◌^◌, ◌≤◌, ◌<◌}
 use native.Mathlib.Nat.{le_trans, le_of_eq, mul_assoc, mul_comm, mul_left_comm, mul-one, mul-le-mul_right, le_of_mul-le-mul_right, not-le_of_lt, div-le_of_le-mul}
@@ -11,6 +11,7 @@ use lib.Ieee.Bits.{is_true, is_false}
 use lib.Ieee.Fits.{down_pos}
 use Rattle.number.specs.Ans.{held, refused}
 use Rattle.number.specs.Domain.{exp_inside}
+use Rattle.fixed_point.specs.Fields.{exponent_field, significand}
 use Rattle.exponential.specs.Raise.{raise_of}
 use Rattle.exponential.specs.Exp.{binary_of, exponent_at, binary_exponent_of, exp_of}
 use Rattle.exponential.proofs.Decode.{units_of, decoded, inside_is, field_lt, size_le_of}
@@ -18,6 +19,10 @@ use Rattle.exponential.proofs.Decode.{units_of, decoded, inside_is, field_lt, si
 seven_hundred : of_bits binary64 0x4085_e000_0000_0000 ≡ fin false 175 (pos 2)
 unfolding of_bits of_fields odd
 seven_hundred = refl
+
+-- the size that the code shifts from the fields of b
+pub size_is : (b m f n k s : ℕ) → m ≡ significand b → f ≡ exponent_field b → n ≡ k - f → s ≡ m * 2048 / 2 ^ n → s ≡ significand b * 2048 / 2 ^ (k - exponent_field b)
+size_is b m f n k s p q r e = e ∙ ap₂ (λ (x y : ℕ). x * 2048 / 2 ^ y) p (r ∙ ap (λ (x : ℕ). k - x) q)
 
 -- x is ± m 2 ^ e, at most 700 in size
 pub exp_inside_is : (x : Float) → T (exp_inside x) → (s : Bool) × (m : ℕ) × (e : ℤ) × (x ≡ fin s m e) × (m * up e ≤ 700 * down e)

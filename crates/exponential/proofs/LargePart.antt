@@ -17,7 +17,8 @@ use Rattle.fixed_point.proofs.Table.{every, at}
 use Rattle.exponential.specs.Powers.{powers}
 use Rattle.exponential.specs.Raise.{significand_of}
 use Rattle.exponential.specs.Exp.{binary_of, binary_exponent_of}
-use Rattle.exponential.specs.ExpM1.{field_of, small_of, below_of, above_of, away_of, exp_m1_of}
+use Rattle.fixed_point.specs.Fields.{exponent_field}
+use Rattle.exponential.specs.ExpM1.{small_of, below_of, above_of, away_of, exp_m1_of}
 use Rattle.exponential.proofs.Digits.{place, significand_lo, significand_hi}
 use Rattle.exponential.proofs.Argument.{negative_at, positive_at}
 
@@ -85,11 +86,11 @@ unfolding above_of
 above_is w y o x e f g = rw (g, f, e)
 
 -- ---- the branches: the exponent of an x from 1/4 on
-binary_ge : (b : ℕ) → 1021 ≤ field_of b → 2 ^ 51 ≤ binary_of b
+binary_ge : (b : ℕ) → 1021 ≤ exponent_field b → 2 ^ 51 ≤ binary_of b
 binary_ge b h = (le-div_iff_mul-le (lit< {m = 0} {n = 2 ^ 64} tt)).1 (le_trans (lit≤ tt) (mul-le-mul_right 13306513097844322491 size))
   where
-    size : 2 ^ 52 ≤ (b % 2 ^ 52 + 2 ^ 52) * 2048 / 2 ^ (1032 - field_of b)
-    size = (le-div_iff_mul-le (pow_pos (1032 - field_of b))).1 (le_trans (mul-le-mul_left (2 ^ 52) (pow_mono (eleven (field_of b) h))) (most b))
+    size : 2 ^ 52 ≤ (b % 2 ^ 52 + 2 ^ 52) * 2048 / 2 ^ (1032 - exponent_field b)
+    size = (le-div_iff_mul-le (pow_pos (1032 - exponent_field b))).1 (le_trans (mul-le-mul_left (2 ^ 52) (pow_mono (eleven (exponent_field b) h))) (most b))
       where
         eleven : (f : ℕ) → 1021 ≤ f → 1032 - f ≤ 11
         eleven f h = omega arith
@@ -97,7 +98,7 @@ binary_ge b h = (le-div_iff_mul-le (lit< {m = 0} {n = 2 ^ 64} tt)).1 (le_trans (
         most : (b : ℕ) → 2 ^ 52 * 2 ^ 11 ≤ (b % 2 ^ 52 + 2 ^ 52) * 2048
         most b = omega arith
 
-module _ (x : Float) (fit : T (fits binary64 x)) (inside : T (exp_inside x)) (far : 1021 ≤ field_of (to_bits binary64 x)) where
+module _ (x : Float) (fit : T (fits binary64 x)) (inside : T (exp_inside x)) (far : 1021 ≤ exponent_field (to_bits binary64 x)) where
   pub far_below : 2 ^ 63 ≤ to_bits binary64 x → (w : ℕ) → w ≡ binary_exponent_of x → 2 ^ 53 ≤ w → (2 ^ 53 ≤ w) × (w < 1023 * 2 ^ 53)
   unfolding binary_exponent_of
   far_below h w e k = (k, subst (λ (y : ℕ). y < 1023 * 2 ^ 53) (negative_at (to_bits binary64 x) (binary_of (to_bits binary64 x)) refl h ∙ sym e) (less (binary_of (to_bits binary64 x)) (binary_ge (to_bits binary64 x) far)))
@@ -123,27 +124,27 @@ module _ (x : Float) where
   abbrev b : ℕ
   b = to_bits binary64 x
 
-  pub away_small : (v : Float) → field_of b < 1021 → v ≡ small_of x b → v ≡ away_of x
+  pub away_small : (v : Float) → exponent_field b < 1021 → v ≡ small_of x b → v ≡ away_of x
   unfolding away_of
-  away_small v h e = rw (holds (field_of b) 1021 h, e)
+  away_small v h e = rw (holds (exponent_field b) 1021 h, e)
 
-  pub away_below : (w : ℕ) (v : Float) → 1021 ≤ field_of b → 2 ^ 63 ≤ b → w ≡ binary_exponent_of x → v ≡ below_of w → v ≡ away_of x
+  pub away_below : (w : ℕ) (v : Float) → 1021 ≤ exponent_field b → 2 ^ 63 ≤ b → w ≡ binary_exponent_of x → v ≡ below_of w → v ≡ away_of x
   unfolding away_of
-  away_below w v h k e f = rw (fails (field_of b) 1021 h, is_true (leb (2 ^ 63) b) (le→leb (2 ^ 63) b k), f, e)
+  away_below w v h k e f = rw (fails (exponent_field b) 1021 h, is_true (leb (2 ^ 63) b) (le→leb (2 ^ 63) b k), f, e)
 
-  pub away_above : (w : ℕ) (v : Float) → 1021 ≤ field_of b → b < 2 ^ 63 → w ≡ binary_exponent_of x → v ≡ above_of w → v ≡ away_of x
+  pub away_above : (w : ℕ) (v : Float) → 1021 ≤ exponent_field b → b < 2 ^ 63 → w ≡ binary_exponent_of x → v ≡ above_of w → v ≡ away_of x
   unfolding away_of
-  away_above w v h k e f = rw (fails (field_of b) 1021 h, is_false (leb (2 ^ 63) b) (not_T (leb (2 ^ 63) b) (λ (u : T (leb (2 ^ 63) b)). not-le_of_lt k (leb→le (2 ^ 63) b u))), f, e)
+  away_above w v h k e f = rw (fails (exponent_field b) 1021 h, is_false (leb (2 ^ 63) b) (not_T (leb (2 ^ 63) b) (λ (u : T (leb (2 ^ 63) b)). not-le_of_lt k (leb→le (2 ^ 63) b u))), f, e)
 
   module _ (t : Bool) (is : t ≡ exp_inside x) where
     pub m1_outside : t ≡ false → refused 6 ≡ exp_m1_of x
     unfolding exp_m1_of
     m1_outside h = rw (← is, h)
 
-    pub m1_tiny : t ≡ true → field_of b < 969 → held x ≡ exp_m1_of x
+    pub m1_tiny : t ≡ true → exponent_field b < 969 → held x ≡ exp_m1_of x
     unfolding exp_m1_of
-    m1_tiny h k = rw (← is, h, holds (field_of b) 969 k)
+    m1_tiny h k = rw (← is, h, holds (exponent_field b) 969 k)
 
-    pub m1_away : (v : Float) → t ≡ true → 969 ≤ field_of b → v ≡ away_of x → held v ≡ exp_m1_of x
+    pub m1_away : (v : Float) → t ≡ true → 969 ≤ exponent_field b → v ≡ away_of x → held v ≡ exp_m1_of x
     unfolding exp_m1_of
-    m1_away v h k e = rw (← is, h, fails (field_of b) 969 k, e)
+    m1_away v h k e = rw (← is, h, fails (exponent_field b) 969 k, e)

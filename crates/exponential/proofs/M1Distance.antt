@@ -18,7 +18,8 @@ use Rattle.series.specs.Exact.{ExpValue, ExpM1Value}
 use Rattle.series.specs.Distance.{within}
 use Rattle.series.proofs.Close.{Close}
 use Rattle.exponential.specs.Exp.{binary_of, exponent_at, binary_exponent_of}
-use Rattle.exponential.specs.ExpM1.{field_of, small_of, below_of, above_of, away_of, exp_m1_of}
+use Rattle.fixed_point.specs.Fields.{exponent_field}
+use Rattle.exponential.specs.ExpM1.{small_of, below_of, above_of, away_of, exp_m1_of}
 use Rattle.exponential.proofs.Decode.{units_of, decoded}
 use Rattle.exponential.proofs.Argument.{exp_inside_is, negative_at, positive_at}
 use Rattle.exponential.proofs.ExpNear.{argument_near}
@@ -34,11 +35,11 @@ unfolding binary_exponent_of
 of s m e = refl
 
 -- |x| over ln 2 from 1/4 on
-binary_least : (b : ℕ) → 1021 ≤ field_of b → 42 * 2 ^ 46 ≤ binary_of b
+binary_least : (b : ℕ) → 1021 ≤ exponent_field b → 42 * 2 ^ 46 ≤ binary_of b
 binary_least b h = (le-div_iff_mul-le (lit< {m = 0} {n = 2 ^ 64} tt)).1 (le_trans (lit≤ tt) (mul-le-mul_right 13306513097844322491 size))
   where
-    size : 2 ^ 52 ≤ (b % 2 ^ 52 + 2 ^ 52) * 2048 / 2 ^ (1032 - field_of b)
-    size = (le-div_iff_mul-le (pow_pos (1032 - field_of b))).1 (le_trans (mul-le-mul_left (2 ^ 52) (pow_mono (eleven (field_of b) h))) (most b))
+    size : 2 ^ 52 ≤ (b % 2 ^ 52 + 2 ^ 52) * 2048 / 2 ^ (1032 - exponent_field b)
+    size = (le-div_iff_mul-le (pow_pos (1032 - exponent_field b))).1 (le_trans (mul-le-mul_left (2 ^ 52) (pow_mono (eleven (exponent_field b) h))) (most b))
       where
         eleven : (f : ℕ) → 1021 ≤ f → 1032 - f ≤ 11
         eleven f h = omega arith
@@ -53,7 +54,7 @@ module _ (s : Bool) (m : ℕ) (e : ℤ) (fit : T (fits binary64 (fin s m e))) (b
   sign_is : s ≡ leb 9223372036854775808 b
   sign_is = (decoded s m e fit b refl).0.0
 
-  size_is : m * up e * 2 ^ 1074 ≡ units_of (field_of b) (b % 4503599627370496) * down e
+  size_is : m * up e * 2 ^ 1074 ≡ units_of (exponent_field b) (b % 4503599627370496) * down e
   size_is = (decoded s m e fit b refl).0.1
 
   digits_lt : b % 4503599627370496 < 4503599627370496
@@ -72,7 +73,7 @@ module _ (s : Bool) (m : ℕ) (e : ℤ) (fit : T (fits binary64 (fin s m e))) (b
       go t q r = lt_of_not-le (λ (h : 2 ^ 63 ≤ b). subst T r (le→leb (2 ^ 63) b h))
 
   -- ---- below 2 ^ -54
-  near_tiny : field_of b < 969 → Close (within (2 ^ 48)) (fin s m e) x
+  near_tiny : exponent_field b < 969 → Close (within (2 ^ 48)) (fin s m e) x
   near_tiny h = (tt, tiny_near s (m * up e) (down e) value.e x (down_pos e) size value.proper value.is_exp value.same)
     where
       units : (f t : ℕ) → f < 969 → t < 4503599627370496 → units_of f t ≤ 2 ^ 1020
@@ -86,23 +87,23 @@ module _ (s : Bool) (m : ℕ) (e : ℤ) (fit : T (fits binary64 (fin s m e))) (b
           last i h = omega arith
 
       size : 2 ^ 54 * (m * up e) ≤ down e
-      size = le_of_mul-le-mul_right {k = 2 ^ 1020} (le_trans (le_of_eq (turn (m * up e))) (le_trans (le_of_eq size_is) (le_trans (mul-le-mul_right (down e) (units (field_of b) (b % 4503599627370496) h digits_lt)) (le_of_eq (mul_comm (2 ^ 1020) (down e)))))) (pow_pos 1020)
+      size = le_of_mul-le-mul_right {k = 2 ^ 1020} (le_trans (le_of_eq (turn (m * up e))) (le_trans (le_of_eq size_is) (le_trans (mul-le-mul_right (down e) (units (exponent_field b) (b % 4503599627370496) h digits_lt)) (le_of_eq (mul_comm (2 ^ 1020) (down e)))))) (pow_pos 1020)
         where
           turn : (n : ℕ) → 2 ^ 54 * n * 2 ^ 1020 ≡ n * 2 ^ 1074
           turn n = ap (λ (z : ℕ). z * 2 ^ 1020) (mul_comm (2 ^ 54) n) ∙ mul_assoc n (2 ^ 54) (2 ^ 1020)
 
   -- ---- below 1/4
-  near_small : 969 ≤ field_of b → field_of b < 1021 → Close (within (2 ^ 48)) (small_of (fin s m e) b) x
+  near_small : 969 ≤ exponent_field b → exponent_field b < 1021 → Close (within (2 ^ 48)) (small_of (fin s m e) b) x
   unfolding small_of
   near_small l h = go s refl
     where
       go : (t : Bool) → s ≡ t → Close (within (2 ^ 48)) (small_of (fin s m e) b) x
       go false p =
           rw (sym sign_is ∙ p)
-          (plus_near (m * up e) (down e) (field_of b) (b % 4503599627370496) (down_pos e) l h digits_lt size_is (fin s m e) value.e x (p, refl) value.proper (subst (λ (t : Bool). ExpValue (sgn t (m * up e) (down e)) value.e) p value.is_exp) value.same)
+          (plus_near (m * up e) (down e) (exponent_field b) (b % 4503599627370496) (down_pos e) l h digits_lt size_is (fin s m e) value.e x (p, refl) value.proper (subst (λ (t : Bool). ExpValue (sgn t (m * up e) (down e)) value.e) p value.is_exp) value.same)
       go true p =
           rw (sym sign_is ∙ p)
-          (minus_near (m * up e) (down e) (field_of b) (b % 4503599627370496) (down_pos e) l h digits_lt size_is (fin s m e) value.e x (p, refl) value.proper (subst (λ (t : Bool). ExpValue (sgn t (m * up e) (down e)) value.e) p value.is_exp) value.same)
+          (minus_near (m * up e) (down e) (exponent_field b) (b % 4503599627370496) (down_pos e) l h digits_lt size_is (fin s m e) value.e x (p, refl) value.proper (subst (λ (t : Bool). ExpValue (sgn t (m * up e) (down e)) value.e) p value.is_exp) value.same)
 
   -- ---- from 1/4 on
   bracket : Bracket (binary_exponent_of (fin s m e)) 242 value.e
@@ -110,7 +111,7 @@ module _ (s : Bool) (m : ℕ) (e : ℤ) (fit : T (fits binary64 (fin s m e))) (b
       let z = argument_near s m e fit bound in
       raise_bracket (binary_exponent_of (fin s m e)) 242 (val_f (fin s m e)) value.e z.1 z.2 (lit≤ tt) (val_f_pos (fin s m e)) z.0 value.is_exp
 
-  near_below : 1021 ≤ field_of b → s ≡ true → Close (within (2 ^ 48)) (below_of (binary_exponent_of (fin s m e))) x
+  near_below : 1021 ≤ exponent_field b → s ≡ true → Close (within (2 ^ 48)) (below_of (binary_exponent_of (fin s m e))) x
   near_below l p = below_near (binary_exponent_of (fin s m e)) (argument_near s m e fit bound).1 (subst (λ (w : ℕ). w < 1022 * 2 ^ 53 + 101 * 2 ^ 46) exponent (less (binary_of b) (binary_least b l))) value.e x value.is_exp.proper.0 value.proper bracket value.same
     where
       less : (v : ℕ) → 42 * 2 ^ 46 ≤ v → 1023 * 2 ^ 53 - v < 1022 * 2 ^ 53 + 101 * 2 ^ 46
@@ -119,7 +120,7 @@ module _ (s : Bool) (m : ℕ) (e : ℤ) (fit : T (fits binary64 (fin s m e))) (b
       exponent : 1023 * 2 ^ 53 - binary_of b ≡ binary_exponent_of (fin s m e)
       exponent = negative_at b (binary_of b) refl (negative p) ∙ of s m e
 
-  near_above : 1021 ≤ field_of b → s ≡ false → Close (within (2 ^ 48)) (above_of (binary_exponent_of (fin s m e))) x
+  near_above : 1021 ≤ exponent_field b → s ≡ false → Close (within (2 ^ 48)) (above_of (binary_exponent_of (fin s m e))) x
   near_above l p = above_near (binary_exponent_of (fin s m e)) (subst (λ (w : ℕ). 1023 * 2 ^ 53 + 42 * 2 ^ 46 ≤ w) exponent (more (binary_of b) (binary_least b l))) (argument_near s m e fit bound).2 value.e x value.is_exp.proper.0 value.proper bracket value.same
     where
       more : (v : ℕ) → 42 * 2 ^ 46 ≤ v → 1023 * 2 ^ 53 + 42 * 2 ^ 46 ≤ 1023 * 2 ^ 53 + v
@@ -128,37 +129,37 @@ module _ (s : Bool) (m : ℕ) (e : ℤ) (fit : T (fits binary64 (fin s m e))) (b
       exponent : 1023 * 2 ^ 53 + binary_of b ≡ binary_exponent_of (fin s m e)
       exponent = positive_at b (binary_of b) refl (positive p) ∙ of s m e
 
-  pub near_away : 969 ≤ field_of b → Close (within (2 ^ 48)) (away_of (fin s m e)) x
+  pub near_away : 969 ≤ exponent_field b → Close (within (2 ^ 48)) (away_of (fin s m e)) x
   unfolding away_of
-  near_away l = by_field (dec_le 1021 (field_of b))
+  near_away l = by_field (dec_le 1021 (exponent_field b))
     where
-      by_sign : 1021 ≤ field_of b → (t : Bool) → s ≡ t → Close (within (2 ^ 48)) (cond (leb (2 ^ 63) b) (below_of (binary_exponent_of (fin s m e))) (above_of (binary_exponent_of (fin s m e)))) x
+      by_sign : 1021 ≤ exponent_field b → (t : Bool) → s ≡ t → Close (within (2 ^ 48)) (cond (leb (2 ^ 63) b) (below_of (binary_exponent_of (fin s m e))) (above_of (binary_exponent_of (fin s m e)))) x
       by_sign h false p = rw (sym sign_is ∙ p) (near_above h p)
       by_sign h true p = rw (sym sign_is ∙ p) (near_below h p)
 
-      by_field : Dec (1021 ≤ field_of b) → Close (within (2 ^ 48)) (away_of (fin s m e)) x
-      by_field (yes h) = rw (fails (field_of b) 1021 h) (by_sign h s refl)
-      by_field (no h) = rw (holds (field_of b) 1021 (lt_of_not-le h)) (near_small l (lt_of_not-le h))
+      by_field : Dec (1021 ≤ exponent_field b) → Close (within (2 ^ 48)) (away_of (fin s m e)) x
+      by_field (yes h) = rw (fails (exponent_field b) 1021 h) (by_sign h s refl)
+      by_field (no h) = rw (holds (exponent_field b) 1021 (lt_of_not-le h)) (near_small l (lt_of_not-le h))
 
-  pub near_any : Close (within (2 ^ 48)) (cond (ltb (field_of b) 969) (fin s m e) (away_of (fin s m e))) x
-  near_any = go (dec_le 969 (field_of b))
+  pub near_any : Close (within (2 ^ 48)) (cond (ltb (exponent_field b) 969) (fin s m e) (away_of (fin s m e))) x
+  near_any = go (dec_le 969 (exponent_field b))
     where
-      go : Dec (969 ≤ field_of b) → Close (within (2 ^ 48)) (cond (ltb (field_of b) 969) (fin s m e) (away_of (fin s m e))) x
-      go (yes h) = rw (fails (field_of b) 969 h) (near_away h)
-      go (no h) = rw (holds (field_of b) 969 (lt_of_not-le h)) (near_tiny (lt_of_not-le h))
+      go : Dec (969 ≤ exponent_field b) → Close (within (2 ^ 48)) (cond (ltb (exponent_field b) 969) (fin s m e) (away_of (fin s m e))) x
+      go (yes h) = rw (fails (exponent_field b) 969 h) (near_away h)
+      go (no h) = rw (holds (exponent_field b) 969 (lt_of_not-le h)) (near_tiny (lt_of_not-le h))
 
 -- 'The distance holds from every value in the bracket': whatever value exp_m1 holds, at each f64 x; and it is finite
 pub exp_m1_distance : (x v : Float) (t : Frac) → T (fits binary64 x) → exp_m1_of x ≡ held v → ExpM1Value (val_f x) t → Close (within (2 ^ 48)) v t
 unfolding exp_m1_of
 exp_m1_distance x v t f h w = go (exp_inside x) refl h
   where
-    at : (s : Bool) × (m : ℕ) × (e : ℤ) × (x ≡ fin s m e) × (m * up e ≤ 700 * down e) → T (exp_inside x) → Close (within (2 ^ 48)) (cond (ltb (field_of (to_bits binary64 x)) 969) x (away_of x)) t
-    at (s, m, e, p, q) i = subst (λ (y : Float). Close (within (2 ^ 48)) (cond (ltb (field_of (to_bits binary64 y)) 969) y (away_of y)) t) (sym p) (near_any s m e (subst (λ (y : Float). T (fits binary64 y)) p f) q t (subst (λ (y : Float). ExpM1Value (val_f y) t) p w))
+    at : (s : Bool) × (m : ℕ) × (e : ℤ) × (x ≡ fin s m e) × (m * up e ≤ 700 * down e) → T (exp_inside x) → Close (within (2 ^ 48)) (cond (ltb (exponent_field (to_bits binary64 x)) 969) x (away_of x)) t
+    at (s, m, e, p, q) i = subst (λ (y : Float). Close (within (2 ^ 48)) (cond (ltb (exponent_field (to_bits binary64 y)) 969) y (away_of y)) t) (sym p) (near_any s m e (subst (λ (y : Float). T (fits binary64 y)) p f) q t (subst (λ (y : Float). ExpM1Value (val_f y) t) p w))
 
-    go : (b : Bool) → b ≡ exp_inside x → cond b (held (cond (ltb (field_of (to_bits binary64 x)) 969) x (away_of x))) (refused 6) ≡ held v → Close (within (2 ^ 48)) v t
+    go : (b : Bool) → b ≡ exp_inside x → cond b (held (cond (ltb (exponent_field (to_bits binary64 x)) 969) x (away_of x))) (refused 6) ≡ held v → Close (within (2 ^ 48)) v t
     go true p h = subst (λ (y : Float). Close (within (2 ^ 48)) y t) (same h) (at (exp_inside_is x (subst T p tt)) (subst T p tt))
       where
-        same : held (cond (ltb (field_of (to_bits binary64 x)) 969) x (away_of x)) ≡ held v → cond (ltb (field_of (to_bits binary64 x)) 969) x (away_of x) ≡ v
+        same : held (cond (ltb (exponent_field (to_bits binary64 x)) 969) x (away_of x)) ≡ held v → cond (ltb (exponent_field (to_bits binary64 x)) 969) x (away_of x) ≡ v
         same h = cc
     go false p h = absurd (never h)
       where

@@ -9,7 +9,8 @@ use lib.Dec.{T, leb, le→leb, lit≤}
 use lib.Pow.{pow_mono}
 use lib.Ieee.{Float, binary64, of_int, in_float, mul, div}
 use Rattle.fixed_point.specs.Horner.{horner}
-use Rattle.exponential.specs.ExpM1.{over_terms, under_terms, under_of, field_of, digits_of, small_of}
+use Rattle.fixed_point.specs.Fields.{exponent_field}
+use Rattle.exponential.specs.ExpM1.{over_terms, under_terms, under_of, digits_of, small_of}
 use Rattle.exponential.proofs.Digits.{horner_le}
 
 pub square_le : (s : ℕ) → s ≤ 2 ^ 62 → s * s / 2 ^ 64 ≤ 2 ^ 60
@@ -142,9 +143,9 @@ part_fits n h = le→leb (n / 2048) (2 ^ 53) (go n h)
     go : (n : ℕ) → n ≤ 37 * 2 ^ 58 → n / 2048 ≤ 2 ^ 53
     go n h = omega arith
 
-module _ (b s q a : ℕ) (F : field_of b < 1021) (s-is : s ≡ digits_of b / 2 ^ (1022 - field_of b)) (q_is : q ≡ s * s / 2 ^ 64) where
+module _ (b s q a : ℕ) (F : exponent_field b < 1021) (s-is : s ≡ digits_of b / 2 ^ (1022 - exponent_field b)) (q_is : q ≡ s * s / 2 ^ 64) where
   pub s_le : s ≤ 2 ^ 62
-  s_le = subst (λ (x : ℕ). x ≤ 2 ^ 62) (sym s-is) (moved_le (digits_of b) (1022 - field_of b) (digits_hi b) (two (field_of b) F))
+  s_le = subst (λ (x : ℕ). x ≤ 2 ^ 62) (sym s-is) (moved_le (digits_of b) (1022 - exponent_field b) (digits_hi b) (two (exponent_field b) F))
     where
       two : (f : ℕ) → f < 1021 → 2 ≤ 1022 - f
       two f h = omega arith

@@ -20,7 +20,7 @@ use Rattle.series.specs.Exact.{TanhValue}
 use Rattle.series.specs.Distance.{near}
 use Rattle.series.proofs.Close.{Close}
 use Rattle.exponential.specs.Exp.{exponent_at}
-use Rattle.exponential.specs.ExpM1.{field_of}
+use Rattle.fixed_point.specs.Fields.{exponent_field}
 use Rattle.exponential.specs.Tanh.{tanh_ratio_of, tanh_of}
 use Rattle.exponential.proofs.Decode.{units_of, decoded}
 use Rattle.exponential.proofs.Argument.{units_le}
@@ -57,7 +57,7 @@ module _ (s : Bool) (m : ℕ) (e : ℤ) (fit : T (fits binary64 (fin s m e))) (b
   sign_is : s ≡ leb 9223372036854775808 b
   sign_is = (decoded s m e fit b refl).0.0
 
-  size_is : m * up e * 2 ^ 1074 ≡ units_of (field_of b) (b % 4503599627370496) * down e
+  size_is : m * up e * 2 ^ 1074 ≡ units_of (exponent_field b) (b % 4503599627370496) * down e
   size_is = (decoded s m e fit b refl).0.1
 
   digits_lt : b % 4503599627370496 < 4503599627370496
@@ -72,11 +72,11 @@ module _ (s : Bool) (m : ℕ) (e : ℤ) (fit : T (fits binary64 (fin s m e))) (b
   positive : s ≡ false → b < 2 ^ 63
   positive p = lt_of_not-le (λ (h : 2 ^ 63 ≤ b). subst T (sym sign_is ∙ p) (le→leb (2 ^ 63) b h))
 
-  units : units_of (field_of b) (b % 4503599627370496) ≤ 350 * 2 ^ 1074
-  units = units_le 350 m e (units_of (field_of b) (b % 4503599627370496)) size_is bound
+  units : units_of (exponent_field b) (b % 4503599627370496) ≤ 350 * 2 ^ 1074
+  units = units_le 350 m e (units_of (exponent_field b) (b % 4503599627370496)) size_is bound
 
   -- ---- below 2 ^ -17
-  near_tiny : field_of b < 1006 → Close (near (2 ^ 48)) (fin s m e) x
+  near_tiny : exponent_field b < 1006 → Close (near (2 ^ 48)) (fin s m e) x
   near_tiny h = (tt, tiny_near s (m * up e) (down e) x (down_pos e) size value)
     where
       small : (f t : ℕ) → f < 1006 → t < 4503599627370496 → units_of f t ≤ 2 ^ 1057
@@ -90,17 +90,17 @@ module _ (s : Bool) (m : ℕ) (e : ℤ) (fit : T (fits binary64 (fin s m e))) (b
           last i h = omega arith
 
       size : 2 ^ 17 * (m * up e) ≤ down e
-      size = le_of_mul-le-mul_right {k = 2 ^ 1057} (le_trans (le_of_eq (turn (m * up e))) (le_trans (le_of_eq size_is) (le_trans (mul-le-mul_right (down e) (small (field_of b) (b % 4503599627370496) h digits_lt)) (le_of_eq (mul_comm (2 ^ 1057) (down e)))))) (pow_pos 1057)
+      size = le_of_mul-le-mul_right {k = 2 ^ 1057} (le_trans (le_of_eq (turn (m * up e))) (le_trans (le_of_eq size_is) (le_trans (mul-le-mul_right (down e) (small (exponent_field b) (b % 4503599627370496) h digits_lt)) (le_of_eq (mul_comm (2 ^ 1057) (down e)))))) (pow_pos 1057)
         where
           turn : (n : ℕ) → 2 ^ 17 * n * 2 ^ 1057 ≡ n * 2 ^ 1074
           turn n = ap (λ (z : ℕ). z * 2 ^ 1057) (mul_comm (2 ^ 17) n) ∙ mul_assoc n (2 ^ 17) (2 ^ 1057)
 
   -- ---- from 2 ^ -17 on
-  module _ (l : 1006 ≤ field_of b) where
+  module _ (l : 1006 ≤ exponent_field b) where
     abbrev w : ℕ
     w = exponent_at (b + 2 ^ 52)
 
-    low : field_of b ≤ 1031
+    low : exponent_field b ≤ 1031
     low = twice_low b units
 
     same_sign : s ≡ leb 9223372036854775808 (b + 2 ^ 52)
@@ -116,8 +116,8 @@ module _ (s : Bool) (m : ℕ) (e : ℤ) (fit : T (fits binary64 (fin s m e))) (b
         go true p = p ∙ sym (is_true (leb (2 ^ 63) (b + 2 ^ 52)) (le→leb (2 ^ 63) (b + 2 ^ 52) (more b (negative p))))
         go false p = p ∙ sym (is_false (leb (2 ^ 63) (b + 2 ^ 52)) (not_T (leb (2 ^ 63) (b + 2 ^ 52)) (λ (u : T (leb (2 ^ 63) (b + 2 ^ 52))). less b (positive p) low (leb→le (2 ^ 63) (b + 2 ^ 52) u))))
 
-    twice_is_size : 2 * (m * up e) * 2 ^ 1074 ≡ units_of (field_of (b + 2 ^ 52)) ((b + 2 ^ 52) % 4503599627370496) * down e
-    twice_is_size = mul_assoc 2 (m * up e) (2 ^ 1074) ∙ ap (λ (z : ℕ). 2 * z) size_is ∙ sym (mul_assoc 2 (units_of (field_of b) (b % 4503599627370496)) (down e)) ∙ ap (λ (z : ℕ). z * down e) (sym (twice_size b units l))
+    twice_is_size : 2 * (m * up e) * 2 ^ 1074 ≡ units_of (exponent_field (b + 2 ^ 52)) ((b + 2 ^ 52) % 4503599627370496) * down e
+    twice_is_size = mul_assoc 2 (m * up e) (2 ^ 1074) ∙ ap (λ (z : ℕ). 2 * z) size_is ∙ sym (mul_assoc 2 (units_of (exponent_field b) (b % 4503599627370496)) (down e)) ∙ ap (λ (z : ℕ). z * down e) (sym (twice_size b units l))
 
     abbrev Argument : Frac → Type 0
     Argument v = Bound (sub_f v (mul_f (frac w (1023 * 2 ^ 53) (2 ^ 53)) M)) (frac 242 0 (2 ^ 60))
@@ -143,25 +143,25 @@ module _ (s : Bool) (m : ℕ) (e : ℤ) (fit : T (fits binary64 (fin s m e))) (b
     near_away : Close (near (2 ^ 48)) (tanh_ratio_of w) x
     near_away = tanh_near w value.e x value.is_exp.proper.0 bracket value.same
 
-  pub near_any : Close (near (2 ^ 48)) (cond (ltb (field_of b) 1006) (fin s m e) (tanh_ratio_of (exponent_at (b + 2 ^ 52)))) x
-  near_any = go (dec_le 1006 (field_of b))
+  pub near_any : Close (near (2 ^ 48)) (cond (ltb (exponent_field b) 1006) (fin s m e) (tanh_ratio_of (exponent_at (b + 2 ^ 52)))) x
+  near_any = go (dec_le 1006 (exponent_field b))
     where
-      go : Dec (1006 ≤ field_of b) → Close (near (2 ^ 48)) (cond (ltb (field_of b) 1006) (fin s m e) (tanh_ratio_of (exponent_at (b + 2 ^ 52)))) x
-      go (yes h) = rw (fails (field_of b) 1006 h) (near_away h)
-      go (no h) = rw (holds (field_of b) 1006 (lt_of_not-le h)) (near_tiny (lt_of_not-le h))
+      go : Dec (1006 ≤ exponent_field b) → Close (near (2 ^ 48)) (cond (ltb (exponent_field b) 1006) (fin s m e) (tanh_ratio_of (exponent_at (b + 2 ^ 52)))) x
+      go (yes h) = rw (fails (exponent_field b) 1006 h) (near_away h)
+      go (no h) = rw (holds (exponent_field b) 1006 (lt_of_not-le h)) (near_tiny (lt_of_not-le h))
 
 -- 'The distance holds from every value in the bracket': whatever value tanh holds, at each f64 x; and it is finite
 pub tanh_distance : (x v : Float) (t : Frac) → T (fits binary64 x) → tanh_of x ≡ held v → TanhValue (val_f x) t → Close (near (2 ^ 48)) v t
 unfolding tanh_of
 tanh_distance x v t f h w = go (tanh_inside x) refl h
   where
-    at : (s : Bool) × (m : ℕ) × (e : ℤ) × (x ≡ fin s m e) × (m * up e ≤ 350 * down e) → Close (near (2 ^ 48)) (cond (ltb (field_of (to_bits binary64 x)) 1006) x (tanh_ratio_of (exponent_at (to_bits binary64 x + 2 ^ 52)))) t
-    at (s, m, e, p, q) = subst (λ (y : Float). Close (near (2 ^ 48)) (cond (ltb (field_of (to_bits binary64 y)) 1006) y (tanh_ratio_of (exponent_at (to_bits binary64 y + 2 ^ 52)))) t) (sym p) (near_any s m e (subst (λ (y : Float). T (fits binary64 y)) p f) q t (subst (λ (y : Float). TanhValue (val_f y) t) p w))
+    at : (s : Bool) × (m : ℕ) × (e : ℤ) × (x ≡ fin s m e) × (m * up e ≤ 350 * down e) → Close (near (2 ^ 48)) (cond (ltb (exponent_field (to_bits binary64 x)) 1006) x (tanh_ratio_of (exponent_at (to_bits binary64 x + 2 ^ 52)))) t
+    at (s, m, e, p, q) = subst (λ (y : Float). Close (near (2 ^ 48)) (cond (ltb (exponent_field (to_bits binary64 y)) 1006) y (tanh_ratio_of (exponent_at (to_bits binary64 y + 2 ^ 52)))) t) (sym p) (near_any s m e (subst (λ (y : Float). T (fits binary64 y)) p f) q t (subst (λ (y : Float). TanhValue (val_f y) t) p w))
 
-    go : (b : Bool) → b ≡ tanh_inside x → cond b (held (cond (ltb (field_of (to_bits binary64 x)) 1006) x (tanh_ratio_of (exponent_at (to_bits binary64 x + 2 ^ 52))))) (refused 6) ≡ held v → Close (near (2 ^ 48)) v t
+    go : (b : Bool) → b ≡ tanh_inside x → cond b (held (cond (ltb (exponent_field (to_bits binary64 x)) 1006) x (tanh_ratio_of (exponent_at (to_bits binary64 x + 2 ^ 52))))) (refused 6) ≡ held v → Close (near (2 ^ 48)) v t
     go true p h = subst (λ (y : Float). Close (near (2 ^ 48)) y t) (same h) (at (tanh_inside_is x (subst T p tt)))
       where
-        same : held (cond (ltb (field_of (to_bits binary64 x)) 1006) x (tanh_ratio_of (exponent_at (to_bits binary64 x + 2 ^ 52)))) ≡ held v → cond (ltb (field_of (to_bits binary64 x)) 1006) x (tanh_ratio_of (exponent_at (to_bits binary64 x + 2 ^ 52))) ≡ v
+        same : held (cond (ltb (exponent_field (to_bits binary64 x)) 1006) x (tanh_ratio_of (exponent_at (to_bits binary64 x + 2 ^ 52)))) ≡ held v → cond (ltb (exponent_field (to_bits binary64 x)) 1006) x (tanh_ratio_of (exponent_at (to_bits binary64 x + 2 ^ 52))) ≡ v
         same h = cc
     go false p h = absurd (never h)
       where

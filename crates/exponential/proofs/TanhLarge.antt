@@ -12,7 +12,7 @@ use lib.Ieee.Exact.{HasValue}
 use lib.Ieee.Scale.{round_same}
 use Rattle.exponential.specs.Raise.{significand_of}
 use Rattle.exponential.specs.Exp.{argument_size, binary_of, exponent_at}
-use Rattle.exponential.specs.ExpM1.{field_of}
+use Rattle.fixed_point.specs.Fields.{exponent_field}
 use Rattle.exponential.specs.Tanh.{exp_part, one_part, tanh_ratio_of}
 use Rattle.exponential.proofs.Digits.{significand_lo, significand_hi}
 use Rattle.exponential.proofs.Argument.{negative_at, positive_at}
@@ -78,9 +78,9 @@ module _ (w : ℕ) where
       unmoved q h = omega arith
 
 -- ---- the exponent of 2x: 40 / ln 2 is above 57
-module _ (b : ℕ) (large : 4109 ≤ b / 2 ^ 50 % 8192) (top : field_of b ≤ 1031) where
+module _ (b : ℕ) (large : 4109 ≤ b / 2 ^ 50 % 8192) (top : exponent_field b ≤ 1031) where
   twice_size : 40 * 2 ^ 54 ≤ argument_size (b + 2 ^ 52)
-  twice_size = (le-div_iff_mul-le (pow_pos (1032 - field_of (b + 2 ^ 52)))).1 (go (dec_le (1032 - field_of (b + 2 ^ 52)) 3))
+  twice_size = (le-div_iff_mul-le (pow_pos (1032 - exponent_field (b + 2 ^ 52)))).1 (go (dec_le (1032 - exponent_field (b + 2 ^ 52)) 3))
     where
       most : (b : ℕ) → 40 * 2 ^ 54 * 2 ^ 3 ≤ ((b + 2 ^ 52) % 2 ^ 52 + 2 ^ 52) * 2048
       most b = omega arith
@@ -91,7 +91,7 @@ module _ (b : ℕ) (large : 4109 ≤ b / 2 ^ 50 % 8192) (top : field_of b ≤ 10
       least : (b : ℕ) → 4109 ≤ b / 2 ^ 50 % 8192 → b / 2 ^ 52 % 2048 ≤ 1031 → (1032 - (b + 2 ^ 52) / 2 ^ 52 % 2048 ≤ 3 → ⊥) → 40 * 2 ^ 54 * 2 ^ 4 ≤ ((b + 2 ^ 52) % 2 ^ 52 + 2 ^ 52) * 2048
       least b h k l = omega arith
 
-      go : Dec (1032 - field_of (b + 2 ^ 52) ≤ 3) → 40 * 2 ^ 54 * 2 ^ (1032 - field_of (b + 2 ^ 52)) ≤ ((b + 2 ^ 52) % 2 ^ 52 + 2 ^ 52) * 2048
+      go : Dec (1032 - exponent_field (b + 2 ^ 52) ≤ 3) → 40 * 2 ^ 54 * 2 ^ (1032 - exponent_field (b + 2 ^ 52)) ≤ ((b + 2 ^ 52) % 2 ^ 52 + 2 ^ 52) * 2048
       go (yes l) = le_trans (mul-le-mul_left (40 * 2 ^ 54) (pow_mono l)) (most b)
       go (no l) = le_trans (mul-le-mul_left (40 * 2 ^ 54) (pow_mono (four b large top))) (least b large top l)
 
@@ -117,11 +117,11 @@ module _ (b : ℕ) (large : 4109 ≤ b / 2 ^ 50 % 8192) (top : field_of b ≤ 10
       lin v h = omega arith
 
 -- ---- the code's tests: two more digits than the exponent's field
-pub large_field : (b : ℕ) → 4109 ≤ b / 2 ^ 50 % 8192 → 1006 ≤ field_of b
+pub large_field : (b : ℕ) → 4109 ≤ b / 2 ^ 50 % 8192 → 1006 ≤ exponent_field b
 large_field b h = omega arith
 
-pub tiny_field : (b : ℕ) → b / 2 ^ 50 % 8192 < 4024 → field_of b < 1006
+pub tiny_field : (b : ℕ) → b / 2 ^ 50 % 8192 < 4024 → exponent_field b < 1006
 tiny_field b h = omega arith
 
-pub away_field : (b : ℕ) → 4024 ≤ b / 2 ^ 50 % 8192 → 1006 ≤ field_of b
+pub away_field : (b : ℕ) → 4024 ≤ b / 2 ^ 50 % 8192 → 1006 ≤ exponent_field b
 away_field b h = omega arith

@@ -13,7 +13,7 @@ use Rattle.number.specs.Ans.{held, refused}
 use Rattle.number.specs.Domain.{tanh_inside}
 use Rattle.exponential.specs.Raise.{significand_of}
 use Rattle.exponential.specs.Exp.{binary_of, exponent_at}
-use Rattle.exponential.specs.ExpM1.{field_of}
+use Rattle.fixed_point.specs.Fields.{exponent_field}
 use Rattle.exponential.specs.Tanh.{tanh_ratio_of, tanh_of}
 use Rattle.exponential.proofs.Digits.{significand_hi}
 use Rattle.exponential.proofs.Decode.{units_of, decoded, inside_is, field_lt, size_le_of}
@@ -61,11 +61,11 @@ tanh_no_nan x h = go (tanh_inside_is x h)
     go : (s : Bool) × (m : ℕ) × (e : ℤ) × (x ≡ fin s m e) × (m * up e ≤ 350 * down e) → T (not (is_nan x))
     go (s, m, e, p, q) = subst (λ (y : Float). T (not (is_nan y))) (sym p) tt
 
-pub tanh_bits_le : (x : Float) → T (fits binary64 x) → T (tanh_inside x) → units_of (field_of (to_bits binary64 x)) (to_bits binary64 x % 4503599627370496) ≤ 350 * 2 ^ 1074
+pub tanh_bits_le : (x : Float) → T (fits binary64 x) → T (tanh_inside x) → units_of (exponent_field (to_bits binary64 x)) (to_bits binary64 x % 4503599627370496) ≤ 350 * 2 ^ 1074
 tanh_bits_le x f h = go (tanh_inside_is x h)
   where
-    go : (s : Bool) × (m : ℕ) × (e : ℤ) × (x ≡ fin s m e) × (m * up e ≤ 350 * down e) → units_of (field_of (to_bits binary64 x)) (to_bits binary64 x % 4503599627370496) ≤ 350 * 2 ^ 1074
-    go (s, m, e, p, k) = units_le 350 m e (units_of (field_of (to_bits binary64 x)) (to_bits binary64 x % 4503599627370496)) (decoded s m e (subst (λ (y : Float). T (fits binary64 y)) p f) (to_bits binary64 x) (subst (λ (y : Float). to_bits binary64 x ≡ to_bits binary64 y) p refl)).0.1 k
+    go : (s : Bool) × (m : ℕ) × (e : ℤ) × (x ≡ fin s m e) × (m * up e ≤ 350 * down e) → units_of (exponent_field (to_bits binary64 x)) (to_bits binary64 x % 4503599627370496) ≤ 350 * 2 ^ 1074
+    go (s, m, e, p, k) = units_le 350 m e (units_of (exponent_field (to_bits binary64 x)) (to_bits binary64 x % 4503599627370496)) (decoded s m e (subst (λ (y : Float). T (fits binary64 y)) p f) (to_bits binary64 x) (subst (λ (y : Float). to_bits binary64 x ≡ to_bits binary64 y) p refl)).0.1 k
 
 digits_lt : (b : ℕ) → b % 4503599627370496 < 4503599627370496
 digits_lt b = omega arith
@@ -81,9 +81,9 @@ units_twice (suc k) t h = ap (λ (f : ℕ). units_of f t) (step k) ∙ ap (λ (p
     step : (k : ℕ) → suc k + 1 ≡ suc (1 + k)
     step k = omega arith
 
-module _ (b : ℕ) (units : units_of (field_of b) (b % 4503599627370496) ≤ 350 * 2 ^ 1074) where
-  pub twice_low : field_of b ≤ 1031
-  twice_low = go (field_of b) (b % 4503599627370496) (field_lt 350 (field_of b) (b % 4503599627370496) (lit< tt) (digits_lt b) units) (size_le_of 350 (field_of b) (b % 4503599627370496) (lit< tt) (digits_lt b) units) (dec_le 1032 (field_of b))
+module _ (b : ℕ) (units : units_of (exponent_field b) (b % 4503599627370496) ≤ 350 * 2 ^ 1074) where
+  pub twice_low : exponent_field b ≤ 1031
+  twice_low = go (exponent_field b) (b % 4503599627370496) (field_lt 350 (exponent_field b) (b % 4503599627370496) (lit< tt) (digits_lt b) units) (size_le_of 350 (exponent_field b) (b % 4503599627370496) (lit< tt) (digits_lt b) units) (dec_le 1032 (exponent_field b))
     where
       same : (f : ℕ) → f < 1033 → 1032 ≤ f → f ≡ 1032
       same f h k = omega arith
@@ -104,31 +104,31 @@ module _ (b : ℕ) (units : units_of (field_of b) (b % 4503599627370496) ≤ 350
       go : (b : ℕ) → b < 2 ^ 64 → b / 2 ^ 52 % 2048 ≤ 1031 → b + 2 ^ 52 < 2 ^ 64
       go b h k = omega arith
 
-  twice_field : field_of (b + 2 ^ 52) ≡ field_of b + 1
+  twice_field : exponent_field (b + 2 ^ 52) ≡ exponent_field b + 1
   twice_field = go b twice_low
     where
       go : (b : ℕ) → b / 2 ^ 52 % 2048 ≤ 1031 → (b + 2 ^ 52) / 2 ^ 52 % 2048 ≡ b / 2 ^ 52 % 2048 + 1
       go b h = omega arith
 
-  module _ (l : 1006 ≤ field_of b) where
-    pub twice_field_le : field_of (b + 2 ^ 52) ≤ 1032
-    twice_field_le = subst (λ (f : ℕ). f ≤ 1032) (sym (twice_field)) (lin (field_of b) twice_low)
+  module _ (l : 1006 ≤ exponent_field b) where
+    pub twice_field_le : exponent_field (b + 2 ^ 52) ≤ 1032
+    twice_field_le = subst (λ (f : ℕ). f ≤ 1032) (sym (twice_field)) (lin (exponent_field b) twice_low)
       where
         lin : (f : ℕ) → f ≤ 1031 → f + 1 ≤ 1032
         lin f h = omega arith
 
     -- the size of 2x
-    pub twice_size : units_of (field_of (b + 2 ^ 52)) ((b + 2 ^ 52) % 4503599627370496) ≡ 2 * units_of (field_of b) (b % 4503599627370496)
-    twice_size = ap (λ (f : ℕ). units_of f ((b + 2 ^ 52) % 4503599627370496)) (twice_field) ∙ ap (λ (t : ℕ). units_of (field_of b + 1) t) (same b) ∙ units_twice (field_of b) (b % 4503599627370496) (le_trans (lit≤ tt) l)
+    pub twice_size : units_of (exponent_field (b + 2 ^ 52)) ((b + 2 ^ 52) % 4503599627370496) ≡ 2 * units_of (exponent_field b) (b % 4503599627370496)
+    twice_size = ap (λ (f : ℕ). units_of f ((b + 2 ^ 52) % 4503599627370496)) (twice_field) ∙ ap (λ (t : ℕ). units_of (exponent_field b + 1) t) (same b) ∙ units_twice (exponent_field b) (b % 4503599627370496) (le_trans (lit≤ tt) l)
       where
         same : (b : ℕ) → (b + 2 ^ 52) % 4503599627370496 ≡ b % 4503599627370496
         same b = omega arith
 
-    pub twice_units : units_of (field_of (b + 2 ^ 52)) ((b + 2 ^ 52) % 4503599627370496) ≤ 700 * 2 ^ 1074
+    pub twice_units : units_of (exponent_field (b + 2 ^ 52)) ((b + 2 ^ 52) % 4503599627370496) ≤ 700 * 2 ^ 1074
     twice_units = le_trans (le_of_eq twice_size) (le_trans (mul-le-mul_left 2 units) (lit≤ tt))
 
     pub twice_binary_le : binary_of (b + 2 ^ 52) ≤ 1010 * 2 ^ 53
-    twice_binary_le = div-le_of_le-mul (2 ^ 64) (le_trans (mul-le-mul_right 13306513097844322491 (size_le_of 700 (field_of (b + 2 ^ 52)) ((b + 2 ^ 52) % 4503599627370496) (lit< tt) (digits_lt (b + 2 ^ 52)) twice_units)) (lit≤ tt))
+    twice_binary_le = div-le_of_le-mul (2 ^ 64) (le_trans (mul-le-mul_right 13306513097844322491 (size_le_of 700 (exponent_field (b + 2 ^ 52)) ((b + 2 ^ 52) % 4503599627370496) (lit< tt) (digits_lt (b + 2 ^ 52)) twice_units)) (lit≤ tt))
 
 -- ---- the answer
 module _ (x : Float) where
@@ -148,10 +148,10 @@ module _ (x : Float) where
     unfolding tanh_of
     tanh_outside h = rw (← is, h)
 
-    pub tanh_tiny : t ≡ true → field_of (to_bits binary64 x) < 1006 → held x ≡ tanh_of x
+    pub tanh_tiny : t ≡ true → exponent_field (to_bits binary64 x) < 1006 → held x ≡ tanh_of x
     unfolding tanh_of
-    tanh_tiny h k = rw (← is, h, holds (field_of (to_bits binary64 x)) 1006 k)
+    tanh_tiny h k = rw (← is, h, holds (exponent_field (to_bits binary64 x)) 1006 k)
 
-    pub tanh_away : (w : ℕ) (v : Float) → t ≡ true → 1006 ≤ field_of (to_bits binary64 x) → w ≡ exponent_at (to_bits binary64 x + 2 ^ 52) → v ≡ tanh_ratio_of w → held v ≡ tanh_of x
+    pub tanh_away : (w : ℕ) (v : Float) → t ≡ true → 1006 ≤ exponent_field (to_bits binary64 x) → w ≡ exponent_at (to_bits binary64 x + 2 ^ 52) → v ≡ tanh_ratio_of w → held v ≡ tanh_of x
     unfolding tanh_of
-    tanh_away w v h k i e = rw (← is, h, fails (field_of (to_bits binary64 x)) 1006 k, e, i)
+    tanh_away w v h k i e = rw (← is, h, fails (exponent_field (to_bits binary64 x)) 1006 k, e, i)

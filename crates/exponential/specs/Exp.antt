@@ -1,14 +1,15 @@
 -- The exponential: its value.
-use Rattle.std.specs.Prelude.{cond, ℕ, ◌+◌, ◌-◌, ◌*◌, ◌/◌, ◌%◌, ◌^◌, leb, Float}
+use Rattle.std.specs.Prelude.{cond, ℕ, ◌+◌, ◌-◌, ◌*◌, ◌/◌, ◌^◌, leb, Float}
 use Rattle.std.specs.Float.{binary64}
 use Rattle.std.specs.Float.Ieee.{to_bits}
 use Rattle.number.specs.Ans.{Ans, held, refused}
 use Rattle.number.specs.Domain.{exp_inside}
+use Rattle.fixed_point.specs.Fields.{exponent_field, significand}
 use Rattle.exponential.specs.Raise.{raise_of}
 
 -- |x| in units of 2 ^ -54, rounded down, from the bits of x
 abbrev pub argument_size : ℕ → ℕ
-argument_size b = (b % 2 ^ 52 + 2 ^ 52) * 2048 / 2 ^ (1032 - b / 2 ^ 52 % 2048)
+argument_size b = significand b * 2048 / 2 ^ (1032 - exponent_field b)
 
 -- |x| over ln 2 in units of 2 ^ -53, rounded down: 13306513097844322491 is 2 ^ 63 / ln 2, rounded down
 abbrev pub binary_of : ℕ → ℕ

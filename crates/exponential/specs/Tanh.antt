@@ -6,7 +6,7 @@ use Rattle.number.specs.Ans.{Ans, held, refused}
 use Rattle.number.specs.Domain.{tanh_inside}
 use Rattle.exponential.specs.Raise.{significand_of}
 use Rattle.exponential.specs.Exp.{exponent_at}
-use Rattle.exponential.specs.ExpM1.{field_of}
+use Rattle.fixed_point.specs.Fields.{exponent_field}
 
 -- exp 2x and 1 in one unit, whole numbers of at most 52 bits: exp 2x is y 2 ^ (k - 63), k + 1023 the whole part of the exponent w of 2x. For a k below 0 y is moved, for one above 0 the 1 (a difference of natural numbers is 0 where the second is larger)
 abbrev pub exp_part : ℕ → ℕ
@@ -24,4 +24,4 @@ tanh_ratio_of w =
 
 -- tanh x; below 2 ^ -17 in size it is x, either zero included. The bits of 2x have 1 more in the exponent's field
 unfoldable pub tanh_of : Float → Ans Float
-tanh_of x = cond (tanh_inside x) (held (cond (ltb (field_of (to_bits binary64 x)) 1006) x (tanh_ratio_of (exponent_at (to_bits binary64 x + 2 ^ 52))))) (refused 6)
+tanh_of x = cond (tanh_inside x) (held (cond (ltb (exponent_field (to_bits binary64 x)) 1006) x (tanh_ratio_of (exponent_at (to_bits binary64 x + 2 ^ 52))))) (refused 6)

@@ -7,14 +7,15 @@
 ghost use Rattle.std.specs.Prelude.{◌≡◌, ◌+◌, ◌-◌, ◌*◌, ◌/◌, ◌%◌, ◌^◌, ◌≤◌, ◌<◌, T, get_or};
 ghost use Rattle.number.specs.Answer.{answer};
 ghost use Rattle.number.specs.Domain.{exp_inside, tanh_inside};
+ghost use Rattle.fixed_point.specs.Fields.{exponent_field};
 ghost use Rattle.fixed_point.specs.Horner.{horner};
 ghost use Rattle.exponential.specs.Powers.{powers, terms};
 ghost use Rattle.exponential.specs.Raise.{significand_of, raise_of};
 ghost use Rattle.exponential.specs.Exp.{binary_of, exponent_at, binary_exponent_of, exp_of};
-ghost use Rattle.exponential.specs.ExpM1.{over_terms, field_of, under_of, small_of, below_of, above_of, away_of, exp_m1_of};
+ghost use Rattle.exponential.specs.ExpM1.{over_terms, under_of, small_of, below_of, above_of, away_of, exp_m1_of};
 ghost use Rattle.exponential.specs.Tanh.{tanh_ratio_of, tanh_of};
 
-use fixed_point::{high_product, pack, shift_right, step, term_step};
+use fixed_point::{exponent_field, high_product, pack, shift_right, step, term_step};
 use number::Refusal;
 
 // 2^(63 + j/128), rounded down.
@@ -195,15 +196,12 @@ fn exp_inside(x: f64) -> bool
 
 // x / ln 2 plus 1023, in units of 2^-53, of the bits of an x from -700 to 700.
 fn exponent_bits(b: u64) -> u64
-    requires { (field_of b ≤ 1032) × (binary_of b ≤ 1010 * 2 ^ 53) }
+    requires { (exponent_field b ≤ 1032) × (binary_of b ≤ 1010 * 2 ^ 53) }
     ensures value { result ≡ exponent_at b }
     ensures range { (2 ^ 53 ≤ result) × (result < 2046 * 2 ^ 53) }
 {
-    let digits = (b % 0x10_0000_0000_0000 + 0x10_0000_0000_0000) * 2048;
-    let size = shift_right(
-        digits,
-        1032u64.saturating_sub(b / 0x10_0000_0000_0000 % 2048),
-    );
+    let digits = fixed_point::significand(b) * 2048;
+    let size = shift_right(digits, 1032u64.saturating_sub(exponent_field(b)));
     let v = high_product(size, 13306513097844322491);
     if 0x8000_0000_0000_0000 <= b {
         0x7fe0_0000_0000_0000 - v
@@ -252,14 +250,11 @@ fn under(negative: bool, s: u64, q: u64, a: u64) -> u64
 
 // exp x - 1 for an x below 1/4 in size, from x and its bits. Both numbers are cut to 53 bits at most, so that only the product and the quotient round.
 fn small(x: f64, b: u64) -> f64
-    requires { field_of b < 1021 }
+    requires { exponent_field b < 1021 }
     ensures { result ≡ small_of x b }
 {
-    let digits = (b % 0x10_0000_0000_0000 + 0x10_0000_0000_0000) * 2048;
-    let s = shift_right(
-        digits,
-        1022u64.saturating_sub(b / 0x10_0000_0000_0000 % 2048),
-    );
+    let digits = fixed_point::significand(b) * 2048;
+    let s = shift_right(digits, 1022u64.saturating_sub(exponent_field(b)));
     let q = high_product(s, s);
     let a = over(q);
     let d = under(0x8000_0000_0000_0000 <= b, s, q, a);
@@ -274,7 +269,7 @@ fn below(w: u64) -> f64
     ensures { result ≡ below_of w }
 {
     let part = shift_right(significand(w), 1023 - w / 0x20_0000_0000_0000);
-    pack(1, 0x8000_0000_0000_0000 - part, 1022)
+    pack(true, 0x8000_0000_0000_0000 - part, 1022)
 }
 
 // exp x - 1 for an x of 1/4 or more, from its exponent in base 2.
@@ -283,7 +278,7 @@ fn above(w: u64) -> f64
     ensures { result ≡ above_of w }
 {
     let one = shift_right(0x8000_0000_0000_0000, w / 0x20_0000_0000_0000 - 1023);
-    pack(0, significand(w) - one, w / 0x20_0000_0000_0000 - 1)
+    pack(false, significand(w) - one, w / 0x20_0000_0000_0000 - 1)
 }
 
 // exp x - 1 for an x that is not tiny.
@@ -292,7 +287,7 @@ fn away(x: f64) -> f64
     ensures { result ≡ away_of x }
 {
     let b = f64::to_bits(x);
-    if b / 0x10_0000_0000_0000 % 2048 < 1021 {
+    if exponent_field(b) < 1021 {
         return small(x, b);
     }
     let w = exponent(x);
@@ -310,7 +305,7 @@ pub fn exp_m1(x: f64) -> Result<f64, Refusal>
     if !exp_inside(x) {
         return Err(Refusal::Domain);
     }
-    if f64::to_bits(x) / 0x10_0000_0000_0000 % 2048 < 969 {
+    if exponent_field(f64::to_bits(x)) < 969 {
         return Ok(x);
     }
     Ok(away(x))
@@ -337,7 +332,7 @@ fn tanh_ratio(w: u64) -> f64
 
 // tanh of x from the bits of an x of 20 or more in size: the smaller of exp 2x and 1 has no digit left in the unit of both.
 fn tanh_large(b: u64) -> f64
-    requires { (4109 ≤ b / 2 ^ 50 % 8192) × (field_of b ≤ 1031) }
+    requires { (4109 ≤ b / 2 ^ 50 % 8192) × (exponent_field b ≤ 1031) }
     ensures { result ≡ tanh_ratio_of (exponent_at (b + 2 ^ 52)) }
 {
     if b < 0x8000_0000_0000_0000 { 1.0 } else { -1.0 }

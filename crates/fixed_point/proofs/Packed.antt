@@ -1,7 +1,8 @@
 -- What `packed` stands for, and that it is within 2 ^ -53 of what it was made of. Assumes nothing.
-use mathlib.Core.Path.{◌≡◌, refl, sym, ap, ◌∙◌, subst}
+use mathlib.Core.Path.{◌≡◌, sym, ap, ◌∙◌, subst}
 use mathlib.Core.Bool.{Bool, true, false, not}
-use Prim.Native.Nat.{ℕ, zero, suc, ◌+◌, ◌-◌, ◌*◌, ◌/◌, ◌%◌, ◌^◌, ◌≤◌, ◌<◌}
+use Rattle.std.specs.Int.{from_bool}
+use Prim.Native.Nat.{ℕ, suc, ◌+◌, ◌-◌, ◌*◌, ◌/◌, ◌%◌, ◌^◌, ◌≤◌, ◌<◌}
 use native.Mathlib.Nat.{le_trans, le_of_eq, lt_of_lt_of_le, mul-le-mul_right, mul_assoc, mod-eq_of_lt}
 use native.Mathlib.Omega.{arith}
 use lib.Dec.{T}
@@ -12,11 +13,6 @@ use lib.Ieee.Exact.{HasValue}
 use Rattle.fixed_point.specs.Pack.{packed}
 use Rattle.fixed_point.proofs.Horner.{ac}
 use Rattle.fixed_point.proofs.Patterns64.{sign_bit, pack_value, pack_no_nan, near_lo, near_hi, near_up, near_down}
-
--- 1 for a minus
-abbrev pub flag : Bool → ℕ
-flag false = 0
-flag true = 1
 
 module _ (y : ℕ) (positive : 0 < y) (fits : y < 2 ^ 64) where
   pub zeros_lt : count_leading_zeros 64 y < 64
@@ -50,14 +46,6 @@ kept y = (y * 2 ^ count_leading_zeros 64 y / 1024 + 1) / 2
 abbrev pub size : ℕ → ℕ → ℕ
 size y e = kept y * 2 ^ (e - count_leading_zeros 64 y)
 
-pub flag_of : (s : ℕ) → s ≤ 1 → (b : Bool) × (flag b ≡ s)
-flag_of zero h = (false, refl)
-flag_of (suc zero) h = (true, refl)
-flag_of (suc (suc s)) h = absurd (none s h)
-  where
-    none : (s : ℕ) → suc (suc s) ≤ 1 → ⊥
-    none s h = omega arith
-
 module _ (s : Bool) (y e : ℕ) (positive : 0 < y) (fits : y < 2 ^ 64) (wide : e ≤ 2044) where
   field_le : e - count_leading_zeros 64 y ≤ 2044
   field_le = go e (count_leading_zeros 64 y) wide
@@ -71,26 +59,24 @@ module _ (s : Bool) (y e : ℕ) (positive : 0 < y) (fits : y < 2 ^ 64) (wide : e
   kept_hi : kept y ≤ 9007199254740992
   kept_hi = near_hi (y * 2 ^ count_leading_zeros 64 y) (top_hi y positive fits)
 
-  pattern_is : sign_bit s + ((e - count_leading_zeros 64 y) * 4503599627370496 + kept y) ≡ flag s * 2 ^ 63 + (e - count_leading_zeros 64 y) * 2 ^ 52 + kept y
+  pattern_is : sign_bit s + ((e - count_leading_zeros 64 y) * 4503599627370496 + kept y) ≡ from_bool s * 2 ^ 63 + (e - count_leading_zeros 64 y) * 2 ^ 52 + kept y
   pattern_is = go s (e - count_leading_zeros 64 y) (kept y)
     where
-      go : (s : Bool) (f m : ℕ) → sign_bit s + (f * 4503599627370496 + m) ≡ flag s * 2 ^ 63 + f * 2 ^ 52 + m
+      go : (s : Bool) (f m : ℕ) → sign_bit s + (f * 4503599627370496 + m) ≡ from_bool s * 2 ^ 63 + f * 2 ^ 52 + m
       go false f m = omega arith
       go true f m = omega arith
 
-  pub packed_value : HasValue (packed (flag s) y e) s (size y e) (2 ^ 1074)
+  pub packed_value : HasValue (packed (from_bool s) y e) s (size y e) (2 ^ 1074)
   unfolding packed
   packed_value = subst (λ (b : ℕ). HasValue (of_bits binary64 b) s (size y e) (2 ^ 1074)) pattern_is (pack_value s (e - count_leading_zeros 64 y) (kept y) field_le kept_lo kept_hi)
 
-  no_nan : T (not (nan_bits binary64 (flag s * 2 ^ 63 + (e - count_leading_zeros 64 y) * 2 ^ 52 + kept y)))
+  no_nan : T (not (nan_bits binary64 (from_bool s * 2 ^ 63 + (e - count_leading_zeros 64 y) * 2 ^ 52 + kept y)))
   no_nan = subst (λ (b : ℕ). T (not (nan_bits binary64 b))) pattern_is (pack_no_nan s (e - count_leading_zeros 64 y) (kept y) field_le kept_lo kept_hi)
 
 -- as the program has it
-pub packed_no_nan : (s y e : ℕ) → s ≤ 1 → 0 < y → y < 2 ^ 64 → e ≤ 2044 → T (not (nan_bits binary64 (s * 2 ^ 63 + (e - count_leading_zeros 64 y) * 2 ^ 52 + kept y)))
-packed_no_nan s y e h p f w = go (flag_of s h)
-  where
-    go : (b : Bool) × (flag b ≡ s) → T (not (nan_bits binary64 (s * 2 ^ 63 + (e - count_leading_zeros 64 y) * 2 ^ 52 + kept y)))
-    go (b, q) = subst (λ (x : ℕ). T (not (nan_bits binary64 (x * 2 ^ 63 + (e - count_leading_zeros 64 y) * 2 ^ 52 + kept y)))) q (no_nan b y e p f w)
+pub packed_no_nan : (negative : Bool) (y e : ℕ) → 0 < y → y < 2 ^ 64 → e ≤ 2044 → T (not (nan_bits binary64 (from_bool negative * 2 ^ 63 + (e - count_leading_zeros 64 y) * 2 ^ 52 + kept y)))
+packed_no_nan false y e p f w = no_nan false y e p f w
+packed_no_nan true y e p f w = no_nan true y e p f w
 
 pub shifted : (y : ℕ) → 0 < y → y < 2 ^ 64 → (y * 2 ^ count_leading_zeros 64 y) % 2 ^ 64 ≡ y * 2 ^ count_leading_zeros 64 y
 shifted y p f = mod-eq_of_lt (top_hi y p f)

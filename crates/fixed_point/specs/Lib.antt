@@ -1,3 +1,4 @@
 pub mod Horner
 pub mod Quotient
 pub mod Pack
+pub mod Fields

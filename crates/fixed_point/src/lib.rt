@@ -1,9 +1,10 @@
 // Fixed point in u64, for the elementary functions: products, quotients, Horner's rule, and the way back to f64. Each result is rounded down, so an error is at most one unit a step and has one sign.
-// What is said of a number stays a plain premise (a significand from 2^52 to below 2^53, a shift below 64, a sign of 0 or 1): one step's arithmetic reads it, and a type would be taken apart at each. A sign is the number that the pattern's top bit is made of.
 #![tactic(auto)]
 
 ghost use Rattle.std.specs.Prelude.{◌≡◌, ◌+◌, ◌*◌, ◌/◌, ◌^◌, ◌≤◌, ◌<◌};
+ghost use Rattle.std.specs.Int.{from_bool};
 ghost use Rattle.std.specs.Int.Count.{count_leading_zeros};
+ghost use Rattle.fixed_point.specs.Fields.{exponent_field, significand};
 ghost use Rattle.fixed_point.specs.Quotient.{quotient};
 ghost use Rattle.fixed_point.specs.Pack.{packed};
 
@@ -61,12 +62,26 @@ pub fn leading_zeros(y: u64) -> u64
     u64::from(u64::leading_zeros(y))
 }
 
-// The f64 nearest to y * 2^(e - 1085), a minus where s is 1. It is a normal number for such e, so the exponent's field needs no case.
-pub fn pack(s: u64, y: u64, e: u64) -> f64
-    requires { (s ≤ 1) × (0 < y) × (64 ≤ e) × (e ≤ 2044) }
-    ensures { result ≡ packed s y e }
+// The exponent's field of an f64's bits.
+pub fn exponent_field(b: u64) -> u64
+    ensures { result ≡ exponent_field b }
+{
+    (b >> 52) % 2048
+}
+
+// The significand of a normal f64's bits, in units of 2^-52.
+pub fn significand(b: u64) -> u64
+    ensures { result ≡ significand b }
+{
+    b % 0x10_0000_0000_0000 + 0x10_0000_0000_0000
+}
+
+// The f64 nearest to y * 2^(e - 1085), or to its negative. It is a normal number for such e, so the exponent's field needs no case.
+pub fn pack(negative: bool, y: u64, e: u64) -> f64
+    requires { (0 < y) × (64 ≤ e) × (e ≤ 2044) }
+    ensures { result ≡ packed (from_bool negative) y e }
 {
     let l = leading_zeros(y);
     let m = ((y << l) / 1024 + 1) / 2;
-    f64::from_bits(s * 0x8000_0000_0000_0000 + (e - l) * 0x10_0000_0000_0000 + m)
+    f64::from_bits(u64::from(negative) * 0x8000_0000_0000_0000 + (e - l) * 0x10_0000_0000_0000 + m)
 }

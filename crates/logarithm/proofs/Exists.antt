@@ -16,7 +16,7 @@ use Rattle.number.specs.Frac.{Frac, frac, Pos, le_f, zero_f, neg_f, add_f, sub_f
 use Rattle.number.proofs.Frac.{ring, le_refl_f, le_trans_f, add_mono_f, neg_anti_f, add_f_pos, neg_f_pos}
 use Rattle.number.specs.Domain.{ln_inside, ln1p_inside}
 use Rattle.fixed_point.proofs.Patterns64.{sign_bit, val, val_mono, bits_is}
-use Rattle.fixed_point.proofs.Packed.{flag}
+use Rattle.std.specs.Int.{from_bool}
 use Rattle.fixed_point.proofs.Decode.{small_is, sign_of, normal_value}
 use Rattle.series.specs.Sums.{nat_f, eq_f, pow_f, sum_f, scale_f}
 use Rattle.series.specs.Exact.{twice_odds, odd_tail, ln2_low, ln2_high, times_low, times_high, z_of, LnValue, Ln1pValue}
@@ -179,7 +179,7 @@ ln_has_value x f t =
     below b h = omega arith
 
 -- ---- and every number that `ln_1p` takes
-module _ (x : Float) (s : Bool) (m : ℕ) (fit : m < 9223372036854775808) (is : of_bits binary64 (sign_bit s + m) ≡ x) (range : m / 4503599627370496 + 21 * flag s ≤ 1043) where
+module _ (x : Float) (s : Bool) (m : ℕ) (fit : m < 9223372036854775808) (is : of_bits binary64 (sign_bit s + m) ≡ x) (range : m / 4503599627370496 + 21 * from_bool s ≤ 1043) where
   size_of : (a : ℕ) × HasValue x s a (2 ^ 1074) × (a ≤ val (cond s 4607182418800017407 4701758010974797823))
   size_of = go (dec_le 4503599627370496 m)
     where
@@ -189,7 +189,7 @@ module _ (x : Float) (s : Bool) (m : ℕ) (fit : m < 9223372036854775808) (is : 
       wide : (m g : ℕ) → m / 4503599627370496 + 21 * g ≤ 1043 → m < 9218868437227405312
       wide m g h = omega arith
 
-      top : (s : Bool) → m / 4503599627370496 + 21 * flag s ≤ 1043 → m ≤ cond s 4607182418800017407 4701758010974797823
+      top : (s : Bool) → m / 4503599627370496 + 21 * from_bool s ≤ 1043 → m ≤ cond s 4607182418800017407 4701758010974797823
       top false h = omega arith
       top true h = omega arith
 
@@ -199,7 +199,7 @@ module _ (x : Float) (s : Bool) (m : ℕ) (fit : m < 9223372036854775808) (is : 
 
       go : Dec (4503599627370496 ≤ m) → (a : ℕ) × HasValue x s a (2 ^ 1074) × (a ≤ val (cond s 4607182418800017407 4701758010974797823))
       go (no l) = (m, at m (small_is s m (lt_of_not-le l)), small s (lt_of_not-le l))
-      go (yes l) = (val m, at (val m) (bits_is s m l (wide m (flag s) range)), val_mono m (cond s 4607182418800017407 4701758010974797823) l (top s range))
+      go (yes l) = (val m, at (val m) (bits_is s m l (wide m (from_bool s) range)), val_mono m (cond s 4607182418800017407 4701758010974797823) l (top s range))
 
   plus_has_value : (v : Frac) × Ln1pValue (val_f x) v
   plus_has_value = go s size_of.0 (value_is x s size_of.0 (2 ^ 1074) size_of.1) size_of.2

@@ -16,7 +16,8 @@ use Rattle.fixed_point.specs.Pack.{packed}
 use Rattle.fixed_point.proofs.Horner.{ac}
 use Rattle.fixed_point.proofs.Polynomial.{hom}
 use Rattle.logarithm.proofs.CoreBounds.{common, tops}
-use Rattle.fixed_point.proofs.Packed.{flag, size, packed_value, packed_up, packed_down}
+use Rattle.std.specs.Int.{from_bool}
+use Rattle.fixed_point.proofs.Packed.{size, packed_value, packed_up, packed_down}
 use Rattle.series.specs.Sums.{eq_f, pow_f, sum_f}
 use Rattle.series.specs.Exact.{twice_odds, odd_tail, ln2_low, ln2_high, times_low, times_high, z_of, LnValue}
 use Rattle.series.specs.Distance.{within}
@@ -31,11 +32,11 @@ use Rattle.logarithm.proofs.Bracket.{low_of, high_of, sum_below, sum_above, part
 
 -- ---- a number y in units 1 / E = 1 / (2 ^ 11 m), packed
 pub packed_near : (s : Bool) (v : Frac) (y e E m d : ℕ) → 0 < y → y < 2 ^ 64 → 64 ≤ e → e ≤ 2044 → 0 < E → 2 ^ e * m ≡ 2 ^ 1074 → 2048 * m ≡ E → 2 ^ 49 * d ≤ y → Low s (y - d) E v → High s (y + d) E v
-    → Close (within (2 ^ 48)) (packed (flag s) y e) v
+    → Close (within (2 ^ 48)) (packed (from_bool s) y e) v
 packed_near s v y e E m d yp yf el eh ep em me far l u =
     let value = packed_value s y e yp yf eh in (
-      value_finite (packed (flag s) y e) s (size y e) (2 ^ 1074) value,
-      rounded_near s (val_f (packed (flag s) y e)) v y d (size y e) (2 ^ 1074) E (pow_pos 1074) ep (value_is (packed (flag s) y e) s (size y e) (2 ^ 1074) value)
+      value_finite (packed (from_bool s) y e) s (size y e) (2 ^ 1074) value,
+      rounded_near s (val_f (packed (from_bool s) y e)) v y d (size y e) (2 ^ 1074) E (pow_pos 1074) ep (value_is (packed (from_bool s) y e) s (size y e) (2 ^ 1074) value)
           (le_trans (le_of_eq (a (size y e) (2 ^ 53) m E me)) (le_trans (mul-le-mul_right m (packed_up y e yp yf el)) (le_of_eq (b y (2 ^ e) (2 ^ 53 + 1) m (2 ^ 1074) em))))
           (le_trans (le_of_eq (sym (b y (2 ^ e) (2 ^ 53 - 1) m (2 ^ 1074) em))) (le_trans (mul-le-mul_right m (packed_down y e yp yf el)) (le_of_eq (sym (a (size y e) (2 ^ 53) m E me)))))
           far l u,
@@ -157,13 +158,13 @@ module _ (v : Frac) (a c : ℕ) (more : 2 ^ 53 + 2 ^ 51 ≤ a) (less : c ≤ 2 ^
   high_end true false l h = le_trans_f (frac 0 (a - c + 4) B) (add_f (frac c 1 B) (frac 0 (a + 2) B)) v B2 (sum_below 0 (a - c + 4) c 1 0 (a + 2) B (omega arith)) l
   high_end true true l h = le_trans_f (frac 0 (a + c + 4) B) (add_f (frac 0 (c + 2) B) (frac 0 (a + 2) B)) v B2 (sum_below 0 (a + c + 4) 0 (c + 2) 0 (a + 2) B (omega arith)) l
 
-  total_near : (g s : Bool) → le_f (add_f (low54 s c B) (low_k g a B)) v → le_f v (add_f (high54 s c B) (high_k g a B)) → Close (within (2 ^ 48)) (packed (flag g) (total g s) 1031) v
+  total_near : (g s : Bool) → le_f (add_f (low54 s c B) (low_k g a B)) v → le_f v (add_f (high54 s c B) (high_k g a B)) → Close (within (2 ^ 48)) (packed (from_bool g) (total g s) 1031) v
   total_near g s l h = packed_near g v (total g s) 1031 B (2 ^ 43) 4 (total_pos g s) (total_hi g s) (lit≤ tt) (lit≤ tt) (lit< tt) (sym (pow-add 2 1031 43)) refl (total_lo g s) (low_end g s l h) (high_end g s l h)
 
 -- `far` packs that sum
 pub far_near : (g s : Bool) (k r sh : ℕ) (v : Frac) → 0 < k → k ≤ 1025 → r / 2 ^ (sh + 8) ≤ 2 ^ 53
     → le_f (add_f (low54 s (r / 2 ^ (sh + 8)) (2 ^ 54)) (low_k g (multiple k) (2 ^ 54))) v → le_f v (add_f (high54 s (r / 2 ^ (sh + 8)) (2 ^ 54)) (high_k g (multiple k) (2 ^ 54)))
-    → Close (within (2 ^ 48)) (far (flag g) k (flag s) r sh) v
+    → Close (within (2 ^ 48)) (far (from_bool g) k (from_bool s) r sh) v
 unfolding far
 far_near false false k r sh v p q m l h = total_near v (multiple k) (r / 2 ^ (sh + 8)) (multiple_lo k p) m (multiple_hi k q) false false l h
 far_near false true k r sh v p q m l h = total_near v (multiple k) (r / 2 ^ (sh + 8)) (multiple_lo k p) m (multiple_hi k q) false true l h
@@ -408,7 +409,7 @@ module _ (s : Bool) (n o u S r : ℕ) (h : Parts s n o u S r) (y v : Frac) (yp :
         high_of_pos false = mul-pos {m = 2 ^ 62} (lit< tt) h.scale
         high_of_pos true = mul-pos {m = 2 ^ 62} (lit< tt) h.scale
 
-    above_near : 1023 < e → Close (within (2 ^ 48)) (far 0 (e - 1023) (flag s) r sh) v
+    above_near : 1023 < e → Close (within (2 ^ 48)) (far 0 (e - 1023) (from_bool s) r sh) v
     above_near p =
         let t = above_one value.neg value.k e way.0 p eh in
         far_near false s (e - 1023) r sh v (pos e p) (few e eh) j.small (from_low (low54 s c (2 ^ 54)) (low_k false (multiple (e - 1023)) (2 ^ 54)) low_54 t.0) (from_high (high54 s c (2 ^ 54)) (high_k false (multiple (e - 1023)) (2 ^ 54)) high_54 t.1)
@@ -419,7 +420,7 @@ module _ (s : Bool) (n o u S r : ℕ) (h : Parts s n o u S r) (y v : Frac) (yp :
         few : (e : ℕ) → e ≤ 2048 → e - 1023 ≤ 1025
         few e h = omega arith
 
-    below_near : e < 1023 → Close (within (2 ^ 48)) (far 1 (1023 - e) (flag s) r sh) v
+    below_near : e < 1023 → Close (within (2 ^ 48)) (far 1 (1023 - e) (from_bool s) r sh) v
     below_near p =
         let t = below_one value.neg value.k e way.0 p in
         far_near true s (1023 - e) r sh v (pos e p) (few e) j.small (from_low (low54 s c (2 ^ 54)) (low_k true (multiple (1023 - e)) (2 ^ 54)) low_54 t.0) (from_high (high54 s c (2 ^ 54)) (high_k true (multiple (1023 - e)) (2 ^ 54)) high_54 t.1)
@@ -430,7 +431,7 @@ module _ (s : Bool) (n o u S r : ℕ) (h : Parts s n o u S r) (y v : Frac) (yp :
         few : (e : ℕ) → 1023 - e ≤ 1025
         few e = omega arith
 
-    one_near : e ≡ 1023 → 2 ^ 59 ≤ r → Close (within (2 ^ 48)) (packed (flag s) r (1023 - sh)) v
+    one_near : e ≡ 1023 → 2 ^ 59 ≤ r → Close (within (2 ^ 48)) (packed (from_bool s) r (1023 - sh)) v
     one_near p large =
         packed_near s v r (1023 - sh) E (2 ^ 51 * S) 111 (lt_of_lt_of_le (lit< tt) large) j.fits (wide sh j.shift) (short sh) (mul-pos {m = 2 ^ 62} (lit< tt) h.scale) powers (sym (mul_assoc 2048 (2 ^ 51) S)) (le_trans (lit≤ tt) large) (one_low p large) (one_high p large)
       where
@@ -449,7 +450,7 @@ module _ (s : Bool) (n o u S r : ℕ) (h : Parts s n o u S r) (y v : Frac) (yp :
             back : (sh : ℕ) → sh < 64 → 1023 - sh + sh ≡ 1023
             back sh h = omega arith
 
-    pub join_near : Close (within (2 ^ 48)) (join e (flag s) r sh) v
+    pub join_near : Close (within (2 ^ 48)) (join e (from_bool s) r sh) v
     unfolding join of_bits
     join_near = go (dec_le e 1023) (dec_le 1023 e) (eq-zero-or-pos n)
       where
@@ -462,7 +463,7 @@ module _ (s : Bool) (n o u S r : ℕ) (h : Parts s n o u S r) (y v : Frac) (yp :
         positive : (r : ℕ) → 2 ^ 59 ≤ r → r ≡ 0 → ⊥
         positive r h q = omega arith
 
-        go : Dec (e ≤ 1023) → Dec (1023 ≤ e) → (n ≡ 0) ⊎ (0 < n) → Close (within (2 ^ 48)) (join e (flag s) r sh) v
+        go : Dec (e ≤ 1023) → Dec (1023 ≤ e) → (n ≡ 0) ⊎ (0 < n) → Close (within (2 ^ 48)) (join e (from_bool s) r sh) v
         go (no a) b m = rw (ne_eqb e 1023 (not_one e a), le-ltb e 1023 (le_of_lt (lt_of_not-le a))) (above_near (lt_of_not-le a))
         go (yes a) (no b) m = rw (ne_eqb e 1023 (not_one' e b), lt-ltb e 1023 (lt_of_not-le b)) (below_near (lt_of_not-le b))
         go (yes a) (yes b) (inl m) = rw (eq-eqb e 1023 (le_antisymm a b), eq-eqb r 0 (j.none m)) (tt, none_near (le_antisymm a b) m (val_f (of_bits binary64 0)) (eq_refl_f (frac 0 0 1)))

@@ -1,5 +1,6 @@
 pub mod CoreBounds
 pub mod Ranges
+pub mod Signs
 pub mod Domain
 pub mod Fractions
 pub mod OddSeries

@@ -22,7 +22,7 @@ use Rattle.fixed_point.specs.Quotient.{quotient}
 use Rattle.fixed_point.proofs.Horner.{ac}
 use Rattle.fixed_point.proofs.TwoDigits.{quotient_lo, quotient_hi7}
 use Rattle.fixed_point.proofs.Patterns64.{val}
-use Rattle.fixed_point.proofs.Packed.{flag}
+use Rattle.std.specs.Int.{from_bool}
 use Rattle.fixed_point.proofs.Decode.{positive_bits, bits_from, normal_value}
 use Rattle.series.specs.Sums.{eq_f}
 use Rattle.series.specs.Exact.{LnValue}
@@ -174,7 +174,7 @@ module _ (s : Bool) (n u : ℕ) (part : Part s u n (2 ^ 62)) (low : 2 * 2 ^ 62 �
       less : (l : ℕ) → l ≤ 64 → l - 3 < 64
       less l h = omega arith
 
-  pub signed_near : (y v : Frac) → Pos y → (e : ℕ) → e ≤ 2048 → eq_f y (frac (u * 2 ^ e) 0 (2 ^ 62 * 2 ^ 1023)) → LnValue y v → Close (within (2 ^ 48)) (signed e (flag s) n d) v
+  pub signed_near : (y v : Frac) → Pos y → (e : ℕ) → e ≤ 2048 → eq_f y (frac (u * 2 ^ e) 0 (2 ^ 62 * 2 ^ 1023)) → LnValue y v → Close (within (2 ^ 48)) (signed e (from_bool s) n d) v
   unfolding signed
   signed_near y v yp e eh given value = join_near s n (2 ^ 62) u (2 ^ sh) (core (n * 2 ^ sh) d sh) signed_parts y v yp e eh given value sh refl signed_joins
 

@@ -23,7 +23,8 @@ use Rattle.fixed_point.proofs.Horner.{ac}
 use Rattle.fixed_point.proofs.TwoDigits.{quotient_lo, quotient_hi7}
 use Rattle.fixed_point.proofs.Patterns64.{sign_bit, val, val_mono, bits_is}
 use Rattle.fixed_point.proofs.Decode.{small_is, sign_of}
-use Rattle.fixed_point.proofs.Packed.{flag, top_lo, top_hi}
+use Rattle.std.specs.Int.{from_bool}
+use Rattle.fixed_point.proofs.Packed.{top_lo, top_hi}
 use Rattle.series.specs.Sums.{nat_f, eq_f}
 use Rattle.series.specs.Exact.{LnValue, Ln1pValue}
 use Rattle.series.specs.Distance.{within}
@@ -75,7 +76,7 @@ module _ (y v : Frac) (yp : Pos y) (value : LnValue y v) where
       numbers : k * 2 ^ (f - 1) * 4096 ≡ k * 2 ^ count_leading_zeros 64 k * 2 ^ (f + 11 - count_leading_zeros 64 k)
       numbers = mul_assoc k (2 ^ (f - 1)) 4096 ∙ ap (λ (x : ℕ). k * x) (sym (pow-add 2 (f - 1) 12) ∙ ap (λ (x : ℕ). 2 ^ x) (places f (count_leading_zeros 64 k) lo (leading_le 64 k)) ∙ pow-add 2 (count_leading_zeros 64 k) (f + 11 - count_leading_zeros 64 k)) ∙ sym (mul_assoc k (2 ^ count_leading_zeros 64 k) (2 ^ (f + 11 - count_leading_zeros 64 k)))
 
-  pub large_near : (s : Bool) (f m : ℕ) → 1021 ≤ f → f + 21 * flag s ≤ 1043 → m < 2 ^ 53 → 2 ^ 52 ≤ m → ((u : ℕ) → Part s u (m * 2 ^ (f - 1)) (2 ^ 1074) → eq_f y (frac u 0 (2 ^ 1074))) → Close (within (2 ^ 48)) (large1p (flag s) f m) v
+  pub large_near : (s : Bool) (f m : ℕ) → 1021 ≤ f → f + 21 * from_bool s ≤ 1043 → m < 2 ^ 53 → 2 ^ 52 ≤ m → ((u : ℕ) → Part s u (m * 2 ^ (f - 1)) (2 ^ 1074) → eq_f y (frac u 0 (2 ^ 1074))) → Close (within (2 ^ 48)) (large1p (from_bool s) f m) v
   unfolding large1p
   large_near s f m lo hi fit least given = go s hi given
     where
@@ -106,7 +107,7 @@ module _ (y v : Frac) (yp : Pos y) (value : LnValue y v) where
       back : (x m : ℕ) → m ≤ x → x - m + m ≡ x
       back x m h = omega arith
 
-      go : (s : Bool) → f + 21 * flag s ≤ 1043 → ((u : ℕ) → Part s u (m * 2 ^ (f - 1)) (2 ^ 1074) → eq_f y (frac u 0 (2 ^ 1074))) → Close (within (2 ^ 48)) (large1p (flag s) f m) v
+      go : (s : Bool) → f + 21 * from_bool s ≤ 1043 → ((u : ℕ) → Part s u (m * 2 ^ (f - 1)) (2 ^ 1074) → eq_f y (frac u 0 (2 ^ 1074))) → Close (within (2 ^ 48)) (large1p (from_bool s) f m) v
       go false k given =
           moved_near f (2 ^ (1075 - f) + m) lo (plain f k) (more (2 ^ (1075 - f)) m least) (plus_lt (2 ^ (1075 - f)) m one_le fit)
           (given ((2 ^ (1075 - f) + m) * 2 ^ (f - 1)) (add-mul (2 ^ (1075 - f)) m (2 ^ (f - 1)) ∙ ap (λ (x : ℕ). x + m * 2 ^ (f - 1)) (whole_is (plain f k))))
@@ -231,7 +232,7 @@ module _ (s : Bool) (n sh d u : ℕ) (one_up : 1 ≤ sh) (room : sh < 64) (least
     none = λ (e : n ≡ 0). core_none n d sh asked.0 asked.1 asked.2 asked.3 e;
   }
 
-  near_one : (y v : Frac) → Pos y → eq_f y (frac u 0 o) → LnValue y v → Close (within (2 ^ 48)) (join 1023 (flag s) (core n d sh) sh) v
+  near_one : (y v : Frac) → Pos y → eq_f y (frac u 0 o) → LnValue y v → Close (within (2 ^ 48)) (join 1023 (from_bool s) (core n d sh) sh) v
   near_one y v yp given value =
       join_near s n o u (2 ^ sh) (core n d sh) small_parts y v yp 1023 (lit≤ tt) (eq_trans_f y (frac u 0 o) (frac (u * 2 ^ 1023) 0 (o * 2 ^ 1023)) o_pos given (eq_sym_f (frac (u * 2 ^ 1023) 0 (o * 2 ^ 1023)) (frac u 0 o) (cancel u o (2 ^ 1023)))) value sh refl small_joins
 
@@ -288,7 +289,7 @@ module _ (y v : Frac) (yp : Pos y) (value : LnValue y v) (f m : ℕ) (lo : 969 �
       four : (n : ℕ) → n < 2 ^ 61 → 4 * n ≤ 2 ^ 62 * 2
       four n h = omega arith
 
-  pub small_near : (s : Bool) → ((u : ℕ) → Part s u (m * 2 ^ (f - 1)) (2 ^ 1074) → eq_f y (frac u 0 (2 ^ 1074))) → Close (within (2 ^ 48)) (small1p (flag s) f m) v
+  pub small_near : (s : Bool) → ((u : ℕ) → Part s u (m * 2 ^ (f - 1)) (2 ^ 1074) → eq_f y (frac u 0 (2 ^ 1074))) → Close (within (2 ^ 48)) (small1p (from_bool s) f m) v
   unfolding small1p
   small_near false given =
       near_one false (m * 256) sh (9223372036854775808 + q) (one + m * 256) one_up room n_ge n_lt (low q) (high q q_lt) refl (up one (m * 256) (q * 2 ^ sh) (2 ^ sh) ((9223372036854775808 + q) * 2 ^ sh) q_hi d_is) (down one (m * 256) (q * 2 ^ sh) (2 ^ sh) ((9223372036854775808 + q) * 2 ^ sh) q_lo d_is) y v yp
@@ -344,7 +345,7 @@ field_is : (s : Bool) (m : ℕ) → m < 9223372036854775808 → (sign_bit s + m)
 field_is false m h = omega arith
 field_is true m h = omega arith
 
-sign_is : (s : Bool) (m : ℕ) → m < 9223372036854775808 → (sign_bit s + m) / 2 ^ 63 ≡ flag s
+sign_is : (s : Bool) (m : ℕ) → m < 9223372036854775808 → (sign_bit s + m) / 2 ^ 63 ≡ from_bool s
 sign_is false m h = omega arith
 sign_is true m h = omega arith
 
@@ -352,7 +353,7 @@ digits_are : (s : Bool) (m : ℕ) → (sign_bit s + m) % 2 ^ 52 ≡ m % 45035996
 digits_are false m = omega arith
 digits_are true m = omega arith
 
-module _ (x : Float) (s : Bool) (m : ℕ) (fit : m < 9223372036854775808) (is : of_bits binary64 (sign_bit s + m) ≡ x) (range : m / 4503599627370496 + 21 * flag s ≤ 1043) (v : Frac) (value : Ln1pValue (val_f x) v) where
+module _ (x : Float) (s : Bool) (m : ℕ) (fit : m < 9223372036854775808) (is : of_bits binary64 (sign_bit s + m) ≡ x) (range : m / 4503599627370496 + 21 * from_bool s ≤ 1043) (v : Frac) (value : Ln1pValue (val_f x) v) where
   y_pos : Pos (add_f (nat_f 1) (val_f x))
   y_pos = add_f_pos (nat_f 1) (val_f x) (lit< tt) (val_f_pos x)
 
@@ -409,14 +410,14 @@ module _ (x : Float) (s : Bool) (m : ℕ) (fit : m < 9223372036854775808) (is : 
       M-hi m = omega arith
 
       given : (u : ℕ) → Part s u ((m % 4503599627370496 + 4503599627370496) * 2 ^ (m / 4503599627370496 - 1)) (2 ^ 1074) → eq_f (add_f (nat_f 1) (val_f x)) (frac u 0 (2 ^ 1074))
-      given u p = plus_value ((m % 4503599627370496 + 4503599627370496) * 2 ^ (m / 4503599627370496 - 1)) (subst (λ (z : ℕ). HasValue x s (z * 2 ^ (m / 4503599627370496 - 1)) (2 ^ 1074)) (add_comm 4503599627370496 (m % 4503599627370496)) (value_at (val m) (bits_is s m (lo m h) (hi m (flag s) range)))) u p
+      given u p = plus_value ((m % 4503599627370496 + 4503599627370496) * 2 ^ (m / 4503599627370496 - 1)) (subst (λ (z : ℕ). HasValue x s (z * 2 ^ (m / 4503599627370496 - 1)) (2 ^ 1074)) (add_comm 4503599627370496 (m % 4503599627370496)) (value_at (val m) (bits_is s m (lo m h) (hi m (from_bool s) range)))) u p
 
-      go : Dec (1021 ≤ m / 4503599627370496) → Close (within (2 ^ 48)) (cond (ltb (m / 4503599627370496) 1021) (small1p (flag s) (m / 4503599627370496) (m % 4503599627370496 + 2 ^ 52)) (large1p (flag s) (m / 4503599627370496) (m % 4503599627370496 + 2 ^ 52))) v
+      go : Dec (1021 ≤ m / 4503599627370496) → Close (within (2 ^ 48)) (cond (ltb (m / 4503599627370496) 1021) (small1p (from_bool s) (m / 4503599627370496) (m % 4503599627370496 + 2 ^ 52)) (large1p (from_bool s) (m / 4503599627370496) (m % 4503599627370496 + 2 ^ 52))) v
       go (no l) = rw (lt-ltb (m / 4503599627370496) 1021 (lt_of_not-le l)) (small_near (add_f (nat_f 1) (val_f x)) v y_pos value (m / 4503599627370496) (m % 4503599627370496 + 4503599627370496) h (lt_of_not-le l) (M-lo m) (M-hi m) s given)
       go (yes l) = rw (le-ltb (m / 4503599627370496) 1021 l) (large_near (add_f (nat_f 1) (val_f x)) v y_pos value s (m / 4503599627370496) (m % 4503599627370496 + 4503599627370496) l range (M-hi m) (M-lo m) given)
 
-pub range_is : (s : Bool) (m : ℕ) → m < 9223372036854775808 → (sign_bit s + m) / 2 ^ 52 % 2048 + 21 * ((sign_bit s + m) / 2 ^ 63) ≤ 1043 → m / 4503599627370496 + 21 * flag s ≤ 1043
-range_is s m h r = subst (λ (z : ℕ). z + 21 * flag s ≤ 1043) (field_is s m h) (subst (λ (z : ℕ). (sign_bit s + m) / 2 ^ 52 % 2048 + 21 * z ≤ 1043) (sign_is s m h) r)
+pub range_is : (s : Bool) (m : ℕ) → m < 9223372036854775808 → (sign_bit s + m) / 2 ^ 52 % 2048 + 21 * ((sign_bit s + m) / 2 ^ 63) ≤ 1043 → m / 4503599627370496 + 21 * from_bool s ≤ 1043
+range_is s m h r = subst (λ (z : ℕ). z + 21 * from_bool s ≤ 1043) (field_is s m h) (subst (λ (z : ℕ). (sign_bit s + m) / 2 ^ 52 % 2048 + 21 * z ≤ 1043) (sign_is s m h) r)
 
 pub taken_range : (x : Float) → T (fits binary64 x) → T (ln1p_inside x) → to_bits binary64 x / 2 ^ 52 % 2048 + 21 * (to_bits binary64 x / 2 ^ 63) ≤ 1043
 taken_range x f t =
@@ -440,7 +441,7 @@ ln_1p_near x f r e v value = go (ln1p_inside x) refl e
         is' : of_bits binary64 (sign_bit s + m) ≡ x
         is' = ap (of_bits binary64) (sym q) ∙ is
 
-        range' : m / 4503599627370496 + 21 * flag s ≤ 1043
+        range' : m / 4503599627370496 + 21 * from_bool s ≤ 1043
         range' = range_is s m h (subst (λ (z : ℕ). z / 2 ^ 52 % 2048 + 21 * (z / 2 ^ 63) ≤ 1043) q range)
 
         kinds : Dec (969 ≤ m / 4503599627370496) → Close (within (2 ^ 48)) (cond (ltb ((sign_bit s + m) / 2 ^ 52 % 2048) 969) x (bits1p (sign_bit s + m))) v

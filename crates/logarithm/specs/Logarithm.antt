@@ -1,10 +1,11 @@
 -- The logarithm as it is worked, in fixed point on whole numbers; `proofs/` shows how near it comes to document 01's brackets.
-use Rattle.std.specs.Prelude.{cond, List, [], ◌∷◌, ℕ, ◌+◌, ◌-◌, ◌*◌, ◌/◌, ◌%◌, ◌^◌, ltb, eqb, Float}
+use Rattle.std.specs.Prelude.{cond, List, [], ◌∷◌, ℕ, ◌+◌, ◌-◌, ◌*◌, ◌/◌, ◌^◌, ltb, eqb, Float}
 use Rattle.std.specs.Int.Count.{count_leading_zeros}
 use Rattle.std.specs.Float.{binary64}
 use Rattle.std.specs.Float.Ieee.{of_bits, to_bits}
 use Rattle.number.specs.Ans.{Ans, held, refused}
 use Rattle.number.specs.Domain.{ln_inside, ln1p_inside}
+use Rattle.fixed_point.specs.Fields.{exponent_field, significand}
 use Rattle.fixed_point.specs.Horner.{horner}
 use Rattle.fixed_point.specs.Quotient.{quotient}
 use Rattle.fixed_point.specs.Pack.{packed}
@@ -48,7 +49,7 @@ reduced k m =
 
 -- the logarithm of a positive normal number by its bits: the exponent's field and the significand
 unfoldable pub ln_bits : ℕ → Float
-ln_bits b = reduced (b / 2 ^ 52 % 2048) ((b % 2 ^ 52 + 2 ^ 52) * 2048)
+ln_bits b = reduced (exponent_field b) (significand b * 2048)
 
 -- `ln`: 6 outside
 unfoldable pub ln_of : Float → Ans Float
@@ -71,13 +72,13 @@ large1p s f m = cond (eqb s 1) (moved1p f (2 ^ (1075 - f) - m)) (moved1p f (2 ^ 
 
 unfoldable pub bits1p : ℕ → Float
 bits1p b =
-    let f = b / 2 ^ 52 % 2048 in
-    let m = b % 2 ^ 52 + 2 ^ 52 in
+    let f = exponent_field b in
+    let m = significand b in
     cond (ltb f 1021) (small1p (b / 2 ^ 63) f m) (large1p (b / 2 ^ 63) f m)
 
 -- a v below 2 ^ -54 in size, either zero with it, is its own answer
 unfoldable pub value1p : Float → Float
-value1p v = cond (ltb (to_bits binary64 v / 2 ^ 52 % 2048) 969) v (bits1p (to_bits binary64 v))
+value1p v = cond (ltb (exponent_field (to_bits binary64 v)) 969) v (bits1p (to_bits binary64 v))
 
 -- `ln_1p`: 6 outside
 unfoldable pub ln1p_of : Float → Ans Float

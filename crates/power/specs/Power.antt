@@ -1,10 +1,11 @@
 -- The power: its two stages in fixed point, and its value.
-use Rattle.std.specs.Prelude.{false, cond, ℕ, ◌+◌, ◌-◌, ◌*◌, ◌/◌, ◌%◌, ◌^◌, leb, ltb, eqb, Float}
+use Rattle.std.specs.Prelude.{false, cond, ℕ, ◌+◌, ◌-◌, ◌*◌, ◌/◌, ◌^◌, leb, ltb, eqb, Float}
 use Rattle.std.specs.Bool.{beq}
 use Rattle.std.specs.Float.{binary64}
 use Rattle.std.specs.Float.Ieee.{to_bits}
 use Rattle.number.specs.Ans.{Ans, held, ◌>>=◌, demand}
 use Rattle.number.specs.Domain.{base_inside, exponent_inside}
+use Rattle.fixed_point.specs.Fields.{exponent_field, significand}
 use Rattle.exponential.specs.Raise.{raise_of}
 use Rattle.binary_log.specs.BinaryLog.{log_of}
 use Rattle.binary_log.specs.declared.Log.{Log}
@@ -12,7 +13,7 @@ use Rattle.power.specs.declared.FixedExponent.{FixedExponent}
 
 -- |y| in units of 2 ^ -56, rounded down, from the bits of y
 abbrev pub exponent_size : ℕ → ℕ
-exponent_size b = (b % 2 ^ 52 + 2 ^ 52) * 2048 / 2 ^ (1030 - b / 2 ^ 52 % 2048)
+exponent_size b = significand b * 2048 / 2 ^ (1030 - exponent_field b)
 
 -- an exponent; outside the domain 0
 unfoldable pub exponent_of : Float → FixedExponent

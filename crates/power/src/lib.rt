@@ -9,7 +9,7 @@ ghost use Rattle.power.specs.Power.{exponent_of, product_of, word_of, power_of, 
 
 use binary_log::{Log, base_inside, log_base};
 use exponential::raise_core;
-use fixed_point::{high_product, shift_right};
+use fixed_point::{exponent_field, high_product, shift_right, significand};
 use number::Refusal;
 
 // An exponent in fixed point: the size in units of 2^-56, whether it is below 0, and whether it is 1.
@@ -39,10 +39,9 @@ pub fn exponent(y: f64) -> FixedExponent
         };
     }
     let b = f64::to_bits(y);
-    let digits = (b % 0x10_0000_0000_0000 + 0x10_0000_0000_0000) * 2048;
-    let size = shift_right(digits, 1030 - b / 0x10_0000_0000_0000 % 2048);
+    let size = shift_right(significand(b) * 2048, 1030 - exponent_field(b));
     FixedExponent {
-        size: size,
+        size,
         negative: 0x8000_0000_0000_0000 <= b,
         one: b == 0x3ff0_0000_0000_0000,
     }

@@ -1,10 +1,11 @@
 -- `log_base` meets its contract. Assumes nothing.
-use mathlib.Core.Path.{refl, subst, sym}
+use mathlib.Core.Path.{ap, refl, subst, sym, ◌∙◌}
 use Prim.Native.Nat.{ℕ, ◌+◌, ◌-◌, ◌*◌, ◌/◌, ◌^◌, ◌≤◌, ◌<◌}
 use native.Mathlib.Omega.{arith}
 use mir.Facts.{Fits-bits}
 use lib.Dec.{T}
 use lib.Ieee.{binary64, to_bits}
+use Rattle.binary_log.specs.BinaryLog.{significand_log}
 use Rattle.binary_log.proofs.Base.{base_no_nan, base_bits, accepted, outside_is, up_is, down_is}
 use Rattle.binary_log.proofs.log_base.Goals as goal
 
@@ -39,10 +40,10 @@ overflow_mul-result-else-field-ge1023 c =
     Fits-bits 64 tt (five_down (to_bits binary64 a.args.x) i.0)
 
 pub returns-then-field-ge1023 : goal.returns-then-field-ge1023
-returns-then-field-ge1023 c = up_is _ _ c.base_inside.ensures _ _ refl c.significand_log-log.ensures.value c.if-not-base_inside.false c.if-field-ge1023.true
+returns-then-field-ge1023 c = up_is _ _ c.base_inside.ensures _ _ refl (c.significand_log-log.ensures.value ∙ ap significand_log c.significand.ensures) c.if-not-base_inside.false c.if-field-ge1023.true
 
 pub returns-else-field-ge1023 : goal.returns-else-field-ge1023
-returns-else-field-ge1023 c = down_is _ _ c.base_inside.ensures _ _ refl c.significand_log-log.ensures.value c.if-not-base_inside.false c.if-field-ge1023.false
+returns-else-field-ge1023 c = down_is _ _ c.base_inside.ensures _ _ refl (c.significand_log-log.ensures.value ∙ ap significand_log c.significand.ensures) c.if-not-base_inside.false c.if-field-ge1023.false
 
 pub returns-then-not-base_inside : goal.returns-then-not-base_inside
 returns-then-not-base_inside c = outside_is _ _ c.base_inside.ensures c.if-not-base_inside.true

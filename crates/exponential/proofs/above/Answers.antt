@@ -2,7 +2,6 @@
 use Prim.Native.Nat.{ℕ, ◌+◌, ◌-◌, ◌*◌, ◌/◌, ◌^◌, ◌≤◌, ◌<◌}
 use native.Mathlib.Nat.{le_of_lt}
 use native.Mathlib.Omega.{arith}
-use lib.Dec.{lit≤}
 use Rattle.exponential.proofs.LargePart.{above_part, above_is}
 use Rattle.exponential.proofs.above.Goals as goal
 
@@ -19,7 +18,7 @@ pub overflow_sub-significand : goal.overflow_sub-significand
 overflow_sub-significand c = le_of_lt (above_part c.args.w c.significand.result c.shift_right-one.result c.requires.0 c.significand.ensures c.shift_right-one.ensures)
 
 pub pack-requires : goal.pack-requires
-pack-requires c = (lit≤ tt, left (above_part c.args.w c.significand.result c.shift_right-one.result c.requires.0 c.significand.ensures c.shift_right-one.ensures), low c.args.w c.requires.0, high c.args.w c.requires.1)
+pack-requires c = (left (above_part c.args.w c.significand.result c.shift_right-one.result c.requires.0 c.significand.ensures c.shift_right-one.ensures), low c.args.w c.requires.0, high c.args.w c.requires.1)
 
 pub returns : goal.returns
 returns c = above_is _ _ _ _ c.significand.ensures c.shift_right-one.ensures c.pack.ensures

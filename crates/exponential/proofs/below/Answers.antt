@@ -13,7 +13,7 @@ pub overflow_sub-part : goal.overflow_sub-part
 overflow_sub-part c = le_of_lt (below_part c.args.w c.significand.result c.shift_right-part.result c.requires.1 c.significand.ensures c.shift_right-part.ensures)
 
 pub pack-requires : goal.pack-requires
-pack-requires c = (lit≤ tt, left (below_part c.args.w c.significand.result c.shift_right-part.result c.requires.1 c.significand.ensures c.shift_right-part.ensures), lit≤ tt, lit≤ tt)
+pack-requires c = (left (below_part c.args.w c.significand.result c.shift_right-part.result c.requires.1 c.significand.ensures c.shift_right-part.ensures), lit≤ tt, lit≤ tt)
 
 pub returns : goal.returns
 returns c = below_is _ _ _ _ c.significand.ensures c.shift_right-part.ensures c.pack.ensures

@@ -1,6 +1,5 @@
 use mathlib.Core.Path.{refl}
 use Rattle.fixed_point.specs.Quotient.{quotient}
-use Rattle.fixed_point.proofs.TwoDigits as Q
 use Rattle.fixed_point.proofs.quot.Goals as goal
 
 pub returns : goal.returns

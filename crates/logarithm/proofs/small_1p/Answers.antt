@@ -3,9 +3,10 @@ use mathlib.Core.Path.{sym, ap, ◌∙◌, subst}
 use Prim.Native.Nat.{ℕ, ◌+◌, ◌-◌, ◌*◌, ◌/◌, ◌^◌, ◌≤◌, ◌<◌}
 use native.Mathlib.Omega.{arith}
 use mir.Facts.{Fits-bits}
-use borrow.Author.Tests.{eq-eqb, ne_eqb}
+use Rattle.std.specs.Int.{from_bool}
 use Rattle.logarithm.specs.Logarithm.{join, small1p}
 use Rattle.logarithm.proofs.Ranges.{part_of_two, two_le, asked_1p, part_small}
+use Rattle.logarithm.proofs.Signs.{minus, plus}
 use Rattle.logarithm.proofs.small_1p.Goals as goal
 
 module _ (f m : ℕ) (least : 969 ≤ f) (most : f < 1021) (fit : m < 2 ^ 53) where
@@ -43,42 +44,42 @@ module _ (f m : ℕ) (least : 969 ≤ f) (most : f < 1021) (fit : m < 2 ^ 53) wh
       high v = omega arith
 
 pub overflow_sub-v : goal.overflow_sub-v
-overflow_sub-v c = omega (arith, v_lt c.args.f c.args.m c.requires.1 c.requires.2 c.requires.4)
+overflow_sub-v c = omega (arith, v_lt c.args.f c.args.m c.requires.0 c.requires.1 c.requires.3)
 
 pub core-r-requires : goal.core-r-requires
-core-r-requires c = asked_minus c.args.f c.args.m c.requires.1 c.requires.2 c.requires.4
+core-r-requires c = asked_minus c.args.f c.args.m c.requires.0 c.requires.1 c.requires.3
 
 pub join-requires : goal.join-requires
 join-requires c =
     let a = c.args in
     let p = c.requires in
-    let k = asked_minus a.f a.m p.1 p.2 p.4 in
-    (omega arith, p.0, k.4, subst (λ (x : ℕ). x / 2 ^ (1021 - a.f + 8) ≤ 2 ^ 53) (sym c.core-r.ensures) (part_small (a.m * 256) (9223372036854775808 - a.m * 256 / 2 ^ (1021 - a.f)) (1021 - a.f) k.0 k.1 k.2 k.3))
+    let k = asked_minus a.f a.m p.0 p.1 p.3 in
+    (omega arith, k.4, subst (λ (x : ℕ). x / 2 ^ (1021 - a.f + 8) ≤ 2 ^ 53) (sym c.core-r.ensures) (part_small (a.m * 256) (9223372036854775808 - a.m * 256 / 2 ^ (1021 - a.f)) (1021 - a.f) k.0 k.1 k.2 k.3))
 
-pub returns-then-s-eq1 : goal.returns-then-s-eq1
+pub returns-then-negative : goal.returns-then-negative
 unfolding small1p
-returns-then-s-eq1 c =
+returns-then-negative c =
     let a = c.args in
-    rw (eq-eqb _ _ c.if-s-eq1.true) (c.join.ensures ∙ ap (λ (x : ℕ). join 1023 a.s x (1021 - a.f)) c.core-r.ensures)
+    rw (minus _ c.if-negative.true) (c.join.ensures ∙ ap (λ (x : ℕ). join 1023 (from_bool a.negative) x (1021 - a.f)) c.core-r.ensures)
 
 pub overflow_add-v : goal.overflow_add-v
-overflow_add-v c = Fits-bits 64 tt (fit (v_lt c.args.f c.args.m c.requires.1 c.requires.2 c.requires.4))
+overflow_add-v c = Fits-bits 64 tt (fit (v_lt c.args.f c.args.m c.requires.0 c.requires.1 c.requires.3))
   where
     fit : {v : ℕ} → v < 2 ^ 60 → 9223372036854775808 + v < 2 ^ 64
     fit h = omega arith
 
 pub core-r-requires-2 : goal.core-r-requires-2
-core-r-requires-2 c = asked_plus c.args.f c.args.m c.requires.1 c.requires.2 c.requires.4
+core-r-requires-2 c = asked_plus c.args.f c.args.m c.requires.0 c.requires.1 c.requires.3
 
 pub join-requires-2 : goal.join-requires-2
 join-requires-2 c =
     let a = c.args in
     let p = c.requires in
-    let k = asked_plus a.f a.m p.1 p.2 p.4 in
-    (omega arith, p.0, k.4, subst (λ (x : ℕ). x / 2 ^ (1021 - a.f + 8) ≤ 2 ^ 53) (sym c.core-r-2.ensures) (part_small (a.m * 256) (9223372036854775808 + a.m * 256 / 2 ^ (1021 - a.f)) (1021 - a.f) k.0 k.1 k.2 k.3))
+    let k = asked_plus a.f a.m p.0 p.1 p.3 in
+    (omega arith, k.4, subst (λ (x : ℕ). x / 2 ^ (1021 - a.f + 8) ≤ 2 ^ 53) (sym c.core-r-2.ensures) (part_small (a.m * 256) (9223372036854775808 + a.m * 256 / 2 ^ (1021 - a.f)) (1021 - a.f) k.0 k.1 k.2 k.3))
 
 pub returns : goal.returns
 unfolding small1p
 returns c =
     let a = c.args in
-    rw (ne_eqb _ _ c.if-s-eq1.false) (c.join-2.ensures ∙ ap (λ (x : ℕ). join 1023 a.s x (1021 - a.f)) c.core-r-2.ensures)
+    rw (plus _ c.if-negative.false) (c.join-2.ensures ∙ ap (λ (x : ℕ). join 1023 (from_bool a.negative) x (1021 - a.f)) c.core-r-2.ensures)

@@ -1,12 +1,17 @@
 -- `logarithm::value_1p` meets its contract. Assumes nothing.
+use mathlib.Core.Path.{subst}
+use Prim.Native.Nat.{ℕ, ◌≤◌}
 use borrow.Author.Tests.{lt-ltb, le-ltb}
 use Rattle.logarithm.specs.Logarithm.{value1p}
 use Rattle.logarithm.proofs.value_1p.Goals as goal
 
-pub returns-then-b-lt969 : goal.returns-then-b-lt969
+pub returns-then-exponent_field-lt969 : goal.returns-then-exponent_field-lt969
 unfolding value1p
-returns-then-b-lt969 c = rw (lt-ltb _ _ c.if-b-lt969.true)
+returns-then-exponent_field-lt969 c = rw (← c.exponent_field.ensures, lt-ltb _ _ c.if-exponent_field-lt969.true)
+
+pub bits_1p-requires : goal.bits_1p-requires
+bits_1p-requires c = (subst (λ (x : ℕ). 969 ≤ x) c.exponent_field.ensures c.if-exponent_field-lt969.false, c.requires.1)
 
 pub returns : goal.returns
 unfolding value1p
-returns c = rw (le-ltb _ _ c.if-b-lt969.false) c.bits_1p.ensures
+returns c = rw (← c.exponent_field.ensures, le-ltb _ _ c.if-exponent_field-lt969.false) c.bits_1p.ensures
