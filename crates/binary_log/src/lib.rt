@@ -8,7 +8,7 @@ ghost use Rattle.number.specs.Domain.{base_inside};
 ghost use Rattle.binary_log.specs.Tables.{log_factors, logs};
 ghost use Rattle.binary_log.specs.BinaryLog.{eight_terms, significand_log, log_of};
 
-use fixed_point::{high_product, significand, term_step};
+use fixed_point::{high_product, polynomial_at, significand};
 
 // A base with its binary logarithm: the size in units of 2^-61, and whether it is below 0.
 #[derive(Clone, Copy)]
@@ -176,18 +176,24 @@ fn log_table(j: u64) -> u64
     LOGS[j as usize]
 }
 
+// The terms of - log2 (1 - r) with r, r^3 .. and with r^2, r^4 .. .
+static ODD_TERMS: [u64; 4] = [
+    13306513097844322491,
+    1082886808092799,
+    158625997279,
+    27662178,
+];
+
+static EVEN_TERMS: [u64; 4] = [103957133576908769, 12690079782337, 2065442672, 378193];
+
 // - log2 (1 - r) in units of 2^-61 by eight terms, d = r 2^70.
 fn eight_terms(d: u64) -> u64
     ensures { result ≡ eight_terms d }
 {
     let q = high_product(d, d);
-    let odd2 = term_step(158625997279, 27662178, q);
-    let even2 = term_step(2065442672, 378193, q);
-    let odd1 = term_step(1082886808092799, odd2, q);
-    let even1 = term_step(12690079782337, even2, q);
-    let odd0 = term_step(13306513097844322491, odd1, q);
-    let even0 = term_step(103957133576908769, even1, q);
-    high_product(d, term_step(odd0, even0, d)) / 256
+    let odd = polynomial_at(&ODD_TERMS, q);
+    let even = polynomial_at(&EVEN_TERMS, q);
+    high_product(d, odd + high_product(d, even)) / 256
 }
 
 // The binary logarithm of m / 2^52 in units of 2^-61.

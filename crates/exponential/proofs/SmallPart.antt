@@ -49,12 +49,6 @@ half_most s a h k = go (s * a / 2 ^ 64) (div-le_of_le-mul (2 ^ 64) (le_trans (mu
     go x h = omega arith
 
 -- ---- as the program has it
-pub first_last : (q : ℕ) → 236438980436951066 + q / 32768 ≡ 236438980436951066 + 562949953421312 * q / 2 ^ 64
-first_last q = omega arith
-
-pub second_last : (q : ℕ) → 945755921747804265 + 15 * q / 32768 ≡ 945755921747804265 + 8444249301319680 * q / 2 ^ 64
-second_last q = omega arith
-
 module _ (s q a c x : ℕ) (S : s ≤ 2 ^ 62) (Q : q ≤ 2 ^ 60) (A : a ≤ 2 ^ 63) (c_is : c ≡ horner under_terms q) (x_is : x ≡ s * a / 2 ^ 64) where
   c_lo : 15120 * 2 ^ 49 ≤ c
   c_lo = subst (λ (z : ℕ). 15120 * 2 ^ 49 ≤ z) (sym c_is) (under_least q)

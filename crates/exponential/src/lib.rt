@@ -8,14 +8,13 @@ ghost use Rattle.std.specs.Prelude.{◌≡◌, ◌+◌, ◌-◌, ◌*◌, ◌/�
 ghost use Rattle.number.specs.Answer.{answer};
 ghost use Rattle.number.specs.Domain.{exp_inside, tanh_inside};
 ghost use Rattle.fixed_point.specs.Fields.{exponent_field};
-ghost use Rattle.fixed_point.specs.Horner.{horner};
-ghost use Rattle.exponential.specs.Powers.{powers, terms};
+ghost use Rattle.exponential.specs.Powers.{powers};
 ghost use Rattle.exponential.specs.Raise.{significand_of, raise_of};
 ghost use Rattle.exponential.specs.Exp.{binary_of, exponent_at, binary_exponent_of, exp_of};
-ghost use Rattle.exponential.specs.ExpM1.{over_terms, under_of, small_of, below_of, above_of, away_of, exp_m1_of};
+ghost use Rattle.exponential.specs.ExpM1.{under_of, small_of, below_of, above_of, away_of, exp_m1_of};
 ghost use Rattle.exponential.specs.Tanh.{tanh_ratio_of, tanh_of};
 
-use fixed_point::{exponent_field, high_product, pack, shift_right, step, term_step};
+use fixed_point::{exponent_field, high_product, pack, polynomial_at, shift_right};
 use number::Refusal;
 
 // 2^(63 + j/128), rounded down.
@@ -157,16 +156,14 @@ fn power_table(j: u64) -> u64
     POWERS[j as usize]
 }
 
-// 128 (2^(f/128) - 1) / f in units of 2^-64, f = d / 2^64: five terms.
-fn series(d: u64) -> u64
-    ensures value { result ≡ horner terms d }
-    ensures small { result ≤ 12820991510198240000 }
-{
-    let h3 = term_step(84601958330, 91627513, d);
-    let h2 = term_step(62492070775105, h3, d);
-    let h1 = term_step(34620288231216698, h2, d);
-    term_step(12786308645202655659, h1, d)
-}
+// The terms of 128 (2^(f/128) - 1) / f in units of 2^-64.
+static TERMS: [u64; 5] = [
+    12786308645202655659,
+    34620288231216698,
+    62492070775105,
+    84601958330,
+    91627513,
+];
 
 // 2 to the fraction of w, in units of 2^-63.
 fn significand(w: u64) -> u64
@@ -174,7 +171,7 @@ fn significand(w: u64) -> u64
 {
     let power = power_table(w / 0x4000_0000_0000 % 128);
     let low = w % 0x4000_0000_0000 * 0x4_0000;
-    let rest = high_product(low, series(low));
+    let rest = high_product(low, polynomial_at(&TERMS, low));
     power + high_product(power, rest) / 128
 }
 
@@ -230,20 +227,17 @@ pub fn exp(x: f64) -> Result<f64, Refusal>
     }
 }
 
-// a = 15120 + 420 z + z^2, z = q / 2^64. The coefficients' unit is no power of two: where LLVM knows that low digits are 0, it makes four products of a high product.
-fn over(q: u64) -> u64
-    requires { q ≤ 2 ^ 60 }
-    ensures { result ≡ horner over_terms q }
-{
-    step(8511803295730238385, 236438980436951066 + q / 0x8000, q)
-}
+// a = 15120 + 420 z + z^2 and c = 15120 + 1680 z + 15 z^2 of Padé's fraction, with 2^49 + 1/16 for 1: were it a power of two, LLVM would know that low digits are 0, and make four products of a high product.
+static OVER_TERMS: [u64; 3] = [8511803295730238385, 236438980436951066, 562949953421312];
 
-// c - x a / 2 with c = 15120 + 1680 z + 15 z^2, |x| = s / 2^64.
+static UNDER_TERMS: [u64; 3] = [8511803295730238385, 945755921747804265, 8444249301319680];
+
+// c - x a / 2, |x| = s / 2^64 and z = q / 2^64.
 fn under(negative: bool, s: u64, q: u64, a: u64) -> u64
     requires { (s ≤ 2 ^ 62) × (q ≤ 2 ^ 60) × (a ≤ 2 ^ 63) }
     ensures { result ≡ under_of negative s q a }
 {
-    let c = step(8511803295730238385, 945755921747804265 + 15 * q / 0x8000, q);
+    let c = polynomial_at(&UNDER_TERMS, q);
     let half = high_product(s, a) / 2;
     if negative { c + half } else { c - half }
 }
@@ -256,7 +250,7 @@ fn small(x: f64, b: u64) -> f64
     let digits = fixed_point::significand(b) * 2048;
     let s = shift_right(digits, 1022u64.saturating_sub(exponent_field(b)));
     let q = high_product(s, s);
-    let a = over(q);
+    let a = polynomial_at(&OVER_TERMS, q);
     let d = under(0x8000_0000_0000_0000 <= b, s, q, a);
     let y = (a / 2048) as f64;
     let z = (d / 2048) as f64;

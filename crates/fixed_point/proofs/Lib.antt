@@ -2,7 +2,6 @@ pub mod Polynomial
 pub mod Powers
 pub mod Horner
 pub mod HornerTwo
-pub mod Chain
 pub mod Mean
 pub mod TwoDigits
 pub mod Patterns64
@@ -10,3 +9,4 @@ pub mod Packed
 pub mod Decode
 pub mod Table
 pub mod Bernstein
+pub mod Run

@@ -1,10 +1,11 @@
 // Fixed point in u64, for the elementary functions: products, quotients, Horner's rule, and the way back to f64. Each result is rounded down, so an error is at most one unit a step and has one sign.
 #![tactic(auto)]
 
-ghost use Rattle.std.specs.Prelude.{◌≡◌, ◌+◌, ◌*◌, ◌/◌, ◌^◌, ◌≤◌, ◌<◌};
+ghost use Rattle.std.specs.Prelude.{ℕ, drop, ◌≡◌, ◌+◌, ◌*◌, ◌/◌, ◌^◌, ◌≤◌, ◌<◌};
 ghost use Rattle.std.specs.Int.{from_bool};
 ghost use Rattle.std.specs.Int.Count.{count_leading_zeros};
 ghost use Rattle.fixed_point.specs.Fields.{exponent_field, significand};
+ghost use Rattle.fixed_point.specs.Horner.{horner};
 ghost use Rattle.fixed_point.specs.Quotient.{quotient};
 ghost use Rattle.fixed_point.specs.Pack.{packed};
 
@@ -16,21 +17,16 @@ pub fn high_product(u: u64, v: u64) -> u64
     ((u128::from(u) * u128::from(v)) >> 64) as u64
 }
 
-// One step of Horner's rule. The sum fits because c and q are small.
-pub fn step(c: u64, h: u64, q: u64) -> u64
-    requires { (c ≤ 2 ^ 63) × (q ≤ 2 ^ 61) }
-    ensures { result ≡ c + h * q / 2 ^ 64 }
+// The polynomial c₀ + q (c₁ + q (c₂ + ..)), q in units of 2^-64, by Horner's rule: from the last coefficient on. Each sum on the way fits.
+pub fn polynomial_at(coefficients: &[u64], q: u64) -> u64
+    requires { (i : ℕ) → horner (drop i coefficients.now) q < 2 ^ 64 }
+    ensures { result ≡ horner coefficients.now q }
 {
-    c + high_product(h, q)
-}
-
-// One step of Horner's rule at any q. The sum fits because c and h are small.
-pub fn term_step(c: u64, h: u64, q: u64) -> u64
-    requires { c + h < 2 ^ 64 }
-    ensures value { result ≡ c + h * q / 2 ^ 64 }
-    ensures small { result ≤ c + h }
-{
-    c + high_product(q, h)
+    let mut sum = 0;
+    for c in coefficients.iter().rev() {
+        sum = *c + high_product(sum, q);
+    }
+    sum
 }
 
 // The quotient n / d in units of 2^-64, from below, off by at most 17 units (7 for d from 5/3 * 2^62 on). No difference wraps for such n and d.

@@ -1,18 +1,38 @@
--- `eight_terms` meets its contract: two chains of Horner's rule, and a product. Assumes nothing.
-use mathlib.Core.Path.{◌≡◌, ap, ◌∙◌}
-use Prim.Native.Nat.{ℕ, ◌+◌, ◌*◌, ◌/◌, ◌^◌}
+-- `eight_terms` meets its contract: two polynomials, and a product. Assumes nothing.
+use mathlib.Core.Path.{◌≡◌, ap, subst, sym, ◌∙◌}
+use Prim.Native.Nat.{ℕ, ◌+◌, ◌*◌, ◌/◌, ◌^◌, ◌≤◌, ◌<◌}
+use native.Mathlib.Nat.{le_of_lt, le_trans, mul_comm, lt_of_le_of_lt, add-le-add}
+use lib.Dec.{lit<, lit≤}
+use mir.Facts.{Fits-bits}
 use Rattle.fixed_point.specs.Horner.{horner}
-use Rattle.fixed_point.proofs.Chain.{on, last}
+use Rattle.fixed_point.proofs.Run.{total, under_total, total_fit}
 use Rattle.binary_log.specs.Tables.{odd_terms, even_terms}
 use Rattle.binary_log.proofs.eight_terms.Goals as goal
 
+pub polynomial_at-odd-requires : goal.polynomial_at-odd-requires
+polynomial_at-odd-requires c = total_fit odd_terms c.high_product-q.result (total odd_terms) (le_of_lt c.high_product-q.type_inv) (lit≤ tt) (lit< tt)
+
+pub polynomial_at-even-requires : goal.polynomial_at-even-requires
+polynomial_at-even-requires c = total_fit even_terms c.high_product-q.result (total even_terms) (le_of_lt c.high_product-q.type_inv) (lit≤ tt) (lit< tt)
+
+-- the second product is at most the even terms' sum
+sum : (x y p : ℕ) → x ≤ total odd_terms → p ≤ y → y ≤ total even_terms → x + p < 2 ^ 64
+sum x y p h k l = lt_of_le_of_lt (add-le-add h (le_trans k l)) (lit< tt)
+
+pub overflow_add-odd : goal.overflow_add-odd
+overflow_add-odd c =
+    let q = c.high_product-q.result in
+    let h = le_of_lt c.high_product-q.type_inv in
+    let odd = subst (λ (x : ℕ). x ≤ total odd_terms) (sym c.polynomial_at-odd.ensures) (under_total odd_terms q h) in
+    let even = subst (λ (x : ℕ). x ≤ total even_terms) (sym c.polynomial_at-even.ensures) (under_total even_terms q h) in
+    Fits-bits 64 tt (sum c.polynomial_at-odd.result c.polynomial_at-even.result c.high_product.result odd c.high_product.ensures.small even)
+
 pub returns : goal.returns
-unfolding horner
 returns c =
     let d = c.args.d in
-    let q = c.high_product-q.result in
-    let odd : c.term_step-odd0.result ≡ horner odd_terms q = on 13306513097844322491 q c.term_step-odd0.ensures.value (on 1082886808092799 q c.term_step-odd1.ensures.value (on 158625997279 q c.term_step-odd2.ensures.value (last 27662178 q))) in
-    let even : c.term_step-even0.result ≡ horner even_terms q = on 103957133576908769 q c.term_step-even0.ensures.value (on 12690079782337 q c.term_step-even1.ensures.value (on 2065442672 q c.term_step-even2.ensures.value (last 378193 q))) in
-    ap (λ (x : ℕ). x / 256) (c.high_product.ensures.value
-    ∙ ap (λ (x : ℕ). d * x / 2 ^ 64) (c.term_step.ensures.value ∙ ap (λ (x : ℕ). x + c.term_step-even0.result * d / 2 ^ 64) odd ∙ ap (λ (x : ℕ). horner odd_terms q + x * d / 2 ^ 64) even
-    ∙ ap (λ (x : ℕ). horner odd_terms x + horner even_terms x * d / 2 ^ 64) c.high_product-q.ensures.value))
+    let even = horner even_terms c.high_product-q.result in
+    let worked = ap (λ (x : ℕ). d * x / 2 ^ 64) c.polynomial_at-even.ensures ∙ ap (λ (x : ℕ). x / 2 ^ 64) (mul_comm d even) in
+    ap (λ (x : ℕ). x / 256) (c.high_product-2.ensures.value
+    ∙ ap (λ (x : ℕ). d * (c.polynomial_at-odd.result + x) / 2 ^ 64) (c.high_product.ensures.value ∙ worked)
+    ∙ ap (λ (x : ℕ). d * (x + even * d / 2 ^ 64) / 2 ^ 64) c.polynomial_at-odd.ensures
+    ∙ ap (λ (x : ℕ). d * (horner odd_terms x + horner even_terms x * d / 2 ^ 64) / 2 ^ 64) c.high_product-q.ensures.value)
