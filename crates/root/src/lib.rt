@@ -77,8 +77,7 @@ fn nearest_root(m: u64, e: u64) -> f64
     requires { (0 < m) × (m < 2 ^ 53) × (e ≤ 2045) }
     ensures { result ≡ positive_root (m * 2 ^ e) }
 {
-    // By u64::from three goals of the proof stay open, which reads the count where it stands.
-    let l = u64::leading_zeros(m) as u64;
+    let l = u64::from(u64::leading_zeros(m));
     let f = 1033 + e - l;
     let a = m << (l - 1 + f % 2);
     let r = whole_root(a);
