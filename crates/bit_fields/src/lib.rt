@@ -64,7 +64,7 @@ fn lowest(x: u64, n: usize) -> u64
     requires { n < 64 }
     ensures { result ≡ x % 2 ^ n }
 {
-    x - ((x >> n) << n)
+    x % (1 << n)
 }
 
 // The n lowest digits of v in a byte, in place of its bits from s on.
