@@ -1,8 +1,8 @@
 -- Horner's rule along a list, from its last entry on. Assumes nothing.
-use mathlib.Core.Path.{◌≡◌, refl, sym, ap, ◌∙◌, subst}
+use mathlib.Core.Path.{◌≡◌, ap, ◌∙◌, subst}
 use mathlib.Core.List.{List, [], ◌∷◌, ◌++◌}
 use Prim.Native.Nat.{ℕ, zero, suc, ◌+◌, ◌*◌, ◌/◌, ◌^◌, ◌<◌, ◌≤◌}
-use native.Mathlib.Nat.{le_refl, le_trans, le_of_eq, le_of_lt, lt_of_le_of_lt, add-le-add, mul_comm, mul-le-mul_left, mul-le-mul_right, div-le_of_le-mul}
+use native.Mathlib.Nat.{le_refl, le_trans, le_of_eq, le_of_lt, lt_of_le_of_lt, add-le-add, mul_comm, mul-le-mul_left, div-le_of_le-mul}
 use native.Mathlib.Omega.{arith}
 use lib.Dec.{T, leb, leb→le, lit<, lit≤}
 use lib.ListN.{length, drop}
@@ -21,13 +21,6 @@ worked read x s p q h e = ap (λ (y : ℕ). x + y) (e ∙ ap (λ (y : ℕ). y * 
 
 pub last_fits : (cs rest read : List ℕ) (q : ℕ) → cs ≡ rest ++ read → ((i : ℕ) → horner (drop i cs) q < 2 ^ 64) → horner read q < 2 ^ 64
 last_fits cs rest read q h f = subst (λ (l : List ℕ). horner l q < 2 ^ 64) (ap (drop (length rest)) h ∙ drop-append_seam rest read) (f (length rest))
-
-pub all_read : (cs rest read : List ℕ) → cs ≡ rest ++ read → length rest ≡ 0 → cs ≡ read
-all_read cs [] read h e = h
-all_read cs (x ∷ xs) read h e = absurd (no (length xs) e)
-  where
-    no : (n : ℕ) → suc n ≡ 0 → ⊥
-    no n e = omega arith
 
 -- ---- what is worked fits into 64 bits: for coefficients of at most 2 ^ 63 and a small q
 pub small_fit : (cs : List ℕ) (q : ℕ) → q ≤ 2 ^ 61 → T (smallb cs) → (i : ℕ) → horner (drop i cs) q < 2 ^ 64

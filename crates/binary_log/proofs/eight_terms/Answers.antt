@@ -1,10 +1,9 @@
 -- `eight_terms` meets its contract: two polynomials, and a product. Assumes nothing.
-use mathlib.Core.Path.{◌≡◌, ap, subst, sym, ◌∙◌}
-use Prim.Native.Nat.{ℕ, ◌+◌, ◌*◌, ◌/◌, ◌^◌, ◌≤◌, ◌<◌}
-use native.Mathlib.Nat.{le_of_lt, le_trans, mul_comm, lt_of_le_of_lt, add-le-add}
+use mathlib.Core.Path.{subst, sym}
+use Prim.Native.Nat.{ℕ, ◌+◌, ◌^◌, ◌≤◌, ◌<◌}
+use native.Mathlib.Nat.{le_of_lt, le_trans, lt_of_le_of_lt, add-le-add}
 use lib.Dec.{lit<, lit≤}
 use mir.Facts.{Fits-bits}
-use Rattle.fixed_point.specs.Horner.{horner}
 use Rattle.fixed_point.proofs.Run.{total, under_total, total_fit}
 use Rattle.binary_log.specs.Tables.{odd_terms, even_terms}
 use Rattle.binary_log.proofs.eight_terms.Goals as goal
@@ -26,13 +25,3 @@ overflow_add-odd c =
     let odd = subst (λ (x : ℕ). x ≤ total odd_terms) (sym c.polynomial_at-odd.ensures) (under_total odd_terms q h) in
     let even = subst (λ (x : ℕ). x ≤ total even_terms) (sym c.polynomial_at-even.ensures) (under_total even_terms q h) in
     Fits-bits 64 tt (sum c.polynomial_at-odd.result c.polynomial_at-even.result c.high_product.result odd c.high_product.ensures.small even)
-
-pub returns : goal.returns
-returns c =
-    let d = c.args.d in
-    let even = horner even_terms c.high_product-q.result in
-    let worked = ap (λ (x : ℕ). d * x / 2 ^ 64) c.polynomial_at-even.ensures ∙ ap (λ (x : ℕ). x / 2 ^ 64) (mul_comm d even) in
-    ap (λ (x : ℕ). x / 256) (c.high_product-2.ensures.value
-    ∙ ap (λ (x : ℕ). d * (c.polynomial_at-odd.result + x) / 2 ^ 64) (c.high_product.ensures.value ∙ worked)
-    ∙ ap (λ (x : ℕ). d * (x + even * d / 2 ^ 64) / 2 ^ 64) c.polynomial_at-odd.ensures
-    ∙ ap (λ (x : ℕ). d * (horner odd_terms x + horner even_terms x * d / 2 ^ 64) / 2 ^ 64) c.high_product-q.ensures.value)

@@ -1,11 +1,11 @@
-use mathlib.Core.Path.{◌≡◌, refl, sym, ap, ◌∙◌, subst}
-use mathlib.Core.List.{List, [], ◌∷◌, ◌++◌}
-use Prim.Native.Nat.{ℕ, ◌+◌, ◌*◌, ◌/◌, ◌^◌, ◌<◌}
+use mathlib.Core.Path.{refl, sym, ◌∙◌, subst}
+use mathlib.Core.List.{[], ◌∷◌}
+use Prim.Native.Nat.{ℕ, ◌^◌, ◌<◌}
 use mir.Facts.{Fits-bits}
 use borrow.Author.Rules.{rules}
 use Rattle.std.proofs.lemmas.List.{append-nil}
 use Rattle.fixed_point.specs.Horner.{horner}
-use Rattle.fixed_point.proofs.Run.{next_read, worked, last_fits, all_read}
+use Rattle.fixed_point.proofs.Run.{next_read, worked, last_fits}
 use Rattle.fixed_point.proofs.polynomial_at.Goals as goal
 
 pub loop-c-init : goal.loop-c-init
@@ -23,8 +23,3 @@ loop-c-preserved c =
     let i = c.loop-c.invariant in
     let x = c.in-Some.c.now in
     (x ∷ i.0, next_read _ _ _ i.0 x i.1 c.in-Some.ensures.steps, worked i.0 x _ _ c.args.q i.2 c.high_product.ensures.value)
-
-pub returns : goal.returns
-returns c =
-    let i = c.loop-c.invariant in
-    i.2 ∙ ap (λ (l : List ℕ). horner l c.args.q) (sym (all_read _ _ i.0 i.1 c.in-None.ensures.steps.0))

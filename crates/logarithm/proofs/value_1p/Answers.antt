@@ -1,6 +1,4 @@
 -- `logarithm::value_1p` meets its contract. Assumes nothing.
-use mathlib.Core.Path.{subst}
-use Prim.Native.Nat.{ℕ, ◌≤◌}
 use borrow.Author.Tests.{lt-ltb, le-ltb}
 use Rattle.logarithm.specs.Logarithm.{value1p}
 use Rattle.logarithm.proofs.value_1p.Goals as goal
@@ -8,9 +6,6 @@ use Rattle.logarithm.proofs.value_1p.Goals as goal
 pub returns-then-exponent_field-lt969 : goal.returns-then-exponent_field-lt969
 unfolding value1p
 returns-then-exponent_field-lt969 c = rw (← c.exponent_field.ensures, lt-ltb _ _ c.if-exponent_field-lt969.true)
-
-pub bits_1p-requires : goal.bits_1p-requires
-bits_1p-requires c = (subst (λ (x : ℕ). 969 ≤ x) c.exponent_field.ensures c.if-exponent_field-lt969.false, c.requires.1)
 
 pub returns : goal.returns
 unfolding value1p
