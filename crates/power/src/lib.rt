@@ -52,12 +52,7 @@ fn product(log: u64, exponent: u64) -> u64
     ensures value { result ≡ product_of log exponent }
     ensures small { result ≤ 1022 * 2 ^ 53 }
 {
-    let v = high_product(exponent, log);
-    if v < 0x7fc0_0000_0000_0000 {
-        v
-    } else {
-        0x7fc0_0000_0000_0000
-    }
+    high_product(exponent, log).min(0x7fc0_0000_0000_0000)
 }
 
 // The product plus 1023, as the core takes it.
