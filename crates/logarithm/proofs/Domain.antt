@@ -12,6 +12,7 @@ use lib.Ieee.Positive.{positive_of_value}
 use lib.Ieee.{Float, nan, inf, fin, up, down, binary64, of_bits, to_bits, fits, is_nan, neg, lt, le}
 use lib.Ieee.Exact.{HasValue}
 use Rattle.number.specs.Ans.{held, refused}
+use Rattle.number.specs.Domain.{ln_inside}
 use Rattle.fixed_point.proofs.Patterns64.{sign_bit, val, val_mono, bits_is}
 use Rattle.fixed_point.proofs.Decode.{large_is, sign_of, bits_to}
 use Rattle.logarithm.specs.Logarithm.{ln_bits, ln_of, value1p, ln1p_of}
@@ -26,18 +27,15 @@ no_nan x a h = go x (subst T (sym h) tt)
     go (inf s) t = tt
     go (fin s m e) t = tt
 
-module _ (x : Float) where
-  pub ln_below : le (of_bits binary64 0x0010_0000_0000_0000) x ≡ false → refused 6 ≡ ln_of x
+-- t is the test's answer
+module _ (x : Float) (t : Bool) (is : t ≡ ln_inside x) where
+  pub ln_outside : t ≡ false → refused 6 ≡ ln_of x
   unfolding ln_of
-  ln_below p = rw p
+  ln_outside h = rw (← is, h)
 
-  pub ln_above : le (of_bits binary64 0x0010_0000_0000_0000) x ≡ true → le x (of_bits binary64 0x7fef_ffff_ffff_ffff) ≡ false → refused 6 ≡ ln_of x
+  pub ln_value : (v : Float) → t ≡ true → v ≡ ln_bits (to_bits binary64 x) → held v ≡ ln_of x
   unfolding ln_of
-  ln_above p q = rw (p, q)
-
-  pub ln_inside : (v : Float) → le (of_bits binary64 0x0010_0000_0000_0000) x ≡ true → le x (of_bits binary64 0x7fef_ffff_ffff_ffff) ≡ true → v ≡ ln_bits (to_bits binary64 x) → held v ≡ ln_of x
-  unfolding ln_of
-  ln_inside v p q e = rw (p, q, e)
+  ln_value v h e = rw (← is, h, e)
 
 -- ---- `ln_1p`
 module _ (x : Float) where

@@ -1,12 +1,9 @@
 -- `logarithm::ln` meets its contract. Assumes nothing.
-use Rattle.logarithm.proofs.Domain.{ln_below, ln_above, ln_inside}
+use Rattle.logarithm.proofs.Domain.{ln_outside, ln_value}
 use Rattle.logarithm.proofs.ln.Goals as goal
 
-pub returns-then-not-x : goal.returns-then-not-x
-returns-then-not-x c = ln_below _ c.if-not-x.true
-
-pub returns-then-not-x-2 : goal.returns-then-not-x-2
-returns-then-not-x-2 c = ln_above _ c.if-not-x.false c.if-not-x-2.true
+pub returns-then-not-within : goal.returns-then-not-within
+returns-then-not-within c = ln_outside _ _ c.within.ensures c.if-not-within.true
 
 pub returns : goal.returns
-returns c = ln_inside _ _ c.if-not-x.false c.if-not-x-2.false c.ln_bits.ensures
+returns c = ln_value _ _ c.within.ensures _ c.if-not-within.false c.ln_bits.ensures
