@@ -1,10 +1,9 @@
--- The ways of the product, of the word for the core, of the power and of `powf`. Assumes nothing.
+-- The ways of the word for the core, of the power and of `powf`. Assumes nothing.
 use mathlib.Core.Path.{◌≡◌, sym, ap, ◌∙◌}
 use mathlib.Core.Bool.{Bool, true, false, cond, beq}
-use Prim.Native.Nat.{ℕ, ◌+◌, ◌-◌, ◌*◌, ◌/◌, ◌^◌, ◌≤◌, ◌<◌}
+use Prim.Native.Nat.{ℕ, ◌+◌, ◌-◌, ◌*◌, ◌^◌, ◌≤◌, ◌<◌}
 use native.Mathlib.Omega.{arith}
 use lib.Ieee.{Float}
-use borrow.Author.Tests.{lt-ltb, le-ltb}
 use Rattle.number.specs.Ans.{held, refused, ◌>>=◌, demand}
 use Rattle.number.specs.Domain.{base_inside, exponent_inside}
 use Rattle.exponential.specs.Raise.{raise_of}
@@ -12,14 +11,6 @@ use Rattle.binary_log.specs.BinaryLog.{log_of}
 use Rattle.binary_log.specs.declared.Log.{Log}
 use Rattle.power.specs.Power.{exponent_of, product_of, word_of, power_of, powf_of}
 use Rattle.power.specs.declared.FixedExponent.{FixedExponent}
-
--- ---- the product
-module _ (l y v : ℕ) (is : v ≡ y * l / 2 ^ 64) where
-  pub product_is : v < 1022 * 2 ^ 53 → v ≡ product_of l y
-  product_is h = rw (← is, lt-ltb v (1022 * 2 ^ 53) h)
-
-  pub limit_is : 1022 * 2 ^ 53 ≤ v → 1022 * 2 ^ 53 ≡ product_of l y
-  limit_is h = rw (← is, le-ltb v (1022 * 2 ^ 53) h)
 
 -- ---- the word
 pub sum_range : (v : ℕ) → v ≤ 1022 * 2 ^ 53 → (2 ^ 53 ≤ 1023 * 2 ^ 53 + v) × (1023 * 2 ^ 53 + v < 2046 * 2 ^ 53)
