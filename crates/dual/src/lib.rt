@@ -36,7 +36,7 @@ impl Dual {
         let below = number::pow_up(self.re, u32::from(n) - 1);
         Dual {
             re: number::pow_up(self.re, u32::from(n)),
-            eps: (n as f64) * below * self.eps,
+            eps: f64::from(n) * below * self.eps,
         }
     }
 
@@ -53,7 +53,7 @@ impl Dual {
         let beyond = number::pow_down(self.re, u32::from(n) + 1);
         Dual {
             re: number::pow_down(self.re, u32::from(n)),
-            eps: -(n as f64) * beyond * self.eps,
+            eps: -f64::from(n) * beyond * self.eps,
         }
     }
 }

@@ -51,7 +51,7 @@ impl EnclosureDual {
             };
         }
         let below = self.re.pow_up(u32::from(n) - 1);
-        let factor = Enclosure::point(n as f64) * below;
+        let factor = Enclosure::point(f64::from(n)) * below;
         EnclosureDual {
             re: self.re.pow_up(u32::from(n)),
             eps: factor * self.eps,
@@ -69,7 +69,7 @@ impl EnclosureDual {
             };
         }
         let beyond = self.re.pow_down(u32::from(n) + 1);
-        let factor = Enclosure::point(-(n as f64)) * beyond;
+        let factor = Enclosure::point(-f64::from(n)) * beyond;
         EnclosureDual {
             re: self.re.pow_down(u32::from(n)),
             eps: factor * self.eps,

@@ -13,4 +13,4 @@ returns-then-n-eq0 c = pow_zero floats _ _ _ _ c.if-n-eq0.true c.pow_up.ensures 
 pub returns : goal.returns
 unfolding dual_of
 returns c =
-    pow_above floats _ _ _ _ _ c.if-n-eq0.false (c.pow_up-2.ensures ∙ ap (floats.pow c.args.self.re) c.from-2.ensures) (c.pow_up-below.ensures ∙ ap (λ (k : ℕ). floats.pow c.args.self.re (k - 1)) c.from.ensures) refl
+    pow_above floats _ _ _ _ _ c.if-n-eq0.false (c.pow_up-2.ensures ∙ ap (floats.pow c.args.self.re) c.from-2.ensures) (c.pow_up-below.ensures ∙ ap (λ (k : ℕ). floats.pow c.args.self.re (k - 1)) c.from.ensures) c.from-3.ensures
