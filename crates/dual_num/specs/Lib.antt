@@ -1,3 +1,4 @@
 pub mod Base
+pub mod Constants
 pub mod Laws
 pub mod Way

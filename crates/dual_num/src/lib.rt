@@ -6,7 +6,7 @@ ghost use Rattle.std.proofs.Common.{rules};
 ghost use Rattle.number.specs.Ans.{Ans, held, refused};
 ghost use Rattle.number.specs.Answer.{answer_by};
 ghost use Rattle.number.specs.Lists.{at};
-ghost use Rattle.number.specs.Arith.{Arith, floats, whole, epsilon64};
+ghost use Rattle.number.specs.Arith.{Arith, Constant, floats, whole, epsilon64};
 ghost use Rattle.number.specs.Functions.{Functions, calls};
 ghost use Rattle.elementary.specs.Port.{port};
 ghost use Rattle.enclosure.specs.Enclosure.{enclosures, point};
@@ -14,13 +14,15 @@ ghost use Rattle.dual.specs.Value.{dual_of};
 ghost use Rattle.slopes.specs.Mixed.{plain, sloped, as_dual};
 ghost use Rattle.slopes.specs.Rules.{mixed_functions};
 ghost use Rattle.dual_num.specs.Way.{mixed_way};
+ghost use Rattle.enclosure.specs.Enclosed.{IsEnclosed};
+ghost use Rattle.dual_num.specs.Constants.{constant_of};
 ghost use Rattle.dual_num.specs.declared.DualBase.{DualBase};
 ghost use Rattle.dual_num.specs.Base.{float_base_of, float_power, enclosure_power, dual_power, float_exponent_of, float_raised, float_power_by, enclosure_raised, enclosure_power_by, dual_raised, dual_power_by};
 ghost use Rattle.dual_num.specs.Laws.{float_power_is, enclosure_power_is, dual_power_is, float_six, enclosure_six, mixed_six, float_epsilon, enclosure_epsilon, mixed_epsilon};
 
 use binary_log::Log;
 use dual::Dual;
-use enclosure::Enclosure;
+use enclosure::{Enclosed, Enclosure};
 use number::{Arithmetic, Refusal};
 use power::FixedExponent;
 use slopes::SlopeExponent;
@@ -122,6 +124,7 @@ pub trait DualNum: Copy
     // A number taken as a D: a plain one has slope +0.
     ghost taken: { (w : Bool) → (beside w).Num → (beside w).Num };
 
+    // As From<Plain> it would be a bound and a law that each impl proves, where it is one clause.
     fn lift(c: Self::Plain) -> Self
         ensures { (w : Bool) → of w result ≡ taken w (plain w c) };
 
@@ -147,7 +150,7 @@ pub trait DualNum: Copy
     fn raise_inside(base: Self::Base, n: Self::Exponent) -> Self
         ensures { (w : Bool) → of w result ≡ raised w base n };
 
-    // A power of plain numbers, which stays plain.
+    // A power of plain numbers, which stays plain. It and `plain_ln` hang on Plain alone; as members of a trait of plain numbers each would need a law here and in three impls, for one body less.
     fn plain_powf(a: Self::Plain, e: Self::Plain) -> Result<Self::Plain, Refusal>
         ensures { (w : Bool) → answer_by (plain w) result ≡ (functions w).powf (plain w a) (plain w e) };
 
@@ -187,15 +190,40 @@ pub trait DualNum: Copy
         requires { has l.now.values.now l.now.slopes.now i }
         ensures { (w : Bool) → of w result ≡ entry_of w l.now.values.now l.now.slopes.now i };
 
-    // The constants, as plain numbers.
+    // A constant, as a plain number.
+    fn constant(e: Enclosed) -> Self::Plain
+        ensures { (w : Bool) (c : Constant) → IsEnclosed c e → plain w result ≡ constant_of (functions w) c };
+
+    // The Rust's PI, FRAC_PI_6 and TAU, each with the two neighbouring floats that enclose pi, pi / 6 and twice pi.
     fn pi() -> Self::Plain
-        ensures { (w : Bool) → plain w result ≡ (functions w).pi };
+        ensures { (w : Bool) → plain w result ≡ (functions w).pi }
+    {
+        Self::constant(Enclosed {
+            value: 3.141592653589793,
+            below: 3.141592653589793,
+            above: 3.1415926535897936,
+        })
+    }
 
     fn frac_pi_6() -> Self::Plain
-        ensures { (w : Bool) → plain w result ≡ (functions w).frac_pi_6 };
+        ensures { (w : Bool) → plain w result ≡ (functions w).frac_pi_6 }
+    {
+        Self::constant(Enclosed {
+            value: 0.5235987755982989,
+            below: 0.5235987755982988,
+            above: 0.5235987755982989,
+        })
+    }
 
     fn tau() -> Self::Plain
-        ensures { (w : Bool) → plain w result ≡ (functions w).tau };
+        ensures { (w : Bool) → plain w result ≡ (functions w).tau }
+    {
+        Self::constant(Enclosed {
+            value: 6.283185307179586,
+            below: 6.283185307179586,
+            above: 6.283185307179587,
+        })
+    }
 
     // The float run's value, which branches look at.
     fn re(self) -> f64
@@ -418,16 +446,9 @@ impl DualNum for f64 {
         l.values[i]
     }
 
-    fn pi() -> f64 {
-        3.141592653589793
-    }
-
-    fn frac_pi_6() -> f64 {
-        0.5235987755982989
-    }
-
-    fn tau() -> f64 {
-        6.283185307179586
+    #[inline(always)]
+    fn constant(e: Enclosed) -> f64 {
+        e.value
     }
 
     fn re(self) -> f64 {
@@ -644,16 +665,9 @@ impl DualNum for Enclosure {
         Enclosure::point(l.values[i])
     }
 
-    fn pi() -> Enclosure {
-        Enclosure::pi()
-    }
-
-    fn frac_pi_6() -> Enclosure {
-        Enclosure::frac_pi_6()
-    }
-
-    fn tau() -> Enclosure {
-        Enclosure::tau()
+    #[inline(always)]
+    fn constant(e: Enclosed) -> Enclosure {
+        Enclosure::constant(e)
     }
 
     fn re(self) -> f64 {
@@ -880,16 +894,9 @@ impl DualNum for Dual {
         }
     }
 
-    fn pi() -> f64 {
-        f64::pi()
-    }
-
-    fn frac_pi_6() -> f64 {
-        f64::frac_pi_6()
-    }
-
-    fn tau() -> f64 {
-        f64::tau()
+    #[inline(always)]
+    fn constant(e: Enclosed) -> f64 {
+        e.value
     }
 
     fn re(self) -> f64 {

@@ -1,21 +1,20 @@
 -- The ends of a constant: the Rust's float lies between them, and so does the fraction that a decimal writes; so there are fair choices. Assumes nothing.
 use Prim.Native.Nat.{ℕ, ◌+◌, ◌*◌, ◌^◌, ◌<◌}
-use native.Mathlib.Omega.{arith}
 use mathlib.Core.Path.{◌≡◌, refl, sym, subst}
 use mathlib.Core.Bool.{Bool, true, false, not, cond}
 use lib.Dec.{T, nltb→le, lit<}
 use native.Mathlib.Nat.{one-le-pow}
-use lib.Ieee.{Float, binary64, fits, round}
+use lib.Ieee.{Float, binary64, fits}
 use lib.Ieee.Fits.{round-fits}
 use lib.Ieee.Bits.{of_bits-fits}
 use lib.Ieee.Scale.{finite}
-use Rattle.number.specs.Frac.{Frac, frac, Pos, le_f, lt_f, sgn, val_f}
+use Rattle.number.specs.Frac.{Frac, frac, Pos, le_f, val_f}
 use Rattle.number.specs.Neighbour.{next_up, next_down}
 use Rattle.number.specs.Arith.{Constant, pi, frac_pi_6, tau, node, nearest, decimal}
 use Rattle.number.proofs.Frac.{val_f_pos, sgn_pos, le_refl_f, lt_le_f}
 use Rattle.number.proofs.Round.{Rounds, rounds_over, rounds_under}
 use Rattle.number.proofs.Neighbour.{next_up_lt, next_down_lt, next_up_fits, next_down_fits, next_up_finite, next_down_finite}
-use Rattle.enclosure.specs.Constants.{Choice, less, written, below, above}
+use Rattle.enclosure.specs.Constants.{less, written, below, above}
 use Rattle.enclosure.specs.Ends.{Between, Fair}
 
 power_pos : (n : ℕ) → 0 < 10 ^ n

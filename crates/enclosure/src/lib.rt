@@ -1,13 +1,14 @@
 // Enclosures: the float run's value beside its two ends, for branches and for the arguments of elementary calls.
 #![tactic(auto)]
 
-ghost use Rattle.std.specs.Prelude.{◌≡◌};
+ghost use Rattle.std.specs.Prelude.{◌≡◌, get_or};
 ghost use Rattle.std.proofs.Common.{rules};
-ghost use Rattle.number.specs.Arith as Arith;
+ghost use Rattle.number.specs.Arith.{Constant, zero64};
 ghost use Rattle.number.specs.Functions.{answered, answered₂};
 ghost use Rattle.enclosure.specs.Enclosure.{point, constant_e, add_e, sub_e, mul_e, div_e, neg_e, pow_e, down_e, after_e, enclosures};
 ghost use Rattle.number.specs.Answer.{answer};
-ghost use Rattle.enclosure.specs.Ends.{ends_alone};
+ghost use Rattle.enclosure.specs.Ends.{ends_in, ends_alone};
+ghost use Rattle.enclosure.specs.Enclosed.{IsEnclosed};
 
 use interval::Interval;
 use number::{Arithmetic, Refusal};
@@ -19,6 +20,29 @@ pub struct Enclosure {
     pub ends: Interval,
 }
 
+// A constant of the source: its float, the greatest f64 not above it, and the least not below it.
+#[derive(Clone, Copy)]
+pub struct Enclosed {
+    pub value: f64,
+    pub below: f64,
+    pub above: f64,
+}
+
+// An entry of a table of decimals, 0 beyond it. The table is a static, which stands in memory once: a const would be built at every call.
+#[inline(always)]
+pub fn table_entry(t: &[Enclosed], k: usize) -> Enclosed
+    ensures { result ≡ get_or t.now k (record { value = zero64; below = zero64; above = zero64 }) }
+{
+    if k < t.len() {
+        return t[k];
+    }
+    Enclosed {
+        value: 0.0,
+        below: 0.0,
+        above: 0.0,
+    }
+}
+
 // Document 01's two ends, as a two-ended operation reports them.
 #[derive(Clone, Copy)]
 pub struct Ends {
@@ -26,7 +50,19 @@ pub struct Ends {
     pub upper: f64,
 }
 
+impl From<Enclosure> for Ends {
+    ghost from_gives = { λ b r. r ≡ ends_in b };
+
+    fn from(b: Enclosure) -> Ends {
+        Ends {
+            lower: b.ends.lower,
+            upper: b.ends.upper,
+        }
+    }
+}
+
 impl Enclosure {
+    // Not From<f64>: the name says which enclosure of x it is.
     pub fn point(x: f64) -> Enclosure
         ensures { result ≡ point x }
     {
@@ -36,41 +72,16 @@ impl Enclosure {
         }
     }
 
-    // The Rust's PI, FRAC_PI_6 and TAU, each with the two neighbouring floats that enclose pi, pi / 6 and twice pi.
-    pub fn pi() -> Enclosure
-        ensures { result ≡ constant_e Arith.pi }
+    // A constant whose ends are finite.
+    #[inline(always)]
+    pub fn constant(e: Enclosed) -> Enclosure
+        ensures { (c : Constant) → IsEnclosed c e → result ≡ constant_e c }
     {
         Enclosure {
-            value: 3.141592653589793,
+            value: e.value,
             ends: Interval {
-                lower: 3.141592653589793,
-                upper: 3.1415926535897936,
-                sound: true,
-            },
-        }
-    }
-
-    pub fn frac_pi_6() -> Enclosure
-        ensures { result ≡ constant_e Arith.frac_pi_6 }
-    {
-        Enclosure {
-            value: 0.5235987755982989,
-            ends: Interval {
-                lower: 0.5235987755982988,
-                upper: 0.5235987755982989,
-                sound: true,
-            },
-        }
-    }
-
-    pub fn tau() -> Enclosure
-        ensures { result ≡ constant_e Arith.tau }
-    {
-        Enclosure {
-            value: 6.283185307179586,
-            ends: Interval {
-                lower: 6.283185307179586,
-                upper: 6.283185307179587,
+                lower: e.below,
+                upper: e.above,
                 sound: true,
             },
         }
@@ -195,17 +206,13 @@ pub fn ends_of(a: Result<Enclosure, Refusal>) -> Result<Ends, Refusal>
     ensures { answer result ≡ ends_alone (answer a) }
 {
     let b = a?;
-    let ends = b.ends;
     if !number::is_finite(b.value) {
         return Err(Refusal::NotFinite);
     }
-    if !ends.sound {
+    if !b.ends.sound {
         return Err(Refusal::Unsound);
     }
-    Ok(Ends {
-        lower: ends.lower,
-        upper: ends.upper,
-    })
+    Ok(Ends::from(b))
 }
 
 impl Arithmetic for Enclosure {

@@ -1,6 +1,6 @@
 -- Laws of answers that `?` takes apart, and of the count's limits. Assumes nothing.
-use Rattle.std.proofs.Common.{◌≡◌, ℕ, zero, suc, ◌+◌, ◌*◌, ◌<◌, ◌≤◌, Bool, true, false, ◌&&◌, ltb, leb, refl, ap, ◌∙◌, mul-le-mul, ltb-true, leb-true}
-use Rattle.std.specs.Prelude.{Err, Ok, Result, List, [], ◌∷◌, Float, get_or}
+use Rattle.std.proofs.Common.{◌≡◌, ℕ, ◌+◌, ◌*◌, ◌<◌, ◌≤◌, Bool, true, false, ◌&&◌, ltb, leb, refl, ap, ◌∙◌, mul-le-mul, ltb-true, leb-true}
+use Rattle.std.specs.Prelude.{Err, Ok, Result, List, Float}
 use Rattle.number.specs.declared.refusal.Refusal.{Refusal}
 use Rattle.number.specs.Ans.{Ans, held, refused, ◌>>=◌}
 use Rattle.sizes.specs.Sizes.{side, sheet, cell}
@@ -8,7 +8,6 @@ use Rattle.number.specs.Walk.{walk}
 use Rattle.number.proofs.Walk.{via, walk_next, walk_stop}
 use Rattle.limits.specs.Limits.{count_within, index_within}
 use Rattle.number.specs.Answer.{answer, code}
-use Rattle.number.specs.Functions.{Decimal, dec}
 use Rattle.mie_parameters.specs.Answer.{outcome}
 use Rattle.mie_parameters.specs.Sheets.{store_row, sheets_turn}
 
@@ -38,16 +37,6 @@ module _ {P : Type 0} (row : P → List Float) (n : ℕ) (pair : ℕ → ℕ →
   pub pair_outside : (m : Refusal) → answer r ≡ pair i j → r ≡ Err m → sheets_turn row n pair i j x ≡ refused (code m)
   unfolding sheets_turn ◌>>=◌
   pair_outside m e h = rw (via answer e h)
-
--- a table of decimals as floats, and its entries
-abbrev pub table_of : (Decimal → Float) → List Decimal → List Float
-table_of f [] = []
-table_of f (e ∷ l) = f e ∷ table_of f l
-
-pub table_at : (f : Decimal → Float) (l : List Decimal) (k : ℕ) → get_or (table_of f l) k (f (dec false 0 0)) ≡ f (get_or l k (dec false 0 0))
-table_at f [] k = refl
-table_at f (e ∷ l) zero = refl
-table_at f (e ∷ l) (suc k) = table_at f l k
 
 pub count_low : (n : ℕ) → count_within n ≡ true → 1 ≤ n
 unfolding count_within

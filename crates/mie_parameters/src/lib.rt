@@ -1,9 +1,9 @@
-// What both models share: constants, the tables of their dispersion; of their parameters the combining rules of a Mie pair, the answer, lists in their places, the six sheets, and the set beside the answer.
+// What both models share: the tables of their dispersion; of their parameters the combining rules of a Mie pair, the answer, lists in their places, the six sheets, and the set beside the answer.
 #![tactic(auto)]
 
-ghost use Rattle.std.specs.Prelude.{◌≡◌, ◌≤◌, length, get_or};
+ghost use Rattle.std.specs.Prelude.{◌≡◌, ◌≤◌, length};
 ghost use Rattle.number.specs.Answer.{answer};
-ghost use Rattle.number.specs.Arith.{floats, zero64};
+ghost use Rattle.number.specs.Arith.{floats};
 ghost use Rattle.number.specs.Functions.{calls};
 ghost use Rattle.elementary.specs.Port.{port};
 ghost use Rattle.number.specs.Lists.{at};
@@ -17,11 +17,6 @@ pub mod sheets;
 
 use number::Refusal;
 use sizes::SIDE;
-
-// std::f64::consts, in the float run. What they are in each run is `constant` of its arithmetic.
-pub const PI: f64 = 3.141592653589793;
-
-pub const FRAC_PI_6: f64 = 0.5235987755982989;
 
 // Lafitte et al. 2013, for both models; SAFT-VR Mie calls LAM_COEFF C.
 pub const PHI: [[f64; 7]; 6] = [
@@ -47,17 +42,6 @@ pub const LAM_COEFF: [[f64; 4]; 4] = [
     [-1.9057, 22.845, -228.14, 973.92],
     [1.0885, -6.1962, 106.98, -677.64],
 ];
-
-// An entry of a table of decimals, 0 beyond it. The table is a static, which stands in memory once: a const would be built at every call.
-#[inline(always)]
-pub fn table_entry(t: &[f64], k: usize) -> f64
-    ensures { result ≡ get_or t.now k zero64 }
-{
-    if k < t.len() {
-        return t[k];
-    }
-    0.0
-}
 
 // An answer at the C boundary: 0, or the refusal's number.
 pub fn number(a: Result<(), Refusal>) -> u8
@@ -91,7 +75,7 @@ pub fn c_ij(lr: f64, la: f64) -> Result<f64, Refusal>
     Ok(lr / (lr - la) * p)
 }
 
-// A list as long as the count, which is at most the places.
+// A list as long as the count, which is at most the places. The count stays beside it: a clause of the list's length would have to be led to the count in each caller, for every list.
 pub fn in_places(n: usize, l: &[f64]) -> [f64; SIDE]
     requires { (n ≤ side) × (length l.now ≡ n) }
     ensures { result ≡ in_places floats n (at l.now) }

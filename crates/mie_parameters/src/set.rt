@@ -32,7 +32,7 @@ pub fn refused_with<S: Parameters>(refusal: Refusal) -> ParameterSet<S>
     }
 }
 
-// An operation's set beside its answer, as document 01 has it.
+// An operation's set beside its answer.
 #[tactic(auto, unfolding(crate::specs::Answer::stored))]
 pub fn beside_answer<S: Parameters>(given: Result<S, Refusal>) -> ParameterSet<S>
     ensures answer { outcome result.answer result.set ≡ answer given }

@@ -14,10 +14,10 @@ use enclosure::{Enclosure, Ends};
 use number::Refusal;
 use saftvrqmie_parameters::SaftVRQMiePars;
 use saftvrqmie_potential::Pair;
-use saftvrqmie_searches::rule::Rule;
+use saftvrqmie_searches::rule::{abscissa, weight};
 use sizes::SIDE;
 
-// From the searched radii. At each node both derivatives of the potential count, whether worked or not. One text with `diameter_by` would be no shorter: what u_after takes beside u_at, a pair's flag, would be three members of a trait in each run (its type, its test, u by it), for a loop of eight lines.
+// From the searched radii. At each node both derivatives of the potential count, whether worked or not. One text with `diameter_by` would be no shorter: what u_after takes beside u_at, a pair's flag, would be three members of a trait in each run (its type, its test, u by it), for a loop of eight lines. By index, at which the rule is read.
 pub fn hs_diameter(
     p: Pair<Enclosure, Enclosure>,
     sigma_eff: Enclosure,
@@ -32,11 +32,11 @@ pub fn hs_diameter(
     let width = (sigma_eff - r0) * half;
     let mut d_hs = r0;
     for k in 0usize..21usize {
-        let r = width * Enclosure::abscissa(k) + width + r0;
+        let r = width * abscissa::<Enclosure>(k) + width + r0;
         let u = saftvrqmie_alone_ends::u_after(&s, tame, r)?;
         let e = elementary_ends::exp(-u / p.temperature)?;
         let f_u = -e + one;
-        let part = width * f_u * Enclosure::weight(k);
+        let part = width * f_u * weight::<Enclosure>(k);
         d_hs = d_hs + part;
     }
     Ok(d_hs)

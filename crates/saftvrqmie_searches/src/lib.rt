@@ -16,7 +16,7 @@ ghost use Rattle.saftvrqmie_searches.specs.Diameter.{node_turn, diameter_by, dia
 
 pub mod rule;
 
-use crate::rule::Rule;
+use crate::rule::{abscissa, weight};
 use dual::Dual;
 use dual_num::DualNum;
 use number::{Arithmetic, Refusal};
@@ -24,55 +24,6 @@ use saftvrqmie_potential::{FloatPair, QMiePotential, Shared};
 
 // f64::EPSILON
 const EPSILON: f64 = 2.220446049250313e-16;
-
-// Abscissas and weights of the 21-node rule of QUADPACK.
-pub const X_K21: [f64; 21] = [
-    -0.995657163025808080735527280689003,
-    -0.973906528517171720077964012084452,
-    -0.930157491355708226001207180059508,
-    -0.865063366688984510732096688423493,
-    -0.780817726586416897063717578345042,
-    -0.679409568299024406234327365114874,
-    -0.562757134668604683339000099272694,
-    -0.433395394129247190799265943165784,
-    -0.294392862701460198131126603103866,
-    -0.148874338981631210884826001129720,
-    0.000000000000000000000000000000000,
-    0.148874338981631210884826001129720,
-    0.294392862701460198131126603103866,
-    0.433395394129247190799265943165784,
-    0.562757134668604683339000099272694,
-    0.679409568299024406234327365114874,
-    0.780817726586416897063717578345042,
-    0.865063366688984510732096688423493,
-    0.930157491355708226001207180059508,
-    0.973906528517171720077964012084452,
-    0.995657163025808080735527280689003,
-];
-
-pub const W_K21: [f64; 21] = [
-    0.011694638867371874278064396062192,
-    0.032558162307964727478818972459390,
-    0.054755896574351996031381300244580,
-    0.075039674810919952767043140916190,
-    0.093125454583697605535065465083366,
-    0.109387158802297641899210590325805,
-    0.123491976262065851077958109831074,
-    0.134709217311473325928054001771707,
-    0.142775938577060080797094273138717,
-    0.147739104901338491374841515972068,
-    0.149445554002916905664936468389821,
-    0.147739104901338491374841515972068,
-    0.142775938577060080797094273138717,
-    0.134709217311473325928054001771707,
-    0.123491976262065851077958109831074,
-    0.109387158802297641899210590325805,
-    0.093125454583697605535065465083366,
-    0.075039674810919952767043140916190,
-    0.054755896574351996031381300244580,
-    0.032558162307964727478818972459390,
-    0.011694638867371874278064396062192,
-];
 
 // The radius and the last potential: two cases of two numbers, as document 01's Forms ask.
 #[derive(Clone, Copy)]
@@ -84,7 +35,7 @@ pub enum Search<D> {
 pub type FloatSearch = Search<f64>;
 
 // A run without ends: work that nothing uses does not count.
-pub trait WithoutEnds: Rule {
+pub trait WithoutEnds: DualNum {
     ghost after_law: { (w : Bool) (u x : (Self.beside w).Num) → (Self.beside w).after u x ≡ x };
 }
 
@@ -225,7 +176,7 @@ pub fn calc_epsilon_k_eff(pair: FloatPair) -> Result<(FloatSearch, u8), Refusal>
     depth_search(&w, 1.0 * pair.sigma)
 }
 
-// One node's part, added, by its index: each run has the rule's entries of its own. Nothing reads the derivatives there.
+// One node's part, added, by its index, at which the rule is read. Nothing reads the derivatives there.
 fn node<D: WithoutEnds>(
     w: &Shared<D>,
     temperature: D,
@@ -238,10 +189,10 @@ fn node<D: WithoutEnds>(
         → answer_by (D.of false) result ≡ node_turn (D.beside false) (D.functions false) (potential (D.beside false) (D.functions false) p) (D.of false temperature) (D.of false sigma_eff) (D.of false r0) k (D.of false d_hs) }
 {
     let width = (sigma_eff - r0) * D::Plain::lit(0.5);
-    let r = width * D::abscissa(k) + width + r0;
+    let r = width * abscissa::<D>(k) + width + r0;
     let u = saftvrqmie_potential::u_at(w, r)?;
     let e = D::exp(-u / temperature)?;
-    Ok(d_hs + width * (-e + D::Plain::lit(1.0)) * D::weight(k))
+    Ok(d_hs + width * (-e + D::Plain::lit(1.0)) * weight::<D>(k))
 }
 
 pub fn diameter_by<D: WithoutEnds>(
