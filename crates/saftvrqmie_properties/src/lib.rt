@@ -13,6 +13,7 @@ use number::{Arithmetic, Refusal};
 use saftvrqmie_potential::Pair;
 use saftvrqmie_searches::{Search, WithoutEnds};
 
+// Values and counts go to a table's two lists: three structs of a value and its count would be taken apart there.
 #[derive(Clone, Copy)]
 pub struct PairProperties<D> {
     pub sigma_eff: D,

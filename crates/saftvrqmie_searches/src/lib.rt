@@ -65,7 +65,7 @@ fn clamp<D: DualNum>(dr: D) -> D
     dr
 }
 
-// The three steps, each from a radius and its potential, and the value that the zero search tests; l is the logarithm of EPSILON.
+// The three steps, each from a radius, its potential and the tested value, which the zero search alone reads; and what that tests. l is the logarithm of EPSILON.
 fn sigma_step<D: DualNum>(r: D, v: QMiePotential<D>, f: D) -> D
     ensures { (w : Bool) → D.of w result ≡ sigma_step (D.beside w) (D.of w r) (potential_by (D.of w) v) (D.of w f) }
 {
@@ -90,7 +90,7 @@ fn zero_step<D: DualNum>(temperature: D, r: D, v: QMiePotential<D>, f: D) -> D
     r + clamp(-(f / (v.u_r / temperature)))
 }
 
-// One search: what is tested of a potential, and the next radius from the radius, its potential and the tested value.
+// One search and its count of evaluations: what is tested of a potential, and the next radius from the radius, its potential and the tested value. A pair, not a struct: each caller takes it apart at once.
 fn radius_search<D: WithoutEnds, T: Fn(QMiePotential<D>) -> D, M: Fn(D, QMiePotential<D>, D) -> D>(
     w: &Shared<D>,
     start: D,
@@ -124,7 +124,7 @@ pub fn sigma_search<D: WithoutEnds>(w: &Shared<D>, sigma: D) -> Result<(Search<D
     ensures { (p : PairIn (D.beside false).Num) → Sharing (D.beside false) (D.functions false) (D.plain false) (D.power_at false) (D.power_by false) (D.of false) D.exponent_in p w.now
         → answer_by (counted_by (D.of false)) result ≡ sigma_search (D.beside false) (potential (D.beside false) (D.functions false) p) (D.of false sigma) }
 {
-    radius_search(w, sigma, |v| v.u, |r, v, f| sigma_step(r, v, f))
+    radius_search(w, sigma, |v| v.u, sigma_step)
 }
 
 pub fn zero_search<D: WithoutEnds>(
@@ -149,7 +149,7 @@ pub fn depth_search<D: WithoutEnds>(w: &Shared<D>, sigma: D) -> Result<(Search<D
     ensures { (p : PairIn (D.beside false).Num) → Sharing (D.beside false) (D.functions false) (D.plain false) (D.power_at false) (D.power_by false) (D.of false) D.exponent_in p w.now
         → answer_by (counted_by (D.of false)) result ≡ depth_search (D.beside false) (potential (D.beside false) (D.functions false) p) (D.of false sigma) }
 {
-    radius_search(w, sigma, |v| v.u_r, |r, v, f| depth_step(r, v, f))
+    radius_search(w, sigma, |v| v.u_r, depth_step)
 }
 
 // `calc_sigma_eff_ij`.
