@@ -2,6 +2,7 @@
 use Rattle.std.specs.Prelude.{ℕ, ◌+◌, ◌*◌, eqb, leb, ltb, Float, List, Bool, false, not, ◌&&◌, cond}
 use Rattle.std.specs.Float.Ieee.{neg, le, lt, eq, to_bits, is_nan}
 use Rattle.std.specs.Float.{binary64}
+use Rattle.std.specs.Float.Ieee.Scale.{finite}
 use Rattle.number.specs.Ans.{Ans, ◌>>=◌, demand}
 use Rattle.number.specs.Arith.{decimal}
 use Rattle.number.specs.Lists.{at}
@@ -88,3 +89,7 @@ is_one m = eq m (decimal false 1 0)
 
 unfoldable pub all_one : ℕ → (ℕ → Float) → Bool
 all_one n m = every n (λ i. is_one (m i))
+
+-- neither an infinity nor a NaN in a list
+unfoldable pub all_finite : ℕ → (ℕ → Float) → Bool
+all_finite n l = every n (λ i. finite (l i))

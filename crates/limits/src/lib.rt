@@ -7,7 +7,7 @@ ghost use Rattle.number.specs.Answer.{answer_by};
 ghost use Rattle.number.specs.Lists.{at};
 ghost use Rattle.sizes.specs.Sizes.{side};
 ghost use Rattle.number.specs.Walk.{every};
-ghost use Rattle.limits.specs.Limits.{square, components, in_limits, count_within, index_within, component_within, components_within, all_within, masses_within, segments_within, shares_within, temperature_within, pair_asked, state_within, same_bits, pair_within, pairs_within, all_one};
+ghost use Rattle.limits.specs.Limits.{square, components, in_limits, count_within, index_within, component_within, components_within, all_within, masses_within, segments_within, shares_within, temperature_within, pair_asked, state_within, same_bits, pair_within, pairs_within, all_one, all_finite};
 
 use number::Refusal;
 
@@ -139,7 +139,7 @@ fn row_within(n: usize, k: &[f64], i: usize) -> bool
     (0..n).all(|j| pair_within(n, k, i, j))
 }
 
-// Of a list as long as the count's square, tested likewise.
+// Of a list as long as the count's square, tested likewise. No struct of both: it would be made here and taken apart in the two functions above, which alone take it.
 pub fn pairs_within(n: usize, k: &[f64]) -> bool
     requires { (n ≤ side) × (length k.now ≡ n * n) }
     ensures { result ≡ pairs_within n (square n k.now) }
@@ -151,4 +151,10 @@ pub fn all_one(m: &[f64]) -> bool
     ensures { result ≡ all_one (length m.now) (at m.now) }
 {
     m.iter().all(|x| *x == 1.0)
+}
+
+pub fn all_finite(l: &[f64]) -> bool
+    ensures { result ≡ all_finite (length l.now) (at l.now) }
+{
+    l.iter().all(|x| number::is_finite(*x))
 }

@@ -60,7 +60,7 @@ fn all_finite(n: usize, d: &[f64; SIDE]) -> bool
     requires { n ≤ side }
     ensures { result ≡ diameters_finite n d.now }
 {
-    d[..n].iter().all(|x| number::is_finite(*x))
+    limits::all_finite(&d[..n])
 }
 
 fn write(n: usize, d: &[f64; SIDE], out: &mut [f64])

@@ -93,7 +93,7 @@ fn work_pairs(
 pub fn all_finite(values: &[f64]) -> bool
     ensures { length values.now ≡ 4 * sheet → result ≡ table_finite values.now }
 {
-    values.iter().all(|x| number::is_finite(*x))
+    limits::all_finite(values)
 }
 
 // A sheet of the values, or of the counts, into its own part of the lent list.

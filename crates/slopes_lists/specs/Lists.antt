@@ -2,10 +2,9 @@
 use Rattle.std.specs.Prelude.{ℕ, eqb, Float, length, List, Bool, ◌&&◌}
 use Rattle.std.specs.Float.Ieee.Scale.{finite}
 use Rattle.number.specs.Lists.{at}
-use Rattle.number.specs.Walk.{every}
 use Rattle.dual.specs.Dual.{DualOf}
 use Rattle.dual_num.specs.declared.NumberList.{NumberList}
-use Rattle.limits.specs.Limits.{count_within}
+use Rattle.limits.specs.Limits.{count_within, all_finite}
 
 -- values in one list, their slopes in another
 pub record SlopedList : Type 0 where
@@ -33,8 +32,5 @@ unfoldable pub sloped_lengths : ℕ → SlopedState → Bool
 sloped_lengths n q = count_within n && right_lengths n q.fractions && right_lengths n q.densities
 
 -- '7 for a supplied slope that is not finite'
-unfoldable pub all_finite : ℕ → List Float → Bool
-all_finite n l = every n (λ i. finite (at l i))
-
 unfoldable pub supplied_finite : ℕ → SlopedState → Bool
-supplied_finite n q = finite q.temperature.eps && all_finite n q.fractions.slopes && all_finite n q.densities.slopes
+supplied_finite n q = finite q.temperature.eps && all_finite n (at q.fractions.slopes) && all_finite n (at q.densities.slopes)

@@ -3,7 +3,7 @@
 
 ghost use Rattle.std.specs.Prelude.{◌≡◌, length};
 ghost use Rattle.dual.specs.Value.{dual_of};
-ghost use Rattle.slopes_lists.specs.Lists.{sloped_list, state_of, right_lengths, sloped_lengths, all_finite, supplied_finite};
+ghost use Rattle.slopes_lists.specs.Lists.{sloped_list, state_of, right_lengths, sloped_lengths, supplied_finite};
 
 use dual::Dual;
 use dual_num::NumberList;
@@ -26,14 +26,7 @@ pub fn sloped_lengths(
     limits::count_within(n) & right_lengths(n, fractions) & right_lengths(n, densities)
 }
 
-fn all_finite(n: usize, l: &[f64]) -> bool
-    requires { length l.now ≡ n }
-    ensures { result ≡ all_finite n l.now }
-{
-    l[..n].iter().all(|x| number::is_finite(*x))
-}
-
-// 7: a supplied slope. The lists are as long as the count: an operation refuses others with 1 before it asks.
+// 7: a supplied slope. The lists are as long as the count: an operation refuses others with 1 before it asks. The count stays beside them, as in `limits::state_within`.
 pub fn supplied_finite(
     n: usize,
     temperature: Dual,
@@ -44,6 +37,6 @@ pub fn supplied_finite(
     ensures { result ≡ supplied_finite n (state_of (dual_of temperature) fractions.now densities.now) }
 {
     number::is_finite(temperature.eps)
-        & all_finite(n, fractions.slopes)
-        & all_finite(n, densities.slopes)
+        & limits::all_finite(fractions.slopes)
+        & limits::all_finite(densities.slopes)
 }

@@ -10,4 +10,6 @@ returns c =
       c.all_finite-2.ensures,
       c.all_finite.ensures,
       c.is_finite.ensures,
+      c.requires.0,
+      c.requires.1,
     )
