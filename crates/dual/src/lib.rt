@@ -16,7 +16,7 @@ pub struct Dual {
 }
 
 impl Dual {
-    // A plain number: slope +0.
+    // A plain number: slope +0. Not From<f64>: the name says which slope.
     pub fn plain(x: f64) -> Dual
         ensures { dual_of result ≡ plain_d floats x }
     {

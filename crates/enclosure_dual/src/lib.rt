@@ -30,7 +30,7 @@ fn about_zero(sound: bool) -> Interval
 }
 
 impl EnclosureDual {
-    // A plain number: slope +0.
+    // A plain number: slope +0. Not From<Enclosure>: the name says which slope.
     pub fn plain(x: Enclosure) -> EnclosureDual
         ensures { dual_of result ≡ plain_d enclosures x }
     {

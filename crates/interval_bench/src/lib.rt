@@ -28,7 +28,7 @@ impl From<u8> for Operation {
     }
 }
 
-// A step for each number: over any with the four operators the contract would be four permissions and four relations, more text than a second step.
+// A step for each number: `number::Arithmetic` has the four operators' laws, but asks for literals, powers and a float run's value, which an interval has not.
 fn float_step(op: Operation, x: f64, y: f64) -> f64
     ensures { result ≡ float_step op x y }
 {
