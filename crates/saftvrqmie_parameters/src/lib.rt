@@ -193,7 +193,7 @@ impl<'a> PairLists for ComponentLists<'a> {
     }
 }
 
-// The order of a byte; above 2 the second.
+// The order of a byte; above 2 the second. Beside it no TryFrom, which could answer 4: Rust, as which the sources are compiled too, has one for each From, and that one never fails.
 impl From<u8> for FeynmanHibbsOrder {
     ghost from_gives = { λ n r. r ≡ order_of n };
 
