@@ -280,7 +280,7 @@ module _ {p : PairIn Enclosure} {s : EnclosureShared} (h : EnclosureSharing p s)
 
   inside : s.inside ≡ true
   unfolding exponents_inside
-  inside = rw (h.inside, z.r.p0.inside, z.r.p1.inside, z.r.p2.inside, z.r.p3.inside, z.r.p4.inside, z.r.p5.inside, z.r.p6.inside, z.a.p0.inside, z.a.p1.inside, z.a.p2.inside, z.a.p3.inside, z.a.p4.inside, z.a.p5.inside, z.a.p6.inside) (wanted s.first s.second)
+  inside = rw (h.inside, z.r.p0.inside, z.r.p1.inside, z.r.p2.inside, z.r.p3.inside, z.r.p4.inside, z.r.p5.inside, z.r.p6.inside, z.a.p0.inside, z.a.p1.inside, z.a.p2.inside, z.a.p3.inside, z.a.p4.inside, z.a.p5.inside, z.a.p6.inside) (wanted (first_order s.order) (second_order s.order))
     where
       wanted : (first second : Bool) → (cond first true true && cond second true true) ≡ true
       wanted true true = refl

@@ -4,7 +4,6 @@ use mathlib.Core.Bool.{Bool, true, false, ◌&&◌, cond}
 use Rattle.number.specs.Ans.{Ans, held, refused, ◌>>=◌}
 use Rattle.number.specs.Arith.{Arith}
 use Rattle.number.specs.Functions.{Functions}
-use Rattle.number.proofs.Walk.{told}
 use Rattle.saftvrqmie_potential.specs.Potential.{PairIn, PotentialIn, first_order, second_order, quantum_d, q1, q2, u_mie, ur_mie, urr_mie, u_quantum, ur_first, urr_first, ur_second, urr_second, corrected, scaled, line, mie, add_first, add_second, after_shared, potential}
 use Rattle.saftvrqmie_potential.specs.Shared.{Stands, Sharing, both_inside, exponents_inside, powers_by, alone, mie_from, first_from, second_from, after_factors, finished_from}
 use Rattle.saftvrqmie_potential.specs.declared.LinePowers.{LinePowers}
@@ -106,7 +105,7 @@ module _ {A : Arith} {F : Functions A.Num} {D P B E : Type 0} {plain : P → A.N
     unfolding add_second
     second_tested v = lines_tested (corrected A _ v) (line_tested h.r.e4 h.a.e4 _) (line_tested h.r.e5 h.a.e5 _) (line_tested h.r.e6 h.a.e6 _)
 
-    whole_tested : Tested (exponents_inside exponent_in (first_order p.order) (second_order p.order) s.r s.a) (after_shared A F p (scaled A (A.mul p.c p.epsilon_k) v₂)) (potential A F p r)
+    whole_tested : Tested (exponents_inside exponent_in p.order s.r s.a) (after_shared A F p (scaled A (A.mul p.c p.epsilon_k) v₂)) (potential A F p r)
     unfolding potential exponents_inside
     whole_tested =
         then_tested _ _ _ _ _ _ mie_tested
@@ -114,7 +113,7 @@ module _ {A : Arith} {F : Functions A.Num} {D P B E : Type 0} {plain : P → A.N
         (then_value _ _ _ _ _ (choice_tested (second_order p.order) _ _ _ _ (second_tested v₁)) refl))
 
     pub potential_tested : (t : Bool) → s.inside ≡ t → potential A F p r ≡ cond t (held (after_shared A F p (scaled A (A.mul p.c p.epsilon_k) v₂))) (refused 6)
-    potential_tested t k = rw (← k, h.inside, h.first, h.second) whole_tested.is
+    potential_tested t k = rw (← k, h.inside, h.order) whole_tested.is
 
   -- ---- the base or an exponent outside
   pub base_outside : base_in b ≡ false → potential A F p r ≡ refused 6
@@ -151,38 +150,38 @@ module _ {A : Arith} {F : Functions A.Num} {D P B E : Type 0} {plain : P → A.N
 
     module _ {l0 l1 l2 : LinePowers D} (q0 : Powers s.r.e0 s.a.e0 l0) (q1 : Powers s.r.e1 s.a.e1 l1) (q2 : Powers s.r.e2 s.a.e2 l2)
         {v res : PotentialIn A.Num} (is-v : v ≡ mie_from A plain of s l0 l1 l2) where
-      pub order_0 : s.first ≡ false → res ≡ finished_from A plain of s v → held res ≡ potential A F p r
+      pub order_0 : first_order s.order ≡ false → res ≡ finished_from A plain of s v → held res ≡ potential A F p r
       unfolding scaled after_shared mie_from after_factors finished_from
       order_0 k is-res =
-          let t = told h.first k in
+          let t = rw h.order at k in
           rw (is-res, is-v, rr q0, ra q0, rr q1, ra q1, rr q2, ra q2, after_factors, h.r.lambda, h.a.lambda, h.r.q1, h.a.q1, h.r.q2, h.a.q2, h.d, h.ce) (sym (rw (t, not_first _ t) at potential_held))
 
-      module _ (k : s.first ≡ true) {l3 l4 : LinePowers D} (q3 : Powers s.r.e3 s.a.e3 l3) (q4 : Powers s.r.e4 s.a.e4 l4) {v1 : PotentialIn A.Num} (is-v1 : v1 ≡ first_from A plain of s l2 l3 l4 v) where
-        pub order_1 : s.second ≡ false → res ≡ finished_from A plain of s v1 → held res ≡ potential A F p r
+      module _ (k : first_order s.order ≡ true) {l3 l4 : LinePowers D} (q3 : Powers s.r.e3 s.a.e3 l3) (q4 : Powers s.r.e4 s.a.e4 l4) {v1 : PotentialIn A.Num} (is-v1 : v1 ≡ first_from A plain of s l2 l3 l4 v) where
+        pub order_1 : second_order s.order ≡ false → res ≡ finished_from A plain of s v1 → held res ≡ potential A F p r
         unfolding scaled after_shared mie_from first_from after_factors finished_from
         order_1 k' is-res =
-            rw (is-res, is-v1, is-v, rr q0, ra q0, rr q1, ra q1, rr q2, ra q2, rr q3, ra q3, rr q4, ra q4, after_factors, h.r.lambda, h.a.lambda, h.r.q1, h.a.q1, h.r.q2, h.a.q2, h.d, h.ce) (sym (rw (told h.first k, told h.second k') at potential_held))
+            rw (is-res, is-v1, is-v, rr q0, ra q0, rr q1, ra q1, rr q2, ra q2, rr q3, ra q3, rr q4, ra q4, after_factors, h.r.lambda, h.a.lambda, h.r.q1, h.a.q1, h.r.q2, h.a.q2, h.d, h.ce) (sym (rw (rw h.order at k, rw h.order at k') at potential_held))
 
-        pub order_2 : s.second ≡ true → {l5 l6 : LinePowers D} → Powers s.r.e5 s.a.e5 l5 → Powers s.r.e6 s.a.e6 l6 → {v2 : PotentialIn A.Num} → v2 ≡ second_from A plain of s l4 l5 l6 v1 → res ≡ finished_from A plain of s v2 → held res ≡ potential A F p r
+        pub order_2 : second_order s.order ≡ true → {l5 l6 : LinePowers D} → Powers s.r.e5 s.a.e5 l5 → Powers s.r.e6 s.a.e6 l6 → {v2 : PotentialIn A.Num} → v2 ≡ second_from A plain of s l4 l5 l6 v1 → res ≡ finished_from A plain of s v2 → held res ≡ potential A F p r
         unfolding scaled after_shared mie_from first_from second_from after_factors finished_from
         order_2 k' q5 q6 is-v2 is-res =
-            rw (is-res, is-v2, is-v1, is-v, rr q0, ra q0, rr q1, ra q1, rr q2, ra q2, rr q3, ra q3, rr q4, ra q4, rr q5, ra q5, rr q6, ra q6, after_factors, h.r.lambda, h.a.lambda, h.r.q1, h.a.q1, h.r.q2, h.a.q2, h.d, h.d2, h.ce) (sym (rw (told h.first k, told h.second k') at potential_held))
+            rw (is-res, is-v2, is-v1, is-v, rr q0, ra q0, rr q1, ra q1, rr q2, ra q2, rr q3, ra q3, rr q4, ra q4, rr q5, ra q5, rr q6, ra q6, after_factors, h.r.lambda, h.a.lambda, h.r.q1, h.a.q1, h.r.q2, h.a.q2, h.d, h.d2, h.ce) (sym (rw (rw h.order at k, rw h.order at k') at potential_held))
 
     -- u alone, where nothing reads its derivatives
     module _ {l0 : LinePowers D} (q0 : Powers s.r.e0 s.a.e0 l0) {u res : A.Num} (is-u : u ≡ u_mie A (of l0.rr) sr (of l0.ra) sa) where
-      pub alone_0 : s.first ≡ false → res ≡ after_factors A plain of s (A.mul u (plain s.ce)) → held res ≡ alone (potential A F p r)
+      pub alone_0 : first_order s.order ≡ false → res ≡ after_factors A plain of s (A.mul u (plain s.ce)) → held res ≡ alone (potential A F p r)
       unfolding after_shared scaled after_factors ◌>>=◌
       alone_0 k is-res =
-          let t = told h.first k in
+          let t = rw h.order at k in
           rw (is-res, is-u, rr q0, ra q0, after_factors, h.r.q1, h.a.q1, h.r.q2, h.a.q2, h.d, h.ce) (rw (t, not_first _ t) at alone_is)
 
-      module _ (k : s.first ≡ true) {l2 : LinePowers D} (q2 : Powers s.r.e2 s.a.e2 l2) {u₁ : A.Num} (is-u₁ : u₁ ≡ A.add u (A.mul (of s.d) (u_quantum A (plain s.r.q1) (plain s.a.q1) (of l2.rr) sr (of l2.ra) sa))) where
-        pub alone_1 : s.second ≡ false → res ≡ after_factors A plain of s (A.mul u₁ (plain s.ce)) → held res ≡ alone (potential A F p r)
+      module _ (k : first_order s.order ≡ true) {l2 : LinePowers D} (q2 : Powers s.r.e2 s.a.e2 l2) {u₁ : A.Num} (is-u₁ : u₁ ≡ A.add u (A.mul (of s.d) (u_quantum A (plain s.r.q1) (plain s.a.q1) (of l2.rr) sr (of l2.ra) sa))) where
+        pub alone_1 : second_order s.order ≡ false → res ≡ after_factors A plain of s (A.mul u₁ (plain s.ce)) → held res ≡ alone (potential A F p r)
         unfolding after_shared scaled after_factors ◌>>=◌
         alone_1 k' is-res =
-            rw (is-res, is-u₁, is-u, rr q0, ra q0, rr q2, ra q2, after_factors, h.r.q1, h.a.q1, h.r.q2, h.a.q2, h.d, h.ce) (rw (told h.first k, told h.second k') at alone_is)
+            rw (is-res, is-u₁, is-u, rr q0, ra q0, rr q2, ra q2, after_factors, h.r.q1, h.a.q1, h.r.q2, h.a.q2, h.d, h.ce) (rw (rw h.order at k, rw h.order at k') at alone_is)
 
-        pub alone_2 : s.second ≡ true → {l4 : LinePowers D} → Powers s.r.e4 s.a.e4 l4 → {u₂ : A.Num} → u₂ ≡ A.add u₁ (A.mul (of s.d2) (u_quantum A (plain s.r.q2) (plain s.a.q2) (of l4.rr) sr (of l4.ra) sa)) → res ≡ after_factors A plain of s (A.mul u₂ (plain s.ce)) → held res ≡ alone (potential A F p r)
+        pub alone_2 : second_order s.order ≡ true → {l4 : LinePowers D} → Powers s.r.e4 s.a.e4 l4 → {u₂ : A.Num} → u₂ ≡ A.add u₁ (A.mul (of s.d2) (u_quantum A (plain s.r.q2) (plain s.a.q2) (of l4.rr) sr (of l4.ra) sa)) → res ≡ after_factors A plain of s (A.mul u₂ (plain s.ce)) → held res ≡ alone (potential A F p r)
         unfolding after_shared scaled after_factors ◌>>=◌
         alone_2 k' q4 is-u₂ is-res =
-            rw (is-res, is-u₂, is-u₁, is-u, rr q0, ra q0, rr q2, ra q2, rr q4, ra q4, after_factors, h.r.q1, h.a.q1, h.r.q2, h.a.q2, h.d, h.d2, h.ce) (rw (told h.first k, told h.second k') at alone_is)
+            rw (is-res, is-u₂, is-u₁, is-u, rr q0, ra q0, rr q2, ra q2, rr q4, ra q4, after_factors, h.r.q1, h.a.q1, h.r.q2, h.a.q2, h.d, h.d2, h.ce) (rw (rw h.order at k, rw h.order at k') at alone_is)

@@ -9,6 +9,7 @@ use Rattle.elementary.specs.Port.{port}
 use Rattle.dual_num.specs.declared.FloatBase.{FloatBase}
 use Rattle.dual_num.specs.declared.FloatExponent.{FloatExponent}
 use Rattle.dual_num.specs.Base.{float_power, float_power_by}
+use Rattle.saftvrqmie_parameters.specs.declared.FeynmanHibbsOrder.{FeynmanHibbsOrder}
 use Rattle.saftvrqmie_potential.specs.Potential.{PairIn, PotentialIn, first_order, second_order, quantum_d, q1, q2, u_mie, ur_mie, urr_mie, u_quantum, ur_first, urr_first, ur_second, urr_second, corrected, scaled, potential}
 use Rattle.saftvrqmie_potential.specs.declared.Term.{Term}
 use Rattle.saftvrqmie_potential.specs.declared.Shared.{Shared}
@@ -27,12 +28,12 @@ abbrev pub both_inside : {E : Type 0} → (E → Bool) → E → E → Bool
 both_inside exponent_in er ea = exponent_in er && exponent_in ea
 
 -- those of the lines that the order has
-unfoldable pub exponents_inside : {D P B E : Type 0} → (E → Bool) → Bool → Bool → Term D P B E → Term D P B E → Bool
-exponents_inside exponent_in first second r a =
+unfoldable pub exponents_inside : {D P B E : Type 0} → (E → Bool) → FeynmanHibbsOrder → Term D P B E → Term D P B E → Bool
+exponents_inside exponent_in order r a =
     let inside = both_inside exponent_in in
     (inside r.e0 a.e0 && (inside r.e1 a.e1 && inside r.e2 a.e2))
-    && (cond first (inside r.e2 a.e2 && (inside r.e3 a.e3 && inside r.e4 a.e4)) true
-    && cond second (inside r.e4 a.e4 && (inside r.e5 a.e5 && inside r.e6 a.e6)) true)
+    && (cond (first_order order) (inside r.e2 a.e2 && (inside r.e3 a.e3 && inside r.e4 a.e4)) true
+    && cond (second_order order) (inside r.e4 a.e4 && (inside r.e5 a.e5 && inside r.e6 a.e6)) true)
 
 -- an exponent stands for a number: its power of each base is that at the number
 module _ {B E N : Type 0} where
@@ -66,9 +67,8 @@ module _ (A : Arith) (F : Functions A.Num) {D P B E : Type 0} (plain : P → A.N
       pub d : of s.d ≡ quantum_d A F p.mass p.temperature
       pub d2 : of s.d2 ≡ A.pow (quantum_d A F p.mass p.temperature) 2
       pub ce : plain s.ce ≡ A.mul p.c p.epsilon_k
-      pub first : s.first ≡ first_order p.order
-      pub second : s.second ≡ second_order p.order
-      pub inside : s.inside ≡ exponents_inside exponent_in s.first s.second s.r s.a
+      pub order : s.order ≡ p.order
+      pub inside : s.inside ≡ exponents_inside exponent_in s.order s.r s.a
 
     -- what is shared, or that no radius has a potential
     abbrev pub Shares : PairIn A.Num → Result (Shared D P B E) Refusal → Type 0

@@ -61,8 +61,7 @@ pub struct Shared<D: DualNum> {
     pub d: D,
     pub d2: D,
     pub ce: D::Plain,
-    pub first: bool,
-    pub second: bool,
+    pub order: FeynmanHibbsOrder,
     pub inside: bool,
 }
 
@@ -202,15 +201,16 @@ fn if_wanted(wanted: bool, test: bool) -> bool
     if wanted { test } else { true }
 }
 
-fn exponents_inside<D: DualNum>(first: bool, second: bool, r: &Term<D>, a: &Term<D>) -> bool
-    ensures { result ≡ exponents_inside D.exponent_in first second r.now a.now }
+// Those of the lines that the order has.
+fn exponents_inside<D: DualNum>(order: FeynmanHibbsOrder, r: &Term<D>, a: &Term<D>) -> bool
+    ensures { result ≡ exponents_inside D.exponent_in order r.now a.now }
 {
     let at2 = both_inside::<D>(r.e2, a.e2);
     let at4 = both_inside::<D>(r.e4, a.e4);
     let mie = both_inside::<D>(r.e0, a.e0) & (both_inside::<D>(r.e1, a.e1) & at2);
     let one = at2 & (both_inside::<D>(r.e3, a.e3) & at4);
     let two = at4 & (both_inside::<D>(r.e5, a.e5) & both_inside::<D>(r.e6, a.e6));
-    mie & (if_wanted(first, one) & if_wanted(second, two))
+    mie & (if_wanted(first_order(order), one) & if_wanted(second_order(order), two))
 }
 
 // Refuses with 6 where sigma has no power: then no radius has a potential.
@@ -220,9 +220,7 @@ pub fn share<D: DualNum>(p: &Pair<D, D::Plain>) -> Result<Shared<D>, Refusal>
     let r = term_of::<D>(p.sigma, p.lr)?;
     let a = term_of::<D>(p.sigma, p.la)?;
     let order = p.order;
-    let first = first_order(order);
-    let second = second_order(order);
-    let inside = exponents_inside(first, second, &r, &a);
+    let inside = exponents_inside(order, &r, &a);
     let d = quantum_d(p.mass, p.temperature);
     Ok(Shared {
         r,
@@ -230,8 +228,7 @@ pub fn share<D: DualNum>(p: &Pair<D, D::Plain>) -> Result<Shared<D>, Refusal>
         d,
         d2: d.powi(2),
         ce: p.c * p.epsilon_k,
-        first,
-        second,
+        order,
         inside,
     })
 }
@@ -375,13 +372,13 @@ pub fn potential_at<D: DualNum>(s: &Shared<D>, r: D) -> Result<QMiePotential<D>,
     let l1 = line_at::<D>(base, s.r.e1, s.a.e1);
     let l2 = line_at::<D>(base, s.r.e2, s.a.e2);
     let v = mie(s, l0, l1, l2);
-    if !s.first {
+    if !first_order(s.order) {
         return Ok(finished(s, v));
     }
     let l3 = line_at::<D>(base, s.r.e3, s.a.e3);
     let l4 = line_at::<D>(base, s.r.e4, s.a.e4);
     let v1 = add_first(s, l2, l3, l4, v);
-    if !s.second {
+    if !second_order(s.order) {
         return Ok(finished(s, v1));
     }
     let l5 = line_at::<D>(base, s.r.e5, s.a.e5);
@@ -400,12 +397,12 @@ pub fn u_at<D: DualNum>(s: &Shared<D>, r: D) -> Result<D, Refusal>
     }
     let l0 = line_at::<D>(base, s.r.e0, s.a.e0);
     let u = u_mie(s, l0);
-    if !s.first {
+    if !first_order(s.order) {
         return Ok(after_shared(s, u * s.ce));
     }
     let l2 = line_at::<D>(base, s.r.e2, s.a.e2);
     let u1 = u + s.d * u_quantum(s, s.r.q1, s.a.q1, l2);
-    if !s.second {
+    if !second_order(s.order) {
         return Ok(after_shared(s, u1 * s.ce));
     }
     let l4 = line_at::<D>(base, s.r.e4, s.a.e4);

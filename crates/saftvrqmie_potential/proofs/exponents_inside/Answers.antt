@@ -4,4 +4,4 @@ use Rattle.saftvrqmie_potential.proofs.exponents_inside.Goals as goal
 
 pub returns : goal.returns
 unfolding exponents_inside
-returns g c = rw (c.if_wanted-2.ensures, c.if_wanted.ensures, c.both_inside-5.ensures, c.both_inside-4.ensures, c.both_inside-3.ensures, c.both_inside-2.ensures, c.both_inside.ensures, c.both_inside-at4.ensures, c.both_inside-at2.ensures)
+returns g c = rw (c.if_wanted-2.ensures, c.if_wanted.ensures, c.first_order.ensures, c.second_order.ensures, c.both_inside-5.ensures, c.both_inside-4.ensures, c.both_inside-3.ensures, c.both_inside-2.ensures, c.both_inside.ensures, c.both_inside-at4.ensures, c.both_inside-at2.ensures)

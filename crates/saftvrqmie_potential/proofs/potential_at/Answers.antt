@@ -1,5 +1,6 @@
 -- `saftvrqmie_potential::potential_at` meets its contract. Assumes nothing.
 use mathlib.Core.Bool.{false}
+use Rattle.number.proofs.Walk.{told}
 use Rattle.saftvrqmie_potential.proofs.Alone.{outside, order_0, order_1, order_2}
 use Rattle.saftvrqmie_potential.proofs.potential_at.Goals as goal
 
@@ -8,20 +9,20 @@ returns-then-not-base_inside-s g c = λ p h.
     let d = g.D.DualNum in
     rw (outside d.base_in (d.raised false) (g.met.D.DualNum.power_law false) h (c.base-base.ensures false) (rw c.base_inside.ensures at c.if-not-base_inside-s.true))
 
-pub returns-then-not-s : goal.returns-then-not-s
-returns-then-not-s g c = λ p h.
+pub returns-then-not-first_order : goal.returns-then-not-first_order
+returns-then-not-first_order g c = λ p h.
     let d = g.D.DualNum in
     let in-all = rw c.base_inside.ensures at c.if-not-base_inside-s.false in
-    order_0 d.base_in (d.raised false) (g.met.D.DualNum.power_law false) h (c.base-base.ensures false) in-all (c.line_at-l0.ensures false) (c.line_at-l1.ensures false) (c.line_at-l2.ensures false) (c.mie-v.ensures false) c.if-not-s.true (c.finished.ensures false)
+    order_0 d.base_in (d.raised false) (g.met.D.DualNum.power_law false) h (c.base-base.ensures false) in-all (c.line_at-l0.ensures false) (c.line_at-l1.ensures false) (c.line_at-l2.ensures false) (c.mie-v.ensures false) (told c.first_order.ensures c.if-not-first_order.true) (c.finished.ensures false)
 
-pub returns-then-not-s-2 : goal.returns-then-not-s-2
-returns-then-not-s-2 g c = λ p h.
+pub returns-then-not-second_order : goal.returns-then-not-second_order
+returns-then-not-second_order g c = λ p h.
     let d = g.D.DualNum in
     let in-all = rw c.base_inside.ensures at c.if-not-base_inside-s.false in
-    order_1 d.base_in (d.raised false) (g.met.D.DualNum.power_law false) h (c.base-base.ensures false) in-all (c.line_at-l0.ensures false) (c.line_at-l1.ensures false) (c.line_at-l2.ensures false) (c.mie-v.ensures false) c.if-not-s.false (c.line_at-l3.ensures false) (c.line_at-l4.ensures false) c.add_first-v1.ensures c.if-not-s-2.true (c.finished-then-not-s-2.ensures false)
+    order_1 d.base_in (d.raised false) (g.met.D.DualNum.power_law false) h (c.base-base.ensures false) in-all (c.line_at-l0.ensures false) (c.line_at-l1.ensures false) (c.line_at-l2.ensures false) (c.mie-v.ensures false) (told c.first_order.ensures c.if-not-first_order.false) (c.line_at-l3.ensures false) (c.line_at-l4.ensures false) c.add_first-v1.ensures (told c.second_order.ensures c.if-not-second_order.true) (c.finished-then-not-second_order.ensures false)
 
 pub returns : goal.returns
 returns g c = λ p h.
     let d = g.D.DualNum in
     let in-all = rw c.base_inside.ensures at c.if-not-base_inside-s.false in
-    order_2 d.base_in (d.raised false) (g.met.D.DualNum.power_law false) h (c.base-base.ensures false) in-all (c.line_at-l0.ensures false) (c.line_at-l1.ensures false) (c.line_at-l2.ensures false) (c.mie-v.ensures false) c.if-not-s.false (c.line_at-l3.ensures false) (c.line_at-l4.ensures false) c.add_first-v1.ensures c.if-not-s-2.false (c.line_at-l5.ensures false) (c.line_at-l6.ensures false) (c.add_second.ensures false) (c.finished-2.ensures false)
+    order_2 d.base_in (d.raised false) (g.met.D.DualNum.power_law false) h (c.base-base.ensures false) in-all (c.line_at-l0.ensures false) (c.line_at-l1.ensures false) (c.line_at-l2.ensures false) (c.mie-v.ensures false) (told c.first_order.ensures c.if-not-first_order.false) (c.line_at-l3.ensures false) (c.line_at-l4.ensures false) c.add_first-v1.ensures (told c.second_order.ensures c.if-not-second_order.false) (c.line_at-l5.ensures false) (c.line_at-l6.ensures false) (c.add_second.ensures false) (c.finished-2.ensures false)
