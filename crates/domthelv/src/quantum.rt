@@ -16,7 +16,7 @@ ghost use Rattle.saftvrqmie_energies.specs.Energies.{energies_in, energies_answe
 use crate::functions::{deliver, deliver_list};
 use number::Refusal;
 use order_counts::OrderCounts;
-use saftvrqmie::PairSearches;
+use saftvrqmie::{PairSearches, PairsAt};
 use saftvrqmie_energies::{QuantumEnergies, Set, StateLists};
 use saftvrqmie_parameters::{ComponentLists, SaftVRQMiePars};
 use saftvrqmie_total::QuantumTotal;
@@ -123,7 +123,13 @@ fn table_of(
     set_lists::quantum_answer(s, right)?;
     let flat = set_lists::flat(s.sheets);
     let records = set_lists::order_records(s.orders);
-    saftvrqmie::table_of(s.count, &flat, records, temperature, table, counts)
+    let pairs = PairsAt {
+        n: s.count,
+        sheets: &flat,
+        orders: records,
+        temperature,
+    };
+    saftvrqmie::table_of(&pairs, table, counts)
 }
 
 // Temperature table and counts. 1, 4, then 2, 6, 7.

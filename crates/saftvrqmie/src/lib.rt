@@ -1,26 +1,29 @@
 // Operations of SAFT-VRQ Mie on a set: the temperature table (saftvrqmie/eos/mod.rs), and a pair's searches and diameter.
 #![tactic(auto)]
 
-ghost use Rattle.std.specs.Prelude.{true, ◌≡◌, ◌+◌, ◌*◌, ◌<◌, ◌≤◌, length, take, drop};
+mod walk;
+
+ghost use Rattle.std.specs.Prelude.{true, ◌≡◌, ◌+◌, ◌*◌, ◌<◌, ◌≤◌, Float, length, take, drop};
 ghost use Rattle.number.specs.Answer.{answer};
 ghost use Rattle.number.specs.Arith.{floats};
 ghost use Rattle.number.specs.Functions.{calls};
-ghost use Rattle.sizes.specs.Sizes.{side, sheet};
+ghost use Rattle.sizes.specs.Sizes.{sheet};
 ghost use Rattle.elementary.specs.Port.{port};
 ghost use Rattle.mie_parameters.specs.Answer.{outcome, verdict, stored};
 ghost use Rattle.saftvrqmie_potential.specs.Potential.{pair_in};
-ghost use Rattle.saftvrqmie_properties.specs.Properties.{pair_properties_in};
-ghost use Rattle.saftvrqmie.specs.Table.{Lent, store, work_row, work_pairs, table_finite, right_lists, temperature_table, pairs_of};
+ghost use Rattle.saftvrqmie_properties.specs.Properties.{pair_properties_in, pair_properties};
+ghost use Rattle.saftvrqmie.specs.Table.{Lent, lent_of, store, float_properties, table_finite, right_lists, temperature_table, pairs_of};
 ghost use Rattle.saftvrqmie.specs.Pairs.{searches_answer, pair_searches, radii_ij, diameter_ij};
 
 use number::Refusal;
-use saftvrqmie_parameters::{OrderRecord, SaftVRQMiePars};
+use saftvrqmie_parameters::SaftVRQMiePars;
 use saftvrqmie_potential::FloatPair;
 use saftvrqmie_properties::FloatProperties;
 use saftvrqmie_searches::FloatSearch;
 use sizes::counts::{DEPTH, SIGMA, ZERO};
 use sizes::table::{EPSILON_K_EFF, HS_DIAMETER, QUANTUM_D, SIGMA_EFF};
-use sizes::{COUNTS, SHEET, SHEETS, SIDE, TABLE};
+use sizes::{COUNTS, SHEET, SIDE, TABLE};
+pub use walk::{PairStore, PairsAt, work_pairs};
 
 // What the three searches of a pair give, each with its count.
 #[derive(Clone, Copy)]
@@ -33,60 +36,38 @@ pub struct PairSearches {
     pub depth_count: u8,
 }
 
-fn store(values: &mut [f64; TABLE], numbers: &mut [u8; COUNTS], e: usize, p: FloatProperties)
-    requires { e < sheet }
-    ensures { let old : Lent = record { values = values.entry.now; numbers = numbers.old } in
-        let new : Lent = record { values = values.exit.now; numbers = numbers.new } in
-        new ≡ store old e (pair_properties_in p) }
-{
-    values[e] = p.sigma_eff;
-    values[HS_DIAMETER + e] = p.hs_diameter;
-    values[EPSILON_K_EFF + e] = p.epsilon_k_eff;
-    values[QUANTUM_D + e] = p.quantum_d;
-    numbers[e] = p.sigma_count;
-    numbers[ZERO + e] = p.zero_count;
-    numbers[DEPTH + e] = p.depth_count;
+// The two lists that a table is made in.
+#[derive(Drop)]
+struct Room {
+    values: [f64; TABLE],
+    numbers: [u8; COUNTS],
 }
 
-fn work_row(
-    n: usize,
-    s: &[f64; SHEETS],
-    orders: [OrderRecord; SHEET],
-    t: f64,
-    i: usize,
-    values: &mut [f64; TABLE],
-    numbers: &mut [u8; COUNTS],
-) -> Result<(), Refusal>
-    requires { (n ≤ side) × (i < n) }
-    ensures { let old : Lent = record { values = values.entry.now; numbers = numbers.old } in
-        let new : Lent = record { values = values.exit.now; numbers = numbers.new } in
-        outcome result new ≡ work_row n s.now orders t i old }
-{
-    for j in 0usize..n {
-        let pair = saftvrqmie_potential::pair_at(s, orders, t, SIDE * i + j);
-        let p = saftvrqmie_properties::pair_properties(pair)?;
-        store(values, numbers, SIDE * i + j, p);
-    }
-    Ok(())
-}
+impl PairStore for Room {
+    type Num = f64;
 
-fn work_pairs(
-    n: usize,
-    s: &[f64; SHEETS],
-    orders: [OrderRecord; SHEET],
-    t: f64,
-    values: &mut [f64; TABLE],
-    numbers: &mut [u8; COUNTS],
-) -> Result<(), Refusal>
-    requires { n ≤ side }
-    ensures { let old : Lent = record { values = values.entry.now; numbers = numbers.old } in
-        let new : Lent = record { values = values.exit.now; numbers = numbers.new } in
-        outcome result new ≡ work_pairs n s.now orders t old }
-{
-    for i in 0usize..n {
-        work_row(n, s, orders, t, i, values, numbers)?;
+    ghost kept = { record { Num = Float; Lists = Lent; stored = store } };
+
+    ghost lists = { lent_of };
+
+    ghost read = { λ x. x };
+
+    ghost properties = { λ p. pair_properties floats (calls floats port) (pair_in p) };
+
+    ghost properties_law = { float_properties };
+
+    fn store(&mut self, e: usize, p: FloatProperties)
+        requires { e < sheet }
+        ensures { lent_of self.new ≡ store (lent_of self.old) e (pair_properties_in p) }
+    {
+        self.values[e] = p.sigma_eff;
+        self.values[HS_DIAMETER + e] = p.hs_diameter;
+        self.values[EPSILON_K_EFF + e] = p.epsilon_k_eff;
+        self.values[QUANTUM_D + e] = p.quantum_d;
+        self.numbers[e] = p.sigma_count;
+        self.numbers[ZERO + e] = p.zero_count;
+        self.numbers[DEPTH + e] = p.depth_count;
     }
-    Ok(())
 }
 
 // Of a list of the table's length; others are walked whole too.
@@ -131,34 +112,29 @@ pub fn right_lists(n: usize, a: usize, b: usize) -> bool
     limits::count_within(n) & (a == TABLE) & (b == COUNTS)
 }
 
-// The table of a set's count, sheets and orders: it reads no m. 1, 2, 6, 7.
-pub fn table_of(
-    n: usize,
-    sheets: &[f64; SHEETS],
-    orders: [OrderRecord; SHEET],
-    temperature: f64,
-    table: &mut [f64],
-    counts: &mut [u8],
-) -> Result<(), Refusal>
-    ensures { let set = pairs_of n sheets.now orders in
+// The table of a set's pairs: it reads no m. 1, 2, 6, 7.
+pub fn table_of(p: &PairsAt<f64>, table: &mut [f64], counts: &mut [u8]) -> Result<(), Refusal>
+    ensures { let set = pairs_of p.now.n p.now.sheets.now p.now.orders in
         let l : Lent = record { values = table.old; numbers = counts.old } in
-        let q = temperature_table set temperature l in
+        let q = temperature_table set p.now.temperature l in
         (outcome result true ≡ verdict q) × (table.new ≡ (stored l q).values) × (counts.new ≡ (stored l q).numbers) }
 {
-    if !right_lists(n, table.len(), counts.len()) {
+    if !right_lists(p.n, table.len(), counts.len()) {
         return Err(Refusal::Length);
     }
-    if !limits::temperature_within(temperature) {
+    if !limits::temperature_within(p.temperature) {
         return Err(Refusal::Limit);
     }
-    let mut values = [0.0; TABLE];
-    let mut numbers = [0u8; COUNTS];
-    work_pairs(n, sheets, orders, temperature, &mut values, &mut numbers)?;
-    if !all_finite(&values) {
+    let mut room = Room {
+        values: [0.0; TABLE],
+        numbers: [0; COUNTS],
+    };
+    work_pairs(p, &mut room)?;
+    if !all_finite(&room.values) {
         return Err(Refusal::NotFinite);
     }
-    write_table(table, &values);
-    write_numbers(counts, &numbers);
+    write_table(table, &room.values);
+    write_numbers(counts, &room.numbers);
     Ok(())
 }
 
@@ -173,9 +149,13 @@ pub fn temperature_dependent_properties(
         let q = temperature_table set temperature l in
         (outcome result true ≡ verdict q) × (table.new ≡ (stored l q).values) × (counts.new ≡ (stored l q).numbers) }
 {
-    let sheets = set.sheets;
-    let orders = set.orders;
-    table_of(set.count, &sheets, orders, temperature, table, counts)
+    let pairs = PairsAt {
+        n: set.count,
+        sheets: &set.sheets,
+        orders: set.orders,
+        temperature,
+    };
+    table_of(&pairs, table, counts)
 }
 
 fn pair_searches(pair: FloatPair) -> Result<PairSearches, Refusal>

@@ -10,8 +10,10 @@ ghost use Rattle.saftvrqmie_slopes.specs.Operation.{energies_slopes};
 use dual::Dual;
 use dual_num::NumberList;
 use number::Refusal;
+use saftvrqmie::PairsAt;
 use saftvrqmie_energies_slopes::QuantumEnergiesSlopes;
 use saftvrqmie_parameters::SaftVRQMiePars;
+use saftvrqmie_table_slopes::SlopedTable;
 use sizes::TABLE;
 
 // With a table of its own. 1, 2, 7 for a supplied slope, the table's 6 and 7, the energies' 6 and 7.
@@ -34,8 +36,24 @@ pub fn energies_slopes(
     if !slopes_lists::supplied_finite(n, t, x, rho) {
         return Err(Refusal::NotFinite);
     }
-    let mut table = [0.0; TABLE];
-    let mut slopes = [0.0; TABLE];
-    saftvrqmie_table_slopes::table_slopes(n, &set.sheets, set.orders, t, &mut table, &mut slopes)?;
-    saftvrqmie_energies_slopes::energies_of(set, t, x, rho, &table, &slopes, non_additive)
+    let pairs = PairsAt {
+        n,
+        sheets: &set.sheets,
+        orders: set.orders,
+        temperature: t,
+    };
+    let mut table = SlopedTable {
+        values: [0.0; TABLE],
+        slopes: [0.0; TABLE],
+    };
+    saftvrqmie_table_slopes::table_slopes(&pairs, &mut table)?;
+    saftvrqmie_energies_slopes::energies_of(
+        set,
+        t,
+        x,
+        rho,
+        &table.values,
+        &table.slopes,
+        non_additive,
+    )
 }

@@ -1,97 +1,66 @@
 // The temperature table of a quantum set with slopes (saftvrqmie/eos/mod.rs; document 02, Slip 1): values in one list, their slopes in another.
-// Row and pairs are walked apart from saftvrqmie's: there the second list has counts, bytes in three sheets, here slopes in four.
 #![tactic(auto)]
 
-ghost use Rattle.std.specs.Prelude.{◌≡◌, ◌<◌, ◌≤◌};
+ghost use Rattle.std.specs.Prelude.{◌≡◌, ◌<◌, ◌≤◌, Float};
+ghost use Rattle.number.specs.Arith.{floats};
 ghost use Rattle.sizes.specs.Sizes.{side, sheet};
 ghost use Rattle.elementary.specs.Port.{port};
+ghost use Rattle.dual.specs.Dual.{DualOf};
 ghost use Rattle.dual.specs.Value.{dual_of};
 ghost use Rattle.mie_parameters.specs.Answer.{outcome};
 ghost use Rattle.slopes_lists.specs.Lists.{SlopedList};
 ghost use Rattle.saftvrqmie_properties.specs.Properties.{pair_properties_by};
-ghost use Rattle.saftvrqmie_table_slopes.specs.Table.{store_slopes, slopes_row, slopes_pairs, table_slopes_into};
+ghost use Rattle.saftvrqmie_table_slopes.specs.Table.{store_slopes, properties_at, slope_properties, sloped_of, table_slopes_into};
 
 use dual::Dual;
 use number::Refusal;
-use saftvrqmie::all_finite;
-use saftvrqmie_parameters::OrderRecord;
+use saftvrqmie::{PairStore, PairsAt, all_finite, work_pairs};
 use saftvrqmie_properties::PairProperties;
+use sizes::TABLE;
 use sizes::table::{EPSILON_K_EFF, HS_DIAMETER, QUANTUM_D};
-use sizes::{SHEET, SHEETS, SIDE, TABLE};
 
-fn store(values: &mut [f64; TABLE], slopes: &mut [f64; TABLE], e: usize, p: PairProperties<Dual>)
-    requires { e < sheet }
-    ensures { let old : SlopedList = record { values = values.entry.now; slopes = slopes.old } in
-        let new : SlopedList = record { values = values.exit.now; slopes = slopes.new } in
-        new ≡ store_slopes old e (pair_properties_by dual_of p) }
-{
-    values[e] = p.sigma_eff.re;
-    values[HS_DIAMETER + e] = p.hs_diameter.re;
-    values[EPSILON_K_EFF + e] = p.epsilon_k_eff.re;
-    values[QUANTUM_D + e] = p.quantum_d.re;
-    slopes[e] = p.sigma_eff.eps;
-    slopes[HS_DIAMETER + e] = p.hs_diameter.eps;
-    slopes[EPSILON_K_EFF + e] = p.epsilon_k_eff.eps;
-    slopes[QUANTUM_D + e] = p.quantum_d.eps;
+// A table's values and their slopes.
+#[derive(Drop)]
+pub struct SlopedTable {
+    pub values: [f64; TABLE],
+    pub slopes: [f64; TABLE],
 }
 
-fn work_row(
-    n: usize,
-    s: &[f64; SHEETS],
-    orders: [OrderRecord; SHEET],
-    t: Dual,
-    i: usize,
-    values: &mut [f64; TABLE],
-    slopes: &mut [f64; TABLE],
-) -> Result<(), Refusal>
-    requires { (n ≤ side) × (i < n) }
-    ensures { let old : SlopedList = record { values = values.entry.now; slopes = slopes.old } in
-        let new : SlopedList = record { values = values.exit.now; slopes = slopes.new } in
-        outcome result new ≡ slopes_row port s.now orders (dual_of t) n i old }
-{
-    for j in 0usize..n {
-        let pair = saftvrqmie_potential::pair_at(s, orders, t, SIDE * i + j);
-        let p = saftvrqmie_properties::pair_properties(pair)?;
-        store(values, slopes, SIDE * i + j, p);
-    }
-    Ok(())
-}
+impl PairStore for SlopedTable {
+    type Num = Dual;
 
-fn work_pairs(
-    n: usize,
-    s: &[f64; SHEETS],
-    orders: [OrderRecord; SHEET],
-    t: Dual,
-    values: &mut [f64; TABLE],
-    slopes: &mut [f64; TABLE],
-) -> Result<(), Refusal>
-    requires { n ≤ side }
-    ensures { let old : SlopedList = record { values = values.entry.now; slopes = slopes.old } in
-        let new : SlopedList = record { values = values.exit.now; slopes = slopes.new } in
-        outcome result new ≡ slopes_pairs port s.now orders (dual_of t) n old }
-{
-    for i in 0usize..n {
-        work_row(n, s, orders, t, i, values, slopes)?;
+    ghost kept = { record { Num = DualOf Float; Lists = SlopedList; stored = store_slopes } };
+
+    ghost lists = { sloped_of };
+
+    ghost read = { dual_of };
+
+    ghost properties = { properties_at port };
+
+    ghost properties_law = { slope_properties };
+
+    fn store(&mut self, e: usize, p: PairProperties<Dual>)
+        requires { e < sheet }
+        ensures { sloped_of self.new ≡ store_slopes (sloped_of self.old) e (pair_properties_by dual_of p) }
+    {
+        self.values[e] = p.sigma_eff.re;
+        self.values[HS_DIAMETER + e] = p.hs_diameter.re;
+        self.values[EPSILON_K_EFF + e] = p.epsilon_k_eff.re;
+        self.values[QUANTUM_D + e] = p.quantum_d.re;
+        self.slopes[e] = p.sigma_eff.eps;
+        self.slopes[HS_DIAMETER + e] = p.hs_diameter.eps;
+        self.slopes[EPSILON_K_EFF + e] = p.epsilon_k_eff.eps;
+        self.slopes[QUANTUM_D + e] = p.quantum_d.eps;
     }
-    Ok(())
 }
 
 // The table into two lists of +0: values and slopes. 6 at the first pair that has one, then 7 where a value or a slope is not finite. The operation has tested the count (1): the table has 12 rows of places.
-pub fn table_slopes(
-    n: usize,
-    s: &[f64; SHEETS],
-    orders: [OrderRecord; SHEET],
-    t: Dual,
-    values: &mut [f64; TABLE],
-    slopes: &mut [f64; TABLE],
-) -> Result<(), Refusal>
-    requires { n ≤ side }
-    ensures { let old : SlopedList = record { values = values.entry.now; slopes = slopes.old } in
-        let new : SlopedList = record { values = values.exit.now; slopes = slopes.new } in
-        outcome result new ≡ table_slopes_into port n s.now orders (dual_of t) old }
+pub fn table_slopes(p: &PairsAt<Dual>, into: &mut SlopedTable) -> Result<(), Refusal>
+    requires { p.now.n ≤ side }
+    ensures { outcome result (sloped_of into.new) ≡ table_slopes_into port p.now.n p.now.sheets.now p.now.orders (dual_of p.now.temperature) (sloped_of into.old) }
 {
-    work_pairs(n, s, orders, t, values, slopes)?;
-    if !(all_finite(values) & all_finite(slopes)) {
+    work_pairs(p, into)?;
+    if !(all_finite(&into.values) & all_finite(&into.slopes)) {
         return Err(Refusal::NotFinite);
     }
     Ok(())

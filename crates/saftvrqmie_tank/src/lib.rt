@@ -12,6 +12,7 @@ ghost use Rattle.saftvrqmie_tank.specs.Tank.{Layer, most_layers, lists_of, layer
 use enclosure::Enclosure;
 use number::Refusal;
 use plain_num::PlainNum;
+use saftvrqmie::PairsAt;
 use saftvrqmie_energies::{Energies, QuantumEnergies, StateLists};
 use saftvrqmie_parameters::SaftVRQMiePars;
 use sizes::{COUNTS, TABLE};
@@ -144,14 +145,13 @@ fn layer_of<D: LayerRun>(
     }
     let mut table = [0.0; TABLE];
     let mut counts = [0u8; COUNTS];
-    saftvrqmie::table_of(
+    let pairs = PairsAt {
         n,
-        &set.sheets,
-        set.orders,
+        sheets: &set.sheets,
+        orders: set.orders,
         temperature,
-        &mut table,
-        &mut counts,
-    )?;
+    };
+    saftvrqmie::table_of(&pairs, &mut table, &mut counts)?;
     D::energies(set, temperature, fractions, densities, &table, non_additive)
 }
 

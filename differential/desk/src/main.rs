@@ -2,6 +2,7 @@
 //! in any order, desks of arbitrary bits, and the processor time of a query at a full desk beside the direct calls.
 use unproved::desk::{BYTES, DeskQuery, FLOATS, Served, begin, serve, submit};
 use unproved::number::Refusal;
+use unproved::saftvrqmie::PairsAt;
 use unproved::saftvrqmie_energies::{QuantumEnergies, Set, StateLists, energies_of};
 use unproved::set_lists::QuantumSet;
 use unproved::{limits, saftvrqmie, set_lists};
@@ -109,7 +110,8 @@ impl Query {
     fn directly(&self) -> Answer {
         let (m, sheets, orders) = (set_lists::places(&self.m, 0), set_lists::flat(&self.sheets), set_lists::order_records(&self.orders));
         let (mut table, mut counts) = (vec![7.0; 4 * SHEET], vec![9; 3 * SHEET]);
-        saftvrqmie::table_of(self.count, &sheets, orders, self.temperature, &mut table, &mut counts).map_err(Refusal::code)?;
+        let pairs = PairsAt { n: self.count, sheets: &sheets, orders, temperature: self.temperature };
+        saftvrqmie::table_of(&pairs, &mut table, &mut counts).map_err(Refusal::code)?;
         let (x, rho) = (&self.fractions, &self.densities);
         let set = Set { count: self.count, m: &m, sheets: &sheets, orders: &orders };
         let state = StateLists { temperature: self.temperature, fractions: x, densities: rho, table: &table, non_additive: self.non_additive };
