@@ -245,23 +245,20 @@ fn factors_of<D: DualNum, const ONE: bool>(
 ) -> Factors<D>
     ensures { factors_by (D.of ONE) result ≡ taken_each (D.taken ONE) (factors (D.beside ONE) (quantum_by (D.of ONE) g) order q) }
 {
-    if q == 0 {
-        return factors_0::<D, ONE>();
-    }
-    if q == 1 {
-        return factors_1(g);
-    }
-    if q == 2 {
-        let h = factors_2(g);
-        if saftvrqmie_potential::second_order(order) {
-            return factors_2_more(g, h);
+    match q {
+        0 => factors_0::<D, ONE>(),
+        1 => factors_1(g),
+        2 => {
+            let h = factors_2(g);
+            if saftvrqmie_potential::second_order(order) {
+                factors_2_more(g, h)
+            } else {
+                h
+            }
         }
-        return h;
+        3 => factors_3(g),
+        _ => factors_4(g),
     }
-    if q == 3 {
-        return factors_3(g);
-    }
-    factors_4(g)
 }
 
 fn second_turn<D: DualNum, const ONE: bool>(
@@ -275,7 +272,7 @@ fn second_turn<D: DualNum, const ONE: bool>(
         answer_by (D.of ONE) result ≡ second_turn (D.beside ONE) (dispersion_by (D.plain ONE) (D.of ONE) p.now) (terms_by (D.beside ONE) (D.plain ONE) (D.of ONE) (D.power_at ONE) t.now) (quantum_by (D.of ONE) g) q m }
 {
     let two = D::Plain::lit(2.0);
-    let shift = two * D::Plain::lit(q as f64);
+    let shift = two * D::Plain::lit(f64::from(q));
     let int_a = saftvrqmie_dispersion_terms::combine_at(t, two * p.la + shift)?;
     let int_r = saftvrqmie_dispersion_terms::combine_at(t, two * p.lr + shift)?;
     let int_ar = saftvrqmie_dispersion_terms::combine_at(t, p.la + p.lr + shift)?;
@@ -283,7 +280,7 @@ fn second_turn<D: DualNum, const ONE: bool>(
     Ok(a2 + (int_a * h.afac + int_ar * h.arfac + int_r * h.rfac))
 }
 
-// The turns of the second order: 2 * order + 1.
+// The turns of the second order: 2 * order + 1. An enum's number is read by `as`; it has no From.
 fn turn_count(order: FeynmanHibbsOrder) -> u32
     ensures { result ≡ order_number order * 2 + 1 }
 {

@@ -15,7 +15,7 @@ unfolding second_turn ◌>>=◌ decimal of_bits neg
 returns-in_err-int_a g c k t =
     let w = not (eqb (value_of (number g.row.ONE)) 0) in
     let m = g.met.D.DualNum in
-    let int_a = rw (m.plain_add_law w _ _ _ c.add.ensures, m.plain_mul_law w _ _ _ c.mul.ensures, m.plain_mul_law w _ _ _ c.mul-shift.ensures, m.plain_lit_law w _ _ c.lit.ensures, m.plain_lit_law w _ _ c.lit-two.ensures) at (c.in_err-int_a.ensures w) in
+    let int_a = rw (m.plain_add_law w _ _ _ c.add.ensures, m.plain_mul_law w _ _ _ c.mul.ensures, m.plain_mul_law w _ _ _ c.mul-shift.ensures, m.plain_lit_law w _ _ c.lit.ensures, m.plain_lit_law w _ _ c.lit-two.ensures, c.from.ensures) at (c.in_err-int_a.ensures w) in
     rw (handed_on _ c.from_residual.ensures, ← int_a)
 
 pub returns-in_err-int_r : goal.returns-in_err-int_r
@@ -23,8 +23,8 @@ unfolding second_turn ◌>>=◌ decimal of_bits neg
 returns-in_err-int_r g c k t =
     let w = not (eqb (value_of (number g.row.ONE)) 0) in
     let m = g.met.D.DualNum in
-    let int_a = rw (m.plain_add_law w _ _ _ c.add.ensures, m.plain_mul_law w _ _ _ c.mul.ensures, m.plain_mul_law w _ _ _ c.mul-shift.ensures, m.plain_lit_law w _ _ c.lit.ensures, m.plain_lit_law w _ _ c.lit-two.ensures) at (c.in_ok-int_a.ensures w) in
-    let int_r = rw (m.plain_add_law w _ _ _ c.add-2.ensures, m.plain_mul_law w _ _ _ c.mul-2.ensures, m.plain_mul_law w _ _ _ c.mul-shift.ensures, m.plain_lit_law w _ _ c.lit.ensures, m.plain_lit_law w _ _ c.lit-two.ensures) at (c.in_err-int_r.ensures w) in
+    let int_a = rw (m.plain_add_law w _ _ _ c.add.ensures, m.plain_mul_law w _ _ _ c.mul.ensures, m.plain_mul_law w _ _ _ c.mul-shift.ensures, m.plain_lit_law w _ _ c.lit.ensures, m.plain_lit_law w _ _ c.lit-two.ensures, c.from.ensures) at (c.in_ok-int_a.ensures w) in
+    let int_r = rw (m.plain_add_law w _ _ _ c.add-2.ensures, m.plain_mul_law w _ _ _ c.mul-2.ensures, m.plain_mul_law w _ _ _ c.mul-shift.ensures, m.plain_lit_law w _ _ c.lit.ensures, m.plain_lit_law w _ _ c.lit-two.ensures, c.from.ensures) at (c.in_err-int_r.ensures w) in
     rw (handed_on _ c.from_residual-in_err-int_r.ensures, ← int_a, ← int_r)
 
 pub returns-in_err-int_ar : goal.returns-in_err-int_ar
@@ -32,9 +32,9 @@ unfolding second_turn ◌>>=◌ decimal of_bits neg
 returns-in_err-int_ar g c k t =
     let w = not (eqb (value_of (number g.row.ONE)) 0) in
     let m = g.met.D.DualNum in
-    let int_a = rw (m.plain_add_law w _ _ _ c.add.ensures, m.plain_mul_law w _ _ _ c.mul.ensures, m.plain_mul_law w _ _ _ c.mul-shift.ensures, m.plain_lit_law w _ _ c.lit.ensures, m.plain_lit_law w _ _ c.lit-two.ensures) at (c.in_ok-int_a.ensures w) in
-    let int_r = rw (m.plain_add_law w _ _ _ c.add-2.ensures, m.plain_mul_law w _ _ _ c.mul-2.ensures, m.plain_mul_law w _ _ _ c.mul-shift.ensures, m.plain_lit_law w _ _ c.lit.ensures, m.plain_lit_law w _ _ c.lit-two.ensures) at (c.in_ok-int_r.ensures w) in
-    let int_ar = rw (m.plain_add_law w _ _ _ c.add-4.ensures, m.plain_add_law w _ _ _ c.add-3.ensures, m.plain_mul_law w _ _ _ c.mul-shift.ensures, m.plain_lit_law w _ _ c.lit.ensures, m.plain_lit_law w _ _ c.lit-two.ensures) at (c.in_err-int_ar.ensures w) in
+    let int_a = rw (m.plain_add_law w _ _ _ c.add.ensures, m.plain_mul_law w _ _ _ c.mul.ensures, m.plain_mul_law w _ _ _ c.mul-shift.ensures, m.plain_lit_law w _ _ c.lit.ensures, m.plain_lit_law w _ _ c.lit-two.ensures, c.from.ensures) at (c.in_ok-int_a.ensures w) in
+    let int_r = rw (m.plain_add_law w _ _ _ c.add-2.ensures, m.plain_mul_law w _ _ _ c.mul-2.ensures, m.plain_mul_law w _ _ _ c.mul-shift.ensures, m.plain_lit_law w _ _ c.lit.ensures, m.plain_lit_law w _ _ c.lit-two.ensures, c.from.ensures) at (c.in_ok-int_r.ensures w) in
+    let int_ar = rw (m.plain_add_law w _ _ _ c.add-4.ensures, m.plain_add_law w _ _ _ c.add-3.ensures, m.plain_mul_law w _ _ _ c.mul-shift.ensures, m.plain_lit_law w _ _ c.lit.ensures, m.plain_lit_law w _ _ c.lit-two.ensures, c.from.ensures) at (c.in_err-int_ar.ensures w) in
     rw (handed_on _ c.from_residual-in_err-int_ar.ensures, ← int_a, ← int_r, ← int_ar)
 
 pub returns : goal.returns
@@ -42,9 +42,9 @@ unfolding second_turn ◌>>=◌ decimal of_bits neg
 returns g c k t =
     let w = not (eqb (value_of (number g.row.ONE)) 0) in
     let m = g.met.D.DualNum in
-    let int_a = rw (m.plain_add_law w _ _ _ c.add.ensures, m.plain_mul_law w _ _ _ c.mul.ensures, m.plain_mul_law w _ _ _ c.mul-shift.ensures, m.plain_lit_law w _ _ c.lit.ensures, m.plain_lit_law w _ _ c.lit-two.ensures) at (c.in_ok-int_a.ensures w) in
-    let int_r = rw (m.plain_add_law w _ _ _ c.add-2.ensures, m.plain_mul_law w _ _ _ c.mul-2.ensures, m.plain_mul_law w _ _ _ c.mul-shift.ensures, m.plain_lit_law w _ _ c.lit.ensures, m.plain_lit_law w _ _ c.lit-two.ensures) at (c.in_ok-int_r.ensures w) in
-    let int_ar = rw (m.plain_add_law w _ _ _ c.add-4.ensures, m.plain_add_law w _ _ _ c.add-3.ensures, m.plain_mul_law w _ _ _ c.mul-shift.ensures, m.plain_lit_law w _ _ c.lit.ensures, m.plain_lit_law w _ _ c.lit-two.ensures) at (c.in_ok-int_ar.ensures w) in
+    let int_a = rw (m.plain_add_law w _ _ _ c.add.ensures, m.plain_mul_law w _ _ _ c.mul.ensures, m.plain_mul_law w _ _ _ c.mul-shift.ensures, m.plain_lit_law w _ _ c.lit.ensures, m.plain_lit_law w _ _ c.lit-two.ensures, c.from.ensures) at (c.in_ok-int_a.ensures w) in
+    let int_r = rw (m.plain_add_law w _ _ _ c.add-2.ensures, m.plain_mul_law w _ _ _ c.mul-2.ensures, m.plain_mul_law w _ _ _ c.mul-shift.ensures, m.plain_lit_law w _ _ c.lit.ensures, m.plain_lit_law w _ _ c.lit-two.ensures, c.from.ensures) at (c.in_ok-int_r.ensures w) in
+    let int_ar = rw (m.plain_add_law w _ _ _ c.add-4.ensures, m.plain_add_law w _ _ _ c.add-3.ensures, m.plain_mul_law w _ _ _ c.mul-shift.ensures, m.plain_lit_law w _ _ c.lit.ensures, m.plain_lit_law w _ _ c.lit-two.ensures, c.from.ensures) at (c.in_ok-int_ar.ensures w) in
     rw (
       m.add_law w _ _ _ c.add-7.ensures,
       ← t,
