@@ -8,7 +8,7 @@ use Rattle.number.specs.Lists.{nth}
 use Rattle.sizes.specs.Sizes.{side, sheet, cell}
 use Rattle.saftvrqmie_parameters.specs.declared.OrderRecord.{OrderRecord}
 use Rattle.saftvrqmie_potential.specs.Potential.{PairIn, pair_by, points_of, pair_at_entry}
-use Rattle.saftvrqmie_hard_sphere.specs.State.{sheet_of, sheet_in, Entries}
+use Rattle.saftvrqmie_hard_sphere.specs.State.{sheet_of, sheet_in, entries, Entries}
 use Rattle.saftvrqmie_dispersion_sums.specs.declared.State.{State}
 
 pub record SheetsIn (N : Type 0) : Type 0 where
@@ -57,6 +57,10 @@ module _ (A : Arith) where
         epsilon_k_eff = sheet_in table 2;
         quantum_d = sheet_in table 3;
       }
+
+  -- those of a state, whose lists a run reads
+  abbrev pub sheets_read : {D : Type 0} → (D → Num) → (List Float → List Float → ℕ → Num) → State D → SheetsIn Num
+  sheets_read of entry_of s = sheets_by s.n s.sheets.now s.orders (of s.temperature) (entries entry_of s.table)
 
   -- the entries of the pairs of the first n are those of a
   abbrev pub Pairs : ℕ → List Num → (ℕ → Num) → Type 0

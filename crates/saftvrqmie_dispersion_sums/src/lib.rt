@@ -11,10 +11,10 @@ ghost use Rattle.number.specs.Lists.{nth};
 ghost use Rattle.number.specs.Walk.{walk};
 ghost use Rattle.sizes.specs.Sizes.{sheet};
 ghost use Rattle.mie_parameters.specs.Answer.{outcome};
-ghost use Rattle.saftvrqmie_hard_sphere.specs.State.{points, sheet_in, Tabled, Reads};
+ghost use Rattle.saftvrqmie_hard_sphere.specs.State.{points, sheet_in, entries, Tabled, Reads};
 ghost use Rattle.saftvrqmie_dispersion.specs.Perturbation.{dispersion_by};
 ghost use Rattle.saftvrqmie_dispersion.specs.Alpha.{alpha};
-ghost use Rattle.saftvrqmie_dispersion_sums.specs.State.{sheets_by, Pairs, Right, Rows};
+ghost use Rattle.saftvrqmie_dispersion_sums.specs.State.{sheets_read, Pairs, Right, Rows};
 ghost use Rattle.saftvrqmie_dispersion_sums.specs.Dispersion.{mixture_by, inv_xs_sum, segment_fractions, packing_row, packing, alpha_row, first_row, first, second_row, second, third_row, third, mixture, dispersion_pair_at, dispersion};
 
 use dual_num::{DualNum, NumberList};
@@ -49,7 +49,7 @@ pub struct SegmentState<D> {
 fn inv_x_s_sum<D: DualNum>(s: &State<D>) -> D
     requires { Right D.has s.now }
     ensures { let A = D.beside true in
-        let x = D.entry_of true s.now.fractions.values.now s.now.fractions.slopes.now in
+        let x = entries (D.entry_of true) s.now.fractions in
         D.of true result ≡ inv_xs_sum A s.now.n x (points A s.now.m.now) }
 {
     let x = s.fractions;
@@ -61,7 +61,7 @@ fn inv_x_s_sum<D: DualNum>(s: &State<D>) -> D
 fn segment_fractions<D: DualNum>(s: &State<D>, xs: &mut [D; SIDE])
     requires { Right D.has s.now }
     ensures { let A = D.beside true in
-        let x = D.entry_of true s.now.fractions.values.now s.now.fractions.slopes.now in
+        let x = entries (D.entry_of true) s.now.fractions in
         Reads A (D.of true) s.now.n xs.new (nth A (segment_fractions A s.now.n x (points A s.now.m.now))) }
 {
     let inv = inv_x_s_sum::<D>(s);
@@ -83,7 +83,7 @@ fn packing_row<D: DualNum>(
     requires { Tabled D.has n table.now × (from ≤ 3 * sheet) × (i < n) }
     ensures { let A = D.beside true in
         (x : ℕ → A.Num) (v : A.Num) → Reads A (D.of true) n xs.now x → D.taken true v ≡ D.of true sum →
-        let d = λ (e : ℕ). D.entry_of true table.now.values.now table.now.slopes.now (from + e) in
+        let d = λ (e : ℕ). entries (D.entry_of true) table.now (from + e) in
         D.of true result ≡ packing_row A (D.functions true) n x d i v }
 {
     let mut r = sum;
@@ -101,7 +101,7 @@ fn packing<D: DualNum>(n: usize, xs: &[D; SIDE], table: &NumberList, from: usize
     requires { Tabled D.has n table.now × (from ≤ 3 * sheet) }
     ensures { let A = D.beside true in
         (x : ℕ → A.Num) → Reads A (D.of true) n xs.now x →
-        let d = λ (e : ℕ). D.entry_of true table.now.values.now table.now.slopes.now (from + e) in
+        let d = λ (e : ℕ). entries (D.entry_of true) table.now (from + e) in
         D.of true result ≡ packing A (D.functions true) n x d (D.of true rho_s) }
 {
     let mut r = zero::<D>();
@@ -115,8 +115,8 @@ fn mixture<D: DualNum>(s: &State<D>, xs: &[D; SIDE]) -> SegmentState<D>
     requires { Right D.has s.now }
     ensures { let A = D.beside true in
         (x : ℕ → A.Num) → Reads A (D.of true) s.now.n xs.now x →
-        let of = sheet_in (D.entry_of true s.now.table.values.now s.now.table.slopes.now) in
-        let rho = D.entry_of true s.now.densities.values.now s.now.densities.slopes.now in
+        let of = sheet_in (entries (D.entry_of true) s.now.table) in
+        let rho = entries (D.entry_of true) s.now.densities in
         mixture_by (D.of true) result ≡ mixture A (D.functions true) s.now.n (of 0) (of 1) x rho (points A s.now.m.now) }
 {
     let table = s.table;
@@ -135,8 +135,7 @@ fn mixture<D: DualNum>(s: &State<D>, xs: &[D; SIDE]) -> SegmentState<D>
 fn alpha_at<D: DualNum>(s: &State<D>, e: usize) -> Result<D, Refusal>
     requires { Right D.has s.now × (e < sheet) }
     ensures { let A = D.beside true in
-        let table = D.entry_of true s.now.table.values.now s.now.table.slopes.now in
-        let sheets = sheets_by A s.now.n s.now.sheets.now s.now.orders (D.of true s.now.temperature) table in
+        let sheets = sheets_read A (D.of true) (D.entry_of true) s.now in
         answer_by (D.of true) result ≡ alpha A (D.functions true) (sheets.pair e) (sheets.sigma_eff e) (sheets.epsilon_k_eff e) }
 {
     let table = s.table;
@@ -151,8 +150,7 @@ fn alpha_at<D: DualNum>(s: &State<D>, e: usize) -> Result<D, Refusal>
 fn alpha_row<D: DualNum>(s: &State<D>, i: usize, alphas: &mut [D; SHEET]) -> Result<(), Refusal>
     requires { Right D.has s.now × (i < s.now.n) }
     ensures { let A = D.beside true in
-        let table = D.entry_of true s.now.table.values.now s.now.table.slopes.now in
-        let sheets = sheets_by A s.now.n s.now.sheets.now s.now.orders (D.of true s.now.temperature) table in
+        let sheets = sheets_read A (D.of true) (D.entry_of true) s.now in
         outcome result (map (D.of true) alphas.new) ≡ alpha_row A (D.functions true) sheets i (map (D.of true) alphas.old) }
 {
     for j in i..s.n {
@@ -167,8 +165,7 @@ fn alpha_row<D: DualNum>(s: &State<D>, i: usize, alphas: &mut [D; SHEET]) -> Res
 fn alphas_of<D: DualNum>(s: &State<D>, alphas: &mut [D; SHEET]) -> Result<(), Refusal>
     requires { Right D.has s.now }
     ensures { let A = D.beside true in
-        let table = D.entry_of true s.now.table.values.now s.now.table.slopes.now in
-        let sheets = sheets_by A s.now.n s.now.sheets.now s.now.orders (D.of true s.now.temperature) table in
+        let sheets = sheets_read A (D.of true) (D.entry_of true) s.now in
         outcome result (map (D.of true) alphas.new) ≡ walk s.now.n (alpha_row A (D.functions true) sheets) (map (D.of true) alphas.old) }
 {
     for i in 0usize..s.n {
@@ -193,8 +190,7 @@ fn perturbed_pair<D: DualNum>(
 ) -> DispersionPair<D, D::Plain>
     requires { Right D.has s.now × (e < sheet) }
     ensures { let A = D.beside true in
-        let table = D.entry_of true s.now.table.values.now s.now.table.slopes.now in
-        let sheets = sheets_by A s.now.n s.now.sheets.now s.now.orders (D.of true s.now.temperature) table in
+        let sheets = sheets_read A (D.of true) (D.entry_of true) s.now in
         (x : ℕ → A.Num) → dispersion_by (D.plain true) (D.of true) result ≡ dispersion_pair_at A (D.functions true) sheets x (mixture_by (D.of true) w.now) e }
 {
     let table = s.table;
@@ -231,8 +227,7 @@ fn first_row<D: DualNum>(
 ) -> Result<D, Refusal>
     requires { Right D.has s.now × (i < s.now.n) }
     ensures { let A = D.beside true in
-        let table = D.entry_of true s.now.table.values.now s.now.table.slopes.now in
-        let sheets = sheets_by A s.now.n s.now.sheets.now s.now.orders (D.of true s.now.temperature) table in
+        let sheets = sheets_read A (D.of true) (D.entry_of true) s.now in
         (x : ℕ → A.Num) (v : A.Num) → Reads A (D.of true) s.now.n xs.now x → D.taken true v ≡ D.of true sum →
         answer_by (D.of true) result ≡ first_row A (D.functions true) sheets x (mixture_by (D.of true) w.now) i v }
 {
@@ -253,8 +248,7 @@ fn first_row<D: DualNum>(
 fn first<D: DualNum>(s: &State<D>, xs: &[D; SIDE], w: &SegmentState<D>) -> Result<D, Refusal>
     requires { Right D.has s.now }
     ensures { let A = D.beside true in
-        let table = D.entry_of true s.now.table.values.now s.now.table.slopes.now in
-        let sheets = sheets_by A s.now.n s.now.sheets.now s.now.orders (D.of true s.now.temperature) table in
+        let sheets = sheets_read A (D.of true) (D.entry_of true) s.now in
         (x : ℕ → A.Num) → Reads A (D.of true) s.now.n xs.now x →
         answer_by (D.of true) result ≡ first A (D.functions true) sheets x (mixture_by (D.of true) w.now) }
 {
@@ -263,8 +257,7 @@ fn first<D: DualNum>(s: &State<D>, xs: &[D; SIDE], w: &SegmentState<D>) -> Resul
         |i, a1|
             requires { Right D.has s.now × (i < s.now.n) }
             ensures { let A = D.beside true in
-                let table = D.entry_of true s.entry.now.table.values.now s.entry.now.table.slopes.now in
-                let sheets = sheets_by A s.entry.now.n s.entry.now.sheets.now s.entry.now.orders (D.of true s.entry.now.temperature) table in
+                let sheets = sheets_read A (D.of true) (D.entry_of true) s.entry.now in
                 (x : ℕ → A.Num) (v : A.Num) → Reads A (D.of true) s.entry.now.n xs.entry.now x → D.taken true v ≡ D.of true a1 →
                 answer_by (D.of true) result ≡ first_row A (D.functions true) sheets x (mixture_by (D.of true) w.entry.now) i v }
         { first_row(s, xs, w, i, a1) },
@@ -281,8 +274,7 @@ fn second_row<D: DualNum>(
 ) -> Result<D, Refusal>
     requires { Right D.has s.now × (i < s.now.n) }
     ensures { let A = D.beside true in
-        let table = D.entry_of true s.now.table.values.now s.now.table.slopes.now in
-        let sheets = sheets_by A s.now.n s.now.sheets.now s.now.orders (D.of true s.now.temperature) table in
+        let sheets = sheets_read A (D.of true) (D.entry_of true) s.now in
         (x : ℕ → A.Num) (a : ℕ → A.Num) (v : A.Num) → Reads A (D.of true) s.now.n xs.now x → Pairs A s.now.n (map (D.of true) alphas.now) a → D.taken true v ≡ D.of true sum →
         answer_by (D.of true) result ≡ second_row A (D.functions true) sheets x (mixture_by (D.of true) w.now) a i v }
 {
@@ -311,8 +303,7 @@ fn second<D: DualNum>(
 ) -> Result<D, Refusal>
     requires { Right D.has s.now }
     ensures { let A = D.beside true in
-        let table = D.entry_of true s.now.table.values.now s.now.table.slopes.now in
-        let sheets = sheets_by A s.now.n s.now.sheets.now s.now.orders (D.of true s.now.temperature) table in
+        let sheets = sheets_read A (D.of true) (D.entry_of true) s.now in
         (x : ℕ → A.Num) (a : ℕ → A.Num) → Reads A (D.of true) s.now.n xs.now x → Pairs A s.now.n (map (D.of true) alphas.now) a →
         answer_by (D.of true) result ≡ second A (D.functions true) sheets x (mixture_by (D.of true) w.now) a }
 {
@@ -321,8 +312,7 @@ fn second<D: DualNum>(
         |i, a2|
             requires { Right D.has s.now × (i < s.now.n) }
             ensures { let A = D.beside true in
-                let table = D.entry_of true s.entry.now.table.values.now s.entry.now.table.slopes.now in
-                let sheets = sheets_by A s.entry.now.n s.entry.now.sheets.now s.entry.now.orders (D.of true s.entry.now.temperature) table in
+                let sheets = sheets_read A (D.of true) (D.entry_of true) s.entry.now in
                 (x : ℕ → A.Num) (a : ℕ → A.Num) (v : A.Num) → Reads A (D.of true) s.entry.now.n xs.entry.now x → Pairs A s.entry.now.n (map (D.of true) alphas.entry.now) a → D.taken true v ≡ D.of true a2 →
                 answer_by (D.of true) result ≡ second_row A (D.functions true) sheets x (mixture_by (D.of true) w.entry.now) a i v }
         { second_row(s, xs, w, alphas, i, a2) },
@@ -341,7 +331,7 @@ fn third_row<D: DualNum>(
 ) -> Result<D, Refusal>
     requires { Right D.has s.now × (i < s.now.n) }
     ensures { let A = D.beside true in
-        let depths = sheet_in (D.entry_of true s.now.table.values.now s.now.table.slopes.now) 2 in
+        let depths = sheet_in (entries (D.entry_of true) s.now.table) 2 in
         (x : ℕ → A.Num) (a : ℕ → A.Num) (v : A.Num) → Reads A (D.of true) s.now.n xs.now x → Pairs A s.now.n (map (D.of true) alphas.now) a → D.taken true v ≡ D.of true sum →
         answer_by (D.of true) result ≡ third_row A (D.functions true) s.now.n depths x (D.of true zeta_bar) a i v }
 {
@@ -367,7 +357,7 @@ fn third<D: DualNum>(
 ) -> Result<D, Refusal>
     requires { Right D.has s.now }
     ensures { let A = D.beside true in
-        let depths = sheet_in (D.entry_of true s.now.table.values.now s.now.table.slopes.now) 2 in
+        let depths = sheet_in (entries (D.entry_of true) s.now.table) 2 in
         (x : ℕ → A.Num) (a : ℕ → A.Num) → Reads A (D.of true) s.now.n xs.now x → Pairs A s.now.n (map (D.of true) alphas.now) a →
         answer_by (D.of true) result ≡ third A (D.functions true) s.now.n depths x (D.of true zeta_bar) a }
 {
@@ -376,7 +366,7 @@ fn third<D: DualNum>(
         |i, a3|
             requires { Right D.has s.now × (i < s.now.n) }
             ensures { let A = D.beside true in
-                let depths = sheet_in (D.entry_of true s.entry.now.table.values.now s.entry.now.table.slopes.now) 2 in
+                let depths = sheet_in (entries (D.entry_of true) s.entry.now.table) 2 in
                 (x : ℕ → A.Num) (a : ℕ → A.Num) (v : A.Num) → Reads A (D.of true) s.entry.now.n xs.entry.now x → Pairs A s.entry.now.n (map (D.of true) alphas.entry.now) a → D.taken true v ≡ D.of true a3 →
                 answer_by (D.of true) result ≡ third_row A (D.functions true) s.entry.now.n depths x (D.of true zeta_bar) a i v }
         { third_row(s, xs, zeta_bar, alphas, i, a3) },
@@ -392,10 +382,9 @@ pub fn helmholtz_energy_density<D: DualNum>(
 ) -> Result<D, Refusal>
     requires { Right D.has s.now }
     ensures { let A = D.beside true in
-        let table = D.entry_of true s.now.table.values.now s.now.table.slopes.now in
-        let sheets = sheets_by A s.now.n s.now.sheets.now s.now.orders (D.of true s.now.temperature) table in
-        let x = D.entry_of true s.now.fractions.values.now s.now.fractions.slopes.now in
-        let rho = D.entry_of true s.now.densities.values.now s.now.densities.slopes.now in
+        let sheets = sheets_read A (D.of true) (D.entry_of true) s.now in
+        let x = entries (D.entry_of true) s.now.fractions in
+        let rho = entries (D.entry_of true) s.now.densities in
         answer_by (D.of true) result ≡ dispersion A (D.functions true) sheets x rho (points A s.now.m.now) (D.of true s.now.temperature) }
 {
     segment_fractions(s, xs);

@@ -3,8 +3,8 @@
 
 ghost use Rattle.std.specs.Prelude.{◌≡◌, ◌<◌, true, ℕ, Float, List, [], length};
 ghost use Rattle.number.specs.Answer.{answer_by};
-ghost use Rattle.saftvrqmie_hard_sphere.specs.State.{points};
-ghost use Rattle.saftvrqmie_dispersion_sums.specs.State.{sheets_by, Right};
+ghost use Rattle.saftvrqmie_hard_sphere.specs.State.{points, entries};
+ghost use Rattle.saftvrqmie_dispersion_sums.specs.State.{sheets_by, sheets_read, Right};
 ghost use Rattle.saftvrqmie_energies.specs.Energies.{energies_answer, each_by, each_taken, contributions, energies_finite, state_lengths, tested, energies};
 ghost use Rattle.saftvrqmie_energies.specs.Reads.{set_of};
 
@@ -80,10 +80,9 @@ pub fn contributions<D: DualNum>(
 ) -> Result<Energies<D>, Refusal>
     requires { Right D.has s.now }
     ensures { let A = D.beside true in
-        let table = D.entry_of true s.now.table.values.now s.now.table.slopes.now in
-        let sheets = sheets_by A s.now.n s.now.sheets.now s.now.orders (D.of true s.now.temperature) table in
-        let x = D.entry_of true s.now.fractions.values.now s.now.fractions.slopes.now in
-        let rho = D.entry_of true s.now.densities.values.now s.now.densities.slopes.now in
+        let sheets = sheets_read A (D.of true) (D.entry_of true) s.now in
+        let x = entries (D.entry_of true) s.now.fractions in
+        let rho = entries (D.entry_of true) s.now.densities in
         answer_by (each_by (D.of true)) result ≡ each_taken (D.taken true) (contributions A (D.functions true) sheets x rho (points A s.now.m.now) (D.of true s.now.temperature) wanted) }
 {
     let table = s.table;

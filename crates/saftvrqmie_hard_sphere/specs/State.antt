@@ -24,6 +24,10 @@ module _ (A : Arith) where
 abbrev pub sheet_in : {N : Type 0} → (ℕ → N) → ℕ → ℕ → N
 sheet_in f k e = f (k * sheet + e)
 
+-- a list's entries, as a run reads them
+abbrev pub entries : {N : Type 0} → (List Float → List Float → ℕ → N) → NumberList → ℕ → N
+entries entry_of l = entry_of l.values.now l.slopes.now
+
 -- the first n
 abbrev pub First : ℕ → (ℕ → Type 0) → Type 0
 First n P = (i : ℕ) → i < n → P i

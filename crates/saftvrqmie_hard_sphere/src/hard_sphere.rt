@@ -6,7 +6,7 @@ ghost use Rattle.number.specs.Arith.{whole};
 ghost use Rattle.number.specs.Lists.{nth};
 ghost use Rattle.sizes.specs.Sizes.{side};
 ghost use Rattle.mie_parameters.specs.Sums.{weighted};
-ghost use Rattle.saftvrqmie_hard_sphere.specs.State.{diagonal, points, sheet_in, Components, Listed};
+ghost use Rattle.saftvrqmie_hard_sphere.specs.State.{diagonal, points, sheet_in, entries, Components, Listed};
 ghost use Rattle.saftvrqmie_hard_sphere.specs.HardSphere.{ZetaIn, Zeta23In, zeta_by, zeta_each, zeta23_by, zeta23_each, zeta_added, frac1mz3, zeta23_added, hard_sphere_of, zeta, zeta23, hard_sphere_from};
 
 use dual_num::{DualNum, NumberList};
@@ -14,6 +14,7 @@ use number::{Arithmetic, Refusal};
 use sizes::SIDE;
 use sizes::table::HS_DIAMETER;
 
+// The four sums of `zeta`. Fields, not an array: a generic function cannot own an array of its numbers.
 #[derive(Clone, Copy)]
 pub struct Zetas<D> {
     pub z0: D,
@@ -22,7 +23,7 @@ pub struct Zetas<D> {
     pub z3: D,
 }
 
-// The two sums of `zeta_23`. Fields, as in Zetas: a generic function cannot own an array of its numbers.
+// The two sums of `zeta_23`.
 #[derive(Clone, Copy)]
 struct Zeta23<D> {
     y0: D,
@@ -61,8 +62,8 @@ fn zeta_added<D: DualNum>(rho: D, d: D, m: D::Plain, z: Zetas<D>) -> Zetas<D>
 // Here and in the energies below, counts and lists are asked for that an operation has let pass: it refuses others with 1 before it sums.
 pub fn zeta<D: DualNum>(n: usize, rho: &NumberList, table: &NumberList, m: &[f64; SIDE]) -> Zetas<D>
     requires { Listed D.has n rho.now table.now }
-    ensures { (w : Bool) → let rho = D.entry_of w rho.now.values.now rho.now.slopes.now in
-        let d = diagonal (sheet_in (D.entry_of w table.now.values.now table.now.slopes.now) 1) in
+    ensures { (w : Bool) → let rho = entries (D.entry_of w) rho.now in
+        let d = diagonal (sheet_in (entries (D.entry_of w) table.now) 1) in
         zeta_by (D.of w) result ≡ zeta (D.beside w) (D.functions w) n rho d (points (D.beside w) m.now) }
 {
     let none = zero::<D>();
@@ -98,8 +99,8 @@ fn zeta_23_added<D: DualNum>(x: D, d: D, m: D::Plain, y: Zeta23<D>) -> Zeta23<D>
 
 fn zeta_23<D: DualNum>(n: usize, x: &NumberList, table: &NumberList, m: &[f64; SIDE]) -> D
     requires { Listed D.has n x.now table.now }
-    ensures { (w : Bool) → let x = D.entry_of w x.now.values.now x.now.slopes.now in
-        let d = diagonal (sheet_in (D.entry_of w table.now.values.now table.now.slopes.now) 1) in
+    ensures { (w : Bool) → let x = entries (D.entry_of w) x.now in
+        let d = diagonal (sheet_in (entries (D.entry_of w) table.now) 1) in
         D.of w result ≡ zeta23 (D.beside w) n x d (points (D.beside w) m.now) }
 {
     let none = zero::<D>();
@@ -133,8 +134,8 @@ pub fn helmholtz_energy_density<D: DualNum>(
     z: Zetas<D>,
 ) -> Result<D, Refusal>
     requires { Listed D.has n x.now table.now }
-    ensures { (w : Bool) → let x = D.entry_of w x.now.values.now x.now.slopes.now in
-        let d = diagonal (sheet_in (D.entry_of w table.now.values.now table.now.slopes.now) 1) in
+    ensures { (w : Bool) → let x = entries (D.entry_of w) x.now in
+        let d = diagonal (sheet_in (entries (D.entry_of w) table.now) 1) in
         answer_by (D.of w) result ≡ hard_sphere_from (D.beside w) (D.functions w) n x d (points (D.beside w) m.now) (zeta_by (D.of w) z) }
 {
     let v = z.z3 * D::Plain::lit(-1.0);
@@ -145,7 +146,7 @@ pub fn helmholtz_energy_density<D: DualNum>(
 
 pub fn segment_density<D: DualNum>(n: usize, rho: &NumberList, m: &[f64; SIDE]) -> D
     requires { Components D.has n rho.now }
-    ensures { (w : Bool) → let rho = D.entry_of w rho.now.values.now rho.now.slopes.now in
+    ensures { (w : Bool) → let rho = entries (D.entry_of w) rho.now in
         D.of w result ≡ weighted (D.beside w) n rho (points (D.beside w) m.now) }
 {
     let mut r = zero::<D>();

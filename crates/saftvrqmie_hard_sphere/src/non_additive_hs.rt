@@ -1,9 +1,9 @@
 // The non-additive hard sphere's contribution (saftvrqmie/eos/non_additive_hs.rs).
-// Loops count, as in hard_sphere.rs, which says why.
+// Loops count, as in hard_sphere.rs, which says why. One sum over the pairs: a walk over a closure, as the dispersion's three orders have it, would have the column's clauses twice.
 ghost use Rattle.std.specs.Prelude.{◌≡◌, ◌<◌, ℕ, Bool, cond};
 ghost use Rattle.number.specs.Arith.{whole};
 ghost use Rattle.number.specs.Lists.{nth};
-ghost use Rattle.saftvrqmie_hard_sphere.specs.State.{diagonal, points, sheet_in, Components, Tabled, Listed, Reads};
+ghost use Rattle.saftvrqmie_hard_sphere.specs.State.{diagonal, points, sheet_in, entries, Components, Tabled, Listed, Reads};
 ghost use Rattle.saftvrqmie_hard_sphere.specs.HardSphere.{zeta_by, zeta};
 ghost use Rattle.saftvrqmie_hard_sphere.specs.NonAdditive.{g_hs, non_additive_ij, non_additive_column, non_additive_sum, density_shares, non_additive};
 
@@ -48,7 +48,7 @@ fn density_shares<D: DualNum>(
 )
     requires { Components D.has n rho.now }
     ensures { (w : Bool) → let A = D.beside w in
-        let rho = D.entry_of w rho.now.values.now rho.now.slopes.now in
+        let rho = entries (D.entry_of w) rho.now in
         Reads A (D.of w) n xs.new (nth A (density_shares A (D.functions w) n (D.of w rho_s) rho (points A m.now))) }
 {
     for i in 0usize..n {
@@ -67,7 +67,7 @@ fn non_additive_column<D: DualNum>(
 ) -> D
     requires { Tabled D.has n table.now × (j < n) }
     ensures { (w : Bool) (x : ℕ → (D.beside w).Num) (v : (D.beside w).Num) → Reads (D.beside w) (D.of w) n xs.now x → D.taken w v ≡ D.of w sum →
-        let d = sheet_in (D.entry_of w table.now.values.now table.now.slopes.now) 1 in
+        let d = sheet_in (entries (D.entry_of w) table.now) 1 in
         D.of w result ≡ non_additive_column (D.beside w) (D.functions w) n x d (D.of w s.rho_s) (D.of w s.z2) (D.of w s.f) j v }
 {
     let mut r = sum;
@@ -85,7 +85,7 @@ fn non_additive_column<D: DualNum>(
 fn non_additive_sum<D: DualNum>(n: usize, xs: &[D; SIDE], table: &NumberList, s: Shared<D>) -> D
     requires { Tabled D.has n table.now }
     ensures { (w : Bool) (x : ℕ → (D.beside w).Num) → Reads (D.beside w) (D.of w) n xs.now x →
-        let d = sheet_in (D.entry_of w table.now.values.now table.now.slopes.now) 1 in
+        let d = sheet_in (entries (D.entry_of w) table.now) 1 in
         D.of w result ≡ non_additive_sum (D.beside w) (D.functions w) n x d (D.of w s.rho_s) (D.of w s.z2) (D.of w s.f) }
 {
     let mut r = zero::<D>();
@@ -105,8 +105,8 @@ fn non_additive<D: DualNum>(
 ) -> D
     requires { Listed D.has n rho.now table.now }
     ensures { (w : Bool) → let A = D.beside w in
-        let rho = D.entry_of w rho.now.values.now rho.now.slopes.now in
-        let d = sheet_in (D.entry_of w table.now.values.now table.now.slopes.now) 1 in
+        let rho = entries (D.entry_of w) rho.now in
+        let d = sheet_in (entries (D.entry_of w) table.now) 1 in
         zeta_by (D.of w) z ≡ zeta A (D.functions w) n rho (diagonal d) (points A m.now) →
         D.of w result ≡ non_additive A (D.functions w) n rho (points A m.now) d }
 {
@@ -131,8 +131,8 @@ pub fn wanted_part<D: DualNum>(
 ) -> D
     requires { Listed D.has n rho.now table.now }
     ensures { (w : Bool) → let A = D.beside w in
-        let rho = D.entry_of w rho.now.values.now rho.now.slopes.now in
-        let d = sheet_in (D.entry_of w table.now.values.now table.now.slopes.now) 1 in
+        let rho = entries (D.entry_of w) rho.now in
+        let d = sheet_in (entries (D.entry_of w) table.now) 1 in
         zeta_by (D.of w) z ≡ zeta A (D.functions w) n rho (diagonal d) (points A m.now) →
         D.of w result ≡ cond wanted (non_additive A (D.functions w) n rho (points A m.now) d) (D.taken w (whole A 0)) }
 {
