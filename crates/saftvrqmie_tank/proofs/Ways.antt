@@ -78,10 +78,10 @@ row_small n l k p q b = omega (arith, product_small n k p q, row_within n l k b)
 pub part_is : (n l : ℕ) (d : List Float) → take (n * l + n - n * l) (drop (n * l) d) ≡ take n (drop (n * l) d)
 part_is n l d = let h : n * l + n - n * l ≡ n = omega arith in rw h
 
-pub part_length : (n l k : ℕ) (d : List Float) → length d ≡ n * k → l < k → length (take (n * l + n - n * l) (drop (n * l) d)) ≡ n
-part_length n l k d p b =
+pub share_length : (n l k : ℕ) (d : List Float) → length d ≡ n * k → l < k → length (take n (drop (n * l) d)) ≡ n
+share_length n l k d p b =
     let h : n ≤ length (drop (n * l) d) = rw length-drop (omega (arith, p, row_within n l k b)) in
-    rw (part_is n l d) (length-take-le n (drop (n * l) d) h)
+    length-take-le n (drop (n * l) d) h
 
 -- what an operation's answer, and what it was lent, say of it
 was : {S : Type 0} (a : Ans S) (l : S) → verdict a ≡ held true → a ≡ held (stored l a)
@@ -141,21 +141,35 @@ part n l d = take (n * l + n - n * l) (drop (n * l) d)
 abbrev lent_layer : ℕ → TankLists → ℕ → Layer
 lent_layer n q l = record { temperature = at q.temperatures l; fractions = part n l q.fractions; densities = part n l q.densities; volume = at q.volumes l }
 
-layer_is : (n : ℕ) (q : TankLists) (l : ℕ) → lent_layer n q l ≡ layer_at n q l
+pub layer_is : (n : ℕ) (q : TankLists) (l : ℕ) → lent_layer n q l ≡ layer_at n q l
 unfolding layer_at
 layer_is n q l = rw (part_is n l q.fractions, part_is n l q.densities)
 
-pub answer_at : (A : Arith) (s : SaftVRQMiePars) (q : TankLists) (wanted : Bool) (l : ℕ) (a : Ans (EnergiesIn A.Num)) → a ≡ layer_answer A s (lent_layer s.count q l) wanted → a ≡ answers_in A s q wanted l
-answer_at A s q wanted l a h = h ∙ ap (λ (y : Layer). layer_answer A s y wanted) (layer_is s.count q l)
+-- a layer that is layer l
+module _ (n : ℕ) (q : TankLists) (l : ℕ) (y : Layer) (is : y ≡ layer_at n q l) where
+  pub layer_lengths : tank_lengths n q ≡ true → l < q.layers → (length y.fractions ≡ n) × (length y.densities ≡ n)
+  unfolding layer_at
+  layer_lengths p b = let h = long n q p in rw is (share_length n l q.layers q.fractions h.fractions b, share_length n l q.layers q.densities h.densities b)
+
+  pub layer_volume : y.volume ≡ at q.volumes l
+  unfolding layer_at
+  layer_volume = ap (λ (y : Layer). y.volume) is
+
+  pub layer_temperature : y.temperature ≡ at q.temperatures l
+  unfolding layer_at
+  layer_temperature = ap (λ (y : Layer). y.temperature) is
+
+pub answer_at : (A : Arith) (s : SaftVRQMiePars) (q : TankLists) (wanted : Bool) (l : ℕ) (y : Layer) (a : Ans (EnergiesIn A.Num)) → y ≡ layer_at s.count q l → a ≡ layer_answer A s y wanted → a ≡ answers_in A s q wanted l
+answer_at A s q wanted l y a is h = h ∙ ap (λ (y : Layer). layer_answer A s y wanted) is
 
 -- ---- the layers, in any run
 module _ (A : Arith) (q : TankLists) (wanted : Bool) (answers : ℕ → Ans (EnergiesIn A.Num)) where
   unfoldable pub turn : ℕ → EnergiesIn A.Num → Ans (EnergiesIn A.Num)
   turn l below = answers l >>= λ e. held (layer_piled A wanted (at q.volumes l) (at q.temperatures l) e below)
 
-  pub pile_next : (l : ℕ) (below e next : EnergiesIn A.Num) → held below ≡ walk l turn (bottom A) → answers l ≡ held e → next ≡ layer_piled A wanted (at q.volumes l) (at q.temperatures l) e below → held next ≡ walk (l + 1) turn (bottom A)
+  pub pile_next : (l : ℕ) (below e next : EnergiesIn A.Num) (v t : Float) → v ≡ at q.volumes l → t ≡ at q.temperatures l → held below ≡ walk l turn (bottom A) → answers l ≡ held e → next ≡ layer_piled A wanted v t e below → held next ≡ walk (l + 1) turn (bottom A)
   unfolding turn ◌>>=◌
-  pile_next l below e next h g p = walk_next turn (bottom A) l below next h (rw (g, p))
+  pile_next l below e next v t is-v is-t h g p = walk_next turn (bottom A) l below next h (rw (g, p, is-v, is-t))
 
   pub pile_stop : (l : ℕ) (below : EnergiesIn A.Num) → l < q.layers → held below ≡ walk l turn (bottom A) → (a : Ans (EnergiesIn A.Num)) (k : ℕ) → a ≡ answers l → a ≡ refused k → a ≡ tank_sum A q wanted answers
   unfolding tank_sum turn ◌>>=◌

@@ -11,6 +11,7 @@ use Rattle.limits.specs.Limits.{count_within, state_within}
 use Rattle.saftvrqmie_parameters.specs.declared.SaftVRQMiePars.{SaftVRQMiePars}
 use Rattle.saftvrqmie.specs.Table.{blank, temperature_table}
 use Rattle.saftvrqmie_energies.specs.Energies.{EnergiesIn, contributions_of, energies_finite, energies_from}
+use Rattle.saftvrqmie_tank.specs.declared.Layer.{Layer as LentLayer}
 use Rattle.saftvrqmie_tank.specs.declared.Layers.{Layers}
 
 -- 'Take 1 to 32 layers'
@@ -41,6 +42,9 @@ pub record Layer : Type 0 where
   pub fractions : List Float
   pub densities : List Float
   pub volume : Float
+
+abbrev pub layer_in : LentLayer → Layer
+layer_in y = record { temperature = y.temperature; fractions = y.fractions.now; densities = y.densities.now; volume = y.volume }
 
 -- what a list has for layer l, of n components
 abbrev pub share_of : ℕ → ℕ → List Float → List Float

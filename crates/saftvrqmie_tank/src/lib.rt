@@ -1,13 +1,13 @@
 // Slip 10: the energies of a tank in layers, over one quantum set; the walk over its layers, of the float and of the two-ended run.
 #![tactic(auto)]
 
-ghost use Rattle.std.specs.Prelude.{◌≡◌, true, cond, ◌≤◌, length, Bool};
+ghost use Rattle.std.specs.Prelude.{◌≡◌, true, cond, ◌<◌, ◌≤◌, length, Bool};
 ghost use Rattle.number.specs.Answer.{answer_by};
 ghost use Rattle.number.specs.Arith.{zero64};
 ghost use Rattle.number.specs.Functions.{calls};
 ghost use Rattle.elementary.specs.Port.{port};
 ghost use Rattle.saftvrqmie_energies.specs.Energies.{each_by, energies_answer, contributions_of, energies};
-ghost use Rattle.saftvrqmie_tank.specs.Tank.{Layer, most_layers, lists_of, layers_within, tank_lengths, volume_within, layer_within, piled, layer_piled, behind, layer_answer, layers_answer, tank};
+ghost use Rattle.saftvrqmie_tank.specs.Tank.{most_layers, lists_of, layer_in, layer_at, layers_within, tank_lengths, volume_within, layer_within, piled, layer_piled, behind, layer_answer, layers_answer, tank};
 
 use enclosure::Enclosure;
 use number::Refusal;
@@ -30,62 +30,35 @@ pub struct Layers<'a> {
     pub volumes: &'a [f64],
 }
 
+// A layer of a tank, whose lists are parts of the tank's.
+#[derive(Clone, Copy)]
+pub struct Layer<'a> {
+    pub temperature: f64,
+    pub fractions: &'a [f64],
+    pub densities: &'a [f64],
+    pub volume: f64,
+}
+
 // A run that works a layer's energies from its table. 1, 2, 6, 7 of the float run.
-// The arguments stand alone: of a trait's method that takes `Set` and `StateLists`, which carry lifetimes, the proof of `layer_of` did not close.
 pub trait LayerRun: PlainNum {
-    fn energies(
-        set: &SaftVRQMiePars,
-        temperature: f64,
-        fractions: &[f64],
-        densities: &[f64],
-        table: &[f64],
-        non_additive: bool,
-    ) -> Result<Energies<Self>, Refusal>
+    fn energies(set: &SaftVRQMiePars, q: &StateLists) -> Result<Energies<Self>, Refusal>
         ensures { let s = set.now in
-            let float = energies s temperature fractions.now densities.now table.now non_additive in
+            let float = energies s q.now.temperature q.now.fractions.now q.now.densities.now q.now.table.now q.now.non_additive in
             let A = Self.beside true in
-            answer_by (each_by (Self.of true)) result ≡ behind float (contributions_of A (calls A port) s temperature fractions.now densities.now table.now non_additive) };
+            answer_by (each_by (Self.of true)) result ≡ behind float (contributions_of A (calls A port) s q.now.temperature q.now.fractions.now q.now.densities.now q.now.table.now q.now.non_additive) };
 }
 
 impl LayerRun for f64 {
-    fn energies(
-        set: &SaftVRQMiePars,
-        temperature: f64,
-        fractions: &[f64],
-        densities: &[f64],
-        table: &[f64],
-        non_additive: bool,
-    ) -> Result<Energies<f64>, Refusal> {
+    fn energies(set: &SaftVRQMiePars, q: &StateLists) -> Result<Energies<f64>, Refusal> {
         let parts = saftvrqmie_energies::lent(set);
-        let q = StateLists {
-            temperature,
-            fractions,
-            densities,
-            table,
-            non_additive,
-        };
-        saftvrqmie_energies::energies_of(&parts, &q)
+        saftvrqmie_energies::energies_of(&parts, q)
     }
 }
 
 impl LayerRun for Enclosure {
-    fn energies(
-        set: &SaftVRQMiePars,
-        temperature: f64,
-        fractions: &[f64],
-        densities: &[f64],
-        table: &[f64],
-        non_additive: bool,
-    ) -> Result<Energies<Enclosure>, Refusal> {
+    fn energies(set: &SaftVRQMiePars, q: &StateLists) -> Result<Energies<Enclosure>, Refusal> {
         let parts = saftvrqmie_energies::lent(set);
-        let q = StateLists {
-            temperature,
-            fractions,
-            densities,
-            table,
-            non_additive,
-        };
-        saftvrqmie_energies_ends::enclosures_of(&parts, &q)
+        saftvrqmie_energies_ends::enclosures_of(&parts, q)
     }
 }
 
@@ -117,30 +90,40 @@ fn volume_within(v: f64) -> bool
     (0.0 < v) & (v <= 1e30)
 }
 
-// 2 of a layer, whose lists are parts of the tank's: `tank_lengths` has tested these.
-pub fn layer_within(n: usize, t: f64, x: &[f64], rho: &[f64], volume: f64) -> bool
-    requires { (length x.now ≡ n) × (length rho.now ≡ n) }
-    ensures { let y : Layer = record { temperature = t; fractions = x.now; densities = rho.now; volume = volume } in
-        result ≡ layer_within n y }
+// 2 of a layer, whose lists `tank_lengths` has tested.
+pub fn layer_within(n: usize, y: &Layer) -> bool
+    requires { (length y.now.fractions.now ≡ n) × (length y.now.densities.now ≡ n) }
+    ensures { result ≡ layer_within n (layer_in y.now) }
 {
-    limits::state_within(n, t, x, rho) & volume_within(volume)
+    limits::state_within(n, y.temperature, y.fractions, y.densities) & volume_within(y.volume)
+}
+
+// Layer l, from the bottom up, of a tank whose layer count and lists were tested with 14 and 1.
+fn layer_at<'a>(n: usize, q: &Layers<'a>, l: usize) -> Layer<'a>
+    requires { (l < q.now.layers) × (q.now.layers ≤ most_layers) × (tank_lengths n (lists_of q.now) ≡ true) }
+    ensures { layer_in result ≡ layer_at n (lists_of q.now) l }
+{
+    let from = n * l;
+    let to = from + n;
+    Layer {
+        temperature: q.temperatures[l],
+        fractions: &q.fractions[from..to],
+        densities: &q.densities[from..to],
+        volume: q.volumes[l],
+    }
 }
 
 // A layer's table and energies. 2 before all else of it, the table's 6 and 7, the energies' 6 and 7.
 fn layer_of<D: LayerRun>(
     set: &SaftVRQMiePars,
-    temperature: f64,
-    fractions: &[f64],
-    densities: &[f64],
-    volume: f64,
+    y: &Layer,
     non_additive: bool,
 ) -> Result<Energies<D>, Refusal>
-    requires { (length fractions.now ≡ set.now.count) × (length densities.now ≡ set.now.count) }
-    ensures { let y : Layer = record { temperature = temperature; fractions = fractions.now; densities = densities.now; volume = volume } in
-        answer_by (each_by (D.of true)) result ≡ layer_answer (D.beside true) set.now y non_additive }
+    requires { (length y.now.fractions.now ≡ set.now.count) × (length y.now.densities.now ≡ set.now.count) }
+    ensures { answer_by (each_by (D.of true)) result ≡ layer_answer (D.beside true) set.now (layer_in y.now) non_additive }
 {
     let n = set.count;
-    if !layer_within(n, temperature, fractions, densities, volume) {
+    if !layer_within(n, y) {
         return Err(Refusal::Limit);
     }
     let mut table = [0.0; TABLE];
@@ -149,49 +132,49 @@ fn layer_of<D: LayerRun>(
         n,
         sheets: &set.sheets,
         orders: set.orders,
-        temperature,
+        temperature: y.temperature,
     };
     saftvrqmie::table_of(&pairs, &mut table, &mut counts)?;
-    D::energies(set, temperature, fractions, densities, &table, non_additive)
+    let q = StateLists {
+        temperature: y.temperature,
+        fractions: y.fractions,
+        densities: y.densities,
+        table: &table,
+        non_additive,
+    };
+    D::energies(set, &q)
 }
 
-fn piled<D: PlainNum>(volume: f64, temperature: f64, energy: D, below: D) -> D
-    ensures { (w : Bool) → D.of w result ≡ piled (D.beside w) volume temperature (D.of w energy) (D.of w below) }
+fn piled<D: PlainNum>(y: &Layer, energy: D, below: D) -> D
+    ensures { (w : Bool) → D.of w result ≡ piled (D.beside w) y.now.volume y.now.temperature (D.of w energy) (D.of w below) }
 {
-    let v = D::entered(volume);
-    let t = D::entered(temperature);
+    let v = D::entered(y.volume);
+    let t = D::entered(y.temperature);
     below + energy * v * t
 }
 
 // Not wanted: +0, and nothing of it is worked.
-fn wanted_pile<D: PlainNum>(wanted: bool, volume: f64, temperature: f64, energy: D, below: D) -> D
-    ensures { (w : Bool) → D.of w result ≡ cond wanted (piled (D.beside w) volume temperature (D.of w energy) (D.of w below)) ((D.beside w).lit zero64) }
+fn wanted_pile<D: PlainNum>(wanted: bool, y: &Layer, energy: D, below: D) -> D
+    ensures { (w : Bool) → D.of w result ≡ cond wanted (piled (D.beside w) y.now.volume y.now.temperature (D.of w energy) (D.of w below)) ((D.beside w).lit zero64) }
 {
     if !wanted {
         return D::entered(0.0);
     }
-    piled(volume, temperature, energy, below)
+    piled(y, energy, below)
 }
 
 // A layer's energies on those of the layers below it.
 fn layer_piled<D: PlainNum>(
     wanted: bool,
-    volume: f64,
-    temperature: f64,
+    y: &Layer,
     e: Energies<D>,
     below: Energies<D>,
 ) -> Energies<D>
-    ensures { (w : Bool) → each_by (D.of w) result ≡ layer_piled (D.beside w) wanted volume temperature (each_by (D.of w) e) (each_by (D.of w) below) }
+    ensures { (w : Bool) → each_by (D.of w) result ≡ layer_piled (D.beside w) wanted y.now.volume y.now.temperature (each_by (D.of w) e) (each_by (D.of w) below) }
 {
-    let h = piled(volume, temperature, e.hard_sphere, below.hard_sphere);
-    let d = piled(volume, temperature, e.dispersion, below.dispersion);
-    let a = wanted_pile(
-        wanted,
-        volume,
-        temperature,
-        e.non_additive,
-        below.non_additive,
-    );
+    let h = piled(y, e.hard_sphere, below.hard_sphere);
+    let d = piled(y, e.dispersion, below.dispersion);
+    let a = wanted_pile(wanted, y, e.non_additive, below.non_additive);
     Energies {
         hard_sphere: h,
         dispersion: d,
@@ -217,14 +200,9 @@ pub fn layers_of<D: LayerRun>(
     };
     // By the layer's number: it places four lists, of which two are cut into a layer's parts.
     for l in 0usize..q.layers {
-        let from = n * l;
-        let to = from + n;
-        let t = q.temperatures[l];
-        let v = q.volumes[l];
-        let x = &q.fractions[from..to];
-        let rho = &q.densities[from..to];
-        let e = layer_of::<D>(set, t, x, rho, v, non_additive)?;
-        let next = layer_piled(non_additive, v, t, e, below);
+        let y = layer_at(n, q, l);
+        let e = layer_of::<D>(set, &y, non_additive)?;
+        let next = layer_piled(non_additive, &y, e, below);
         below = next;
     }
     Ok(below)

@@ -7,4 +7,4 @@ use Rattle.saftvrqmie_tank.proofs.EnclosureLayerRun.energies.Goals as goal
 
 pub returns : goal.returns
 unfolding energies_enclosed
-returns c = c.enclosures_of.ensures ∙ ap (λ (s : SaftVRQMiePars). energies_enclosed port s c.args.temperature c.args.fractions.now c.args.densities.now c.args.table.now c.args.non_additive) c.lent-parts.ensures
+returns c = c.enclosures_of.ensures ∙ ap (λ (s : SaftVRQMiePars). energies_enclosed port s c.args.q.now.temperature c.args.q.now.fractions.now c.args.q.now.densities.now c.args.q.now.table.now c.args.q.now.non_additive) c.lent-parts.ensures
