@@ -1,11 +1,13 @@
 -- The total, test by test, over plain values. Assumes nothing.
-use mathlib.Core.Path.{◌≡◌}
+use mathlib.Core.Path.{◌≡◌, refl}
+use native.Mathlib.Omega.{arith}
 use mathlib.Core.List.{List}
 use mathlib.Core.Bool.{Bool, true, false}
 use Prim.Native.Nat.{ℕ}
 use lib.Ieee.{Float}
 use lib.Ieee.Scale.{finite}
 use Rattle.number.specs.Ans.{held, refused, ◌>>=◌, demand}
+use Rattle.number.specs.Answer.{if_finite}
 use Rattle.number.specs.Arith.{zero64}
 use Rattle.rounded_sum.specs.declared.RoundedSum.{RoundedSum}
 use Rattle.rounded_sum.specs.RoundedSum.{rounded_sum}
@@ -13,24 +15,41 @@ use Rattle.saftvrqmie_parameters.specs.declared.SaftVRQMiePars.{SaftVRQMiePars}
 use Rattle.saftvrqmie_energies.specs.Energies.{EnergiesIn, energies}
 use Rattle.saftvrqmie_total.specs.Total.{finite_sum, contributions_total, total}
 
-module _ (e : EnergiesIn Float) (a : RoundedSum) (is-a : a ≡ rounded_sum e.hard_sphere e.dispersion) where
-  pub first_7 : (wanted : Bool) → finite a.sum ≡ false → refused 7 ≡ contributions_total e wanted
-  unfolding contributions_total finite_sum demand ◌>>=◌
-  first_7 wanted p = rw (← is-a, p)
+-- a rounded sum, refused or held as its number is
+module _ (x y : Float) (a : RoundedSum) (is-a : a ≡ rounded_sum x y) where
+  pub sum_refused : (k : ℕ) → if_finite a.sum ≡ refused k → refused k ≡ finite_sum x y
+  unfolding if_finite finite_sum demand ◌>>=◌
+  sum_refused k p = rw (← is-a) (go (finite a.sum) p)
+    where
+      go : (b : Bool) → (demand 7 b >>= λ _. held a.sum) ≡ refused k → refused k ≡ (demand 7 b >>= λ _. held a)
+      go true p = let z : ◌≡◌ {A = ℕ} 0 1 = cc in absurd (omega arith)
+      go false p = let z : ◌≡◌ {A = ℕ} k 7 = cc in rw z
 
-  module _ (p : finite a.sum ≡ true) where
-    pub alone : (wanted : Bool) → wanted ≡ false → held (record { first = a; last = record { sum = a.sum; remainder = zero64 } }) ≡ contributions_total e wanted
-    unfolding contributions_total finite_sum demand ◌>>=◌
-    alone wanted w = rw (← is-a, p, w)
+  pub sum_held : (v : Float) → if_finite a.sum ≡ held v → held a ≡ finite_sum x y
+  unfolding if_finite finite_sum demand ◌>>=◌
+  sum_held v p = rw (← is-a) (go (finite a.sum) p)
+    where
+      go : (b : Bool) → (demand 7 b >>= λ _. held a.sum) ≡ held v → held a ≡ (demand 7 b >>= λ _. held a)
+      go true p = refl
+      go false p = let z : ◌≡◌ {A = ℕ} 0 1 = cc in absurd (omega arith)
 
-    module _ (b : RoundedSum) (is_b : b ≡ rounded_sum a.sum e.non_additive) (wanted : Bool) (w : wanted ≡ true) where
-      pub last_7 : finite b.sum ≡ false → refused 7 ≡ contributions_total e wanted
-      unfolding contributions_total finite_sum demand ◌>>=◌
-      last_7 q = rw (← is-a, p, w, ← is_b, q)
+module _ (e : EnergiesIn Float) (wanted : Bool) where
+  pub first_refused : (k : ℕ) → finite_sum e.hard_sphere e.dispersion ≡ refused k → refused k ≡ contributions_total e wanted
+  unfolding contributions_total ◌>>=◌
+  first_refused k p = rw p
 
-      pub both : finite b.sum ≡ true → held (record { first = a; last = b }) ≡ contributions_total e wanted
-      unfolding contributions_total finite_sum demand ◌>>=◌
-      both q = rw (← is-a, p, w, ← is_b, q)
+  module _ (a : RoundedSum) (p : finite_sum e.hard_sphere e.dispersion ≡ held a) where
+    pub alone : wanted ≡ false → held (record { first = a; last = record { sum = a.sum; remainder = zero64 } }) ≡ contributions_total e wanted
+    unfolding contributions_total ◌>>=◌
+    alone w = rw (p, w)
+
+    pub last_refused : (k : ℕ) → wanted ≡ true → finite_sum a.sum e.non_additive ≡ refused k → refused k ≡ contributions_total e wanted
+    unfolding contributions_total ◌>>=◌
+    last_refused k w q = rw (p, w, q)
+
+    pub both : (b : RoundedSum) → wanted ≡ true → finite_sum a.sum e.non_additive ≡ held b → held (record { first = a; last = b }) ≡ contributions_total e wanted
+    unfolding contributions_total ◌>>=◌
+    both b w q = rw (p, w, q)
 
 module _ (s : SaftVRQMiePars) (t : Float) (x rho table : List Float) (wanted : Bool) where
   pub energies_refused : (k : ℕ) → energies s t x rho table wanted ≡ refused k → refused k ≡ total s t x rho table wanted

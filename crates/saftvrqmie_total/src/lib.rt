@@ -4,7 +4,7 @@
 ghost use Rattle.std.specs.Prelude.{◌≡◌};
 ghost use Rattle.number.specs.Answer.{answer};
 ghost use Rattle.saftvrqmie_energies.specs.Energies.{energies_in};
-ghost use Rattle.saftvrqmie_total.specs.Total.{contributions_total, total};
+ghost use Rattle.saftvrqmie_total.specs.Total.{finite_sum, contributions_total, total};
 
 use number::Refusal;
 use rounded_sum::RoundedSum;
@@ -17,14 +17,20 @@ pub struct QuantumTotal {
     pub last: RoundedSum,
 }
 
+// 7.
+fn finite_sum(x: f64, y: f64) -> Result<RoundedSum, Refusal>
+    ensures { answer result ≡ finite_sum x y }
+{
+    let a = rounded_sum::rounded_sum(x, y);
+    number::if_finite(a.sum)?;
+    Ok(a)
+}
+
 // Hard sphere and dispersion, then that and the non-additive part if wanted. 7.
 pub fn contributions_total(e: QuantumEnergies, non_additive: bool) -> Result<QuantumTotal, Refusal>
     ensures { answer result ≡ contributions_total (energies_in e) non_additive }
 {
-    let first = rounded_sum::rounded_sum(e.hard_sphere, e.dispersion);
-    if !number::is_finite(first.sum) {
-        return Err(Refusal::NotFinite);
-    }
+    let first = finite_sum(e.hard_sphere, e.dispersion)?;
     if !non_additive {
         let alone = RoundedSum {
             sum: first.sum,
@@ -32,10 +38,7 @@ pub fn contributions_total(e: QuantumEnergies, non_additive: bool) -> Result<Qua
         };
         return Ok(QuantumTotal { first, last: alone });
     }
-    let last = rounded_sum::rounded_sum(first.sum, e.non_additive);
-    if !number::is_finite(last.sum) {
-        return Err(Refusal::NotFinite);
-    }
+    let last = finite_sum(first.sum, e.non_additive)?;
     Ok(QuantumTotal { first, last })
 }
 
