@@ -1,11 +1,11 @@
 // Operations of SAFT-VR Mie on a set: the components' diameters, and a pair's lower limit and diameter.
-// n ≤ side and e < sheet stand plain: each bounds an index into an array of that length, and a name for one comparison would be longer.
+// n ≤ side and i < side stand plain: each bounds an index into an array of that length, and a name for one comparison would be longer.
 #![tactic(auto)]
 
-ghost use Rattle.std.specs.Prelude.{true, ◌≡◌, ◌+◌, ◌*◌, ◌<◌, ◌≤◌, length, Bool};
+ghost use Rattle.std.specs.Prelude.{true, ◌≡◌, ◌<◌, ◌≤◌, length, Bool};
 ghost use Rattle.number.specs.Answer.{answer};
 ghost use Rattle.number.specs.Lists.{at};
-ghost use Rattle.sizes.specs.Sizes.{side, sheet};
+ghost use Rattle.sizes.specs.Sizes.{side};
 ghost use Rattle.number.specs.Walk.{filled, walk};
 ghost use Rattle.mie_parameters.specs.Answer.{outcome, verdict, stored};
 ghost use Rattle.saftvrmie_diameter.specs.Diameter.{c_eps_t};
@@ -14,32 +14,18 @@ ghost use Rattle.saftvrmie.specs.Pairs.{radius_ij, diameter_ij};
 
 use number::{Arithmetic, Refusal};
 use plain_num::PlainNum;
-use saftvrmie_parameters::SaftVRMiePars;
-use sizes::mie_set::{C_IJ, EPSILON_K_IJ, LA_IJ, LR_IJ, SIGMA_IJ};
+use saftvrmie_parameters::{PairParameters, SaftVRMiePars, pair_at};
 use sizes::{SHEETS, SIDE};
-
-// A number of a set, from the sheet that starts at `from`, plain in any run.
-pub fn entry<D: PlainNum>(sheets: &[f64; SHEETS], from: usize, e: usize) -> D::Plain
-    requires { (from ≤ 5 * sheet) × (e < sheet) }
-    ensures { (w : Bool) → D.plain w result ≡ (D.beside w).lit (at sheets.now (from + e)) }
-{
-    D::Plain::lit(sheets[from + e])
-}
 
 fn diameter_at(sheets: &[f64; SHEETS], temperature: f64, i: usize) -> Result<f64, Refusal>
     requires { i < side }
     ensures { answer result ≡ diameter_at sheets.now temperature i }
 {
-    let e = SIDE * i + i;
-    let sigma = entry::<f64>(sheets, SIGMA_IJ, e);
-    let epsilon_k = entry::<f64>(sheets, EPSILON_K_IJ, e);
-    let lr = entry::<f64>(sheets, LR_IJ, e);
-    let la = entry::<f64>(sheets, LA_IJ, e);
-    let c = entry::<f64>(sheets, C_IJ, e);
-    saftvrmie_diameter::hs_diameter_ij(la, lr, c, epsilon_k, sigma, temperature)
+    let p = pair_at(sheets, i, i);
+    saftvrmie_diameter::hs_diameter_ij(p.la, p.lr, p.c, p.epsilon_k, p.sigma, temperature)
 }
 
-// By index: a turn reads five sheets at the pair (i, i).
+// By index: a turn reads the sheets at the pair (i, i).
 fn work(
     n: usize,
     sheets: &[f64; SHEETS],
@@ -110,14 +96,16 @@ pub fn hs_diameter(set: SaftVRMiePars, temperature: f64, out: &mut [f64]) -> Res
     diameters_of(set.count, &sheets, temperature, out)
 }
 
-pub fn c_eps_at<D: PlainNum>(sheets: &[f64; SHEETS], temperature: f64, e: usize) -> D
-    requires { e < sheet }
+// c epsilon / T of a pair, in any run.
+pub fn c_eps_of<D: PlainNum>(p: PairParameters, temperature: f64) -> D
     ensures { (w : Bool) → let A = D.beside w in
-        D.of w result ≡ c_eps_t A (A.lit temperature) (A.lit (at sheets.now (4 * sheet + e))) (A.lit (at sheets.now (1 * sheet + e))) }
+        D.of w result ≡ c_eps_t A (A.lit temperature) (A.lit p.c) (A.lit p.epsilon_k) }
 {
-    let c = entry::<D>(sheets, C_IJ, e);
-    let epsilon_k = entry::<D>(sheets, EPSILON_K_IJ, e);
-    saftvrmie_diameter::c_eps_t(D::entered(temperature), c, epsilon_k)
+    saftvrmie_diameter::c_eps_t(
+        D::entered(temperature),
+        D::Plain::lit(p.c),
+        D::Plain::lit(p.epsilon_k),
+    )
 }
 
 // The reduced lower limit of the pair (i, j). 1, 2, 6.
@@ -125,12 +113,8 @@ pub fn radius_ij(set: SaftVRMiePars, i: usize, j: usize, temperature: f64) -> Re
     ensures { answer result ≡ radius_ij set i j temperature }
 {
     limits::pair_asked(set.count, i, j, temperature)?;
-    let sheets = set.sheets;
-    let e = SIDE * i + j;
-    let la = entry::<f64>(&sheets, LA_IJ, e);
-    let lr = entry::<f64>(&sheets, LR_IJ, e);
-    let c_eps_t = c_eps_at(&sheets, temperature, e);
-    saftvrmie_diameter::lower_integratal_limit(la, lr, c_eps_t)
+    let p = pair_at(&set.sheets, i, j);
+    saftvrmie_diameter::lower_integratal_limit(p.la, p.lr, c_eps_of(p, temperature))
 }
 
 // The diameter of the pair (i, j) from its reduced lower limit. 1, 2, 6, 7.
@@ -144,12 +128,8 @@ pub fn diameter_ij(
     ensures { answer result ≡ diameter_ij set i j temperature r0 }
 {
     limits::pair_asked(set.count, i, j, temperature)?;
-    let sheets = set.sheets;
-    let e = SIDE * i + j;
-    let la = entry::<f64>(&sheets, LA_IJ, e);
-    let lr = entry::<f64>(&sheets, LR_IJ, e);
-    let c_eps_t = c_eps_at(&sheets, temperature, e);
-    let sigma = entry::<f64>(&sheets, SIGMA_IJ, e);
-    let d = saftvrmie_diameter::diameter_from(la, lr, c_eps_t, sigma, r0)?;
+    let p = pair_at(&set.sheets, i, j);
+    let c_eps_t = c_eps_of(p, temperature);
+    let d = saftvrmie_diameter::diameter_from(p.la, p.lr, c_eps_t, p.sigma, r0)?;
     number::if_finite(d)
 }

@@ -1,13 +1,11 @@
 -- Demand 3 on the diameter of a pair: whatever is handed in and whatever the elementary functions answer, the ends that are reported enclose the float operation's result and the exact run's. Assumes nothing.
-use Prim.Native.Nat.{ℕ, ◌+◌}
+use Prim.Native.Nat.{ℕ}
 use lib.Ieee.{Float}
-use mathlib.Core.Path.{◌≡◌, ap, ◌∙◌}
+use mathlib.Core.Path.{◌≡◌, refl, ap, ◌∙◌}
 use mathlib.Core.Bool.{true}
 use Rattle.number.specs.Ans.{Ans, held, refused}
 use Rattle.number.specs.Arith.{Arith, floats}
 use Rattle.number.specs.Functions.{Functions, Answers, calls}
-use Rattle.number.specs.Lists.{at}
-use Rattle.sizes.specs.Sizes.{cell}
 use Rattle.number.proofs.Rel.{Rel, FunRel, Both, calls_rel}
 use Rattle.std.specs.Prelude.{Result, Ok, Err}
 use Rattle.number.specs.declared.refusal.Refusal.{Refusal}
@@ -23,11 +21,11 @@ use Rattle.enclosure.specs.Ends.{Fair, Encloses, ends_alone}
 use Rattle.enclosure.proofs.Relations.{Value, values, contains}
 use Rattle.enclosure.proofs.TwoEnds.{operation_1, operation_2, operation_alone, operation_encloses}
 use Rattle.saftvrmie_parameters.specs.Parameters.{pair_at}
+use Rattle.saftvrmie_parameters.specs.declared.PairParameters.{PairParameters}
 use Rattle.saftvrmie_parameters.specs.declared.SaftVRMiePars.{SaftVRMiePars}
 use Rattle.saftvrmie_diameter.specs.Diameter.{c_eps_t, diameter_from}
 use Rattle.saftvrmie_diameter.proofs.Relation.{c_eps_t_rel, diameter_from_rel}
 use Rattle.saftvrmie.specs.Pairs.{diameter_run, diameter_ij_by}
-use Rattle.saftvrmie.proofs.Pairs.{first_sheet}
 use Rattle.saftvrmie_diameter_ends.specs.Operations.{diameter_ends}
 
 -- runs of the diameter keep what their arithmetics and functions keep
@@ -45,15 +43,13 @@ module _ (E : Answers) (s : SaftVRMiePars) (i j : ℕ) (t r0 : Float) where
     ends_asked r e = asked_refused _ _ _ _ f asked r e (λ k. refused k ≡ diameter_ends E s i j t r0) (operation_1 run_values _ _) (operation_2 run_values _ _)
 
     -- from what the code works
-    pub ends_on : f ≡ Ok tt → (la lr c sigma r : Enclosure) (a : Ans Enclosure) (b : Ans Ends)
-        → la ≡ point (pair_at s.sheets i j).la → lr ≡ point (pair_at s.sheets i j).lr
-        → c ≡ c_eps_t enclosures (point t) (point (pair_at s.sheets i j).c) (point (pair_at s.sheets i j).epsilon_k)
-        → sigma ≡ point (at s.sheets (0 + cell i j)) → r ≡ point r0
+    pub ends_on : f ≡ Ok tt → (p : PairParameters) (la lr c sigma r : Enclosure) (a : Ans Enclosure) (b : Ans Ends)
+        → p ≡ pair_at s.sheets i j → la ≡ point p.la → lr ≡ point p.lr → c ≡ c_eps_t enclosures (point t) (point p.c) (point p.epsilon_k) → sigma ≡ point p.sigma → r ≡ point r0
         → a ≡ diameter_from enclosures (calls enclosures E) la lr c sigma r → b ≡ ends_alone a → b ≡ diameter_ends E s i j t r0
     unfolding diameter_ends diameter_ij_by
-    ends_on on la lr c sigma r a b v g h k l m n =
+    ends_on on p la lr c sigma r a b is-p v g h k l m n =
         let o = asked_held _ _ _ _ f asked on in
-        let w : a ≡ diameter_run enclosures (calls enclosures E) s i j t r0 = m ∙ rw (v, g, h, k, first_sheet s.sheets (cell i j), l) in
+        let w : a ≡ diameter_run enclosures (calls enclosures E) s i j t r0 = m ∙ rw (v, g, h, k, is-p, l) refl in
         n ∙ (ap ends_alone w ∙ operation_alone run_values _ _ o.0 o.1)
 
   -- for any elementary answers and any fair choice of the constants: the float operation's result and the exact run's

@@ -14,8 +14,6 @@ use enclosure::{Enclosure, Ends};
 use number::Refusal;
 use saftvrmie_diameter::NO_BASE;
 use saftvrmie_parameters::SaftVRMiePars;
-use sizes::SIDE;
-use sizes::mie_set::{LA_IJ, LR_IJ, SIGMA_IJ};
 
 // A pair's diameter from its reduced lower limit.
 pub fn diameter_from(
@@ -48,12 +46,11 @@ pub fn hs_diameter_ij_ends(
     ensures { answer result ≡ diameter_ends port set i j temperature r0 }
 {
     limits::pair_asked(set.count, i, j, temperature)?;
-    let sheets = set.sheets;
-    let e = SIDE * i + j;
-    let la = saftvrmie::entry::<Enclosure>(&sheets, LA_IJ, e);
-    let lr = saftvrmie::entry::<Enclosure>(&sheets, LR_IJ, e);
-    let c_eps_t = saftvrmie::c_eps_at::<Enclosure>(&sheets, temperature, e);
-    let sigma = saftvrmie::entry::<Enclosure>(&sheets, SIGMA_IJ, e);
+    let p = saftvrmie_parameters::pair_at(&set.sheets, i, j);
+    let la = Enclosure::point(p.la);
+    let lr = Enclosure::point(p.lr);
+    let c_eps_t = saftvrmie::c_eps_of::<Enclosure>(p, temperature);
+    let sigma = Enclosure::point(p.sigma);
     let r = Enclosure::point(r0);
     enclosure::ends_of(diameter_from(la, lr, c_eps_t, sigma, r))
 }

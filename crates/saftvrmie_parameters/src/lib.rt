@@ -10,7 +10,7 @@ ghost use Rattle.number.specs.Lists.{at};
 ghost use Rattle.sizes.specs.Sizes.{side};
 ghost use Rattle.limits.specs.Limits.{square, components};
 ghost use Rattle.saftvrmie_parameters.specs.Combine.{sigma_ij, alpha_ij, lr_ij};
-ghost use Rattle.saftvrmie_parameters.specs.Parameters.{empty_set, set_of, lists_of, Fitting, right_lengths, within_in, pair_parameters, pair_in, row_of, saft_vr_mie_pars};
+ghost use Rattle.saftvrmie_parameters.specs.Parameters.{empty_set, set_of, lists_of, Fitting, right_lengths, within_in, pair_parameters, pair_in, pair_at, row_of, saft_vr_mie_pars};
 ghost use Rattle.mie_parameters.specs.Answer.{outcome};
 
 use limits::Component;
@@ -18,6 +18,7 @@ use mie_parameters::set::Parameters;
 use mie_parameters::sheets::PairLists;
 use mie_parameters::{set, sheets};
 use number::Refusal;
+use sizes::mie_set::{ALPHA_IJ, C_IJ, EPSILON_K_IJ, LA_IJ, LR_IJ};
 use sizes::{SHEETS, SIDE};
 
 // Document 01's Forms ask for a struct by value with the count and the flat array: no list of its own length.
@@ -55,6 +56,23 @@ pub struct PairParameters {
     pub la: f64,
     pub c: f64,
     pub alpha: f64,
+}
+
+// What the sheets hold of the pair (i, j). Inlined: most callers read some of the six.
+#[inline(always)]
+pub fn pair_at(sheets: &[f64; SHEETS], i: usize, j: usize) -> PairParameters
+    requires { (i < side) × (j < side) }
+    ensures { result ≡ pair_at sheets.now i j }
+{
+    let e = SIDE * i + j;
+    PairParameters {
+        sigma: sheets[e],
+        epsilon_k: sheets[EPSILON_K_IJ + e],
+        lr: sheets[LR_IJ + e],
+        la: sheets[LA_IJ + e],
+        c: sheets[C_IJ + e],
+        alpha: sheets[ALPHA_IJ + e],
+    }
 }
 
 impl Parameters for SaftVRMiePars {

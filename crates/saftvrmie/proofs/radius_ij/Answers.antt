@@ -8,4 +8,4 @@ pub returns-in_err-pair_asked : goal.returns-in_err-pair_asked
 returns-in_err-pair_asked c = rw (handed_on _ c.from_residual.ensures) (radius_asked _ _ _ _ _ c.pair_asked.ensures.asked _ c.in_err-pair_asked.was)
 
 pub returns : goal.returns
-returns c = radius_is _ _ _ _ _ c.pair_asked.ensures.asked c.in_ok-pair_asked.was _ _ _ (c.entry-la.ensures true) (c.entry-lr.ensures true) (c.c_eps_at-c_eps_t.ensures true) _ c.lower_integratal_limit.ensures
+returns c = radius_is _ _ _ _ _ c.pair_asked.ensures.asked c.in_ok-pair_asked.was _ c.pair_at-p.ensures _ (c.c_eps_of.ensures true) _ c.lower_integratal_limit.ensures

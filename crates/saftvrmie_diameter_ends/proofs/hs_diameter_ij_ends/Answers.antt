@@ -9,4 +9,4 @@ pub returns-in_err-pair_asked : goal.returns-in_err-pair_asked
 returns-in_err-pair_asked c = rw (handed_on _ c.from_residual.ensures) (ends_asked port _ _ _ _ _ _ c.pair_asked.ensures.asked _ c.in_err-pair_asked.was)
 
 pub returns : goal.returns
-returns c = ends_on port _ _ _ _ _ _ c.pair_asked.ensures.asked c.in_ok-pair_asked.was _ _ _ _ _ _ _ (c.entry-la.ensures true) (c.entry-lr.ensures true) (c.c_eps_at-c_eps_t.ensures true) (c.entry-sigma.ensures true) c.point-r.ensures c.diameter_from.ensures c.ends_of.ensures
+returns c = ends_on port _ _ _ _ _ _ c.pair_asked.ensures.asked c.in_ok-pair_asked.was _ _ _ _ _ _ _ _ c.pair_at-p.ensures c.point-la.ensures c.point-lr.ensures (c.c_eps_of-c_eps_t.ensures true) c.point-sigma.ensures c.point-r.ensures c.diameter_from.ensures c.ends_of.ensures
