@@ -1,6 +1,7 @@
 // What the slope of a quotient by a plain number, so near to zero, adds to a sum in the two-ended run: mostly nothing. The products of b with i and j.
 ghost use Rattle.std.specs.Prelude.{◌≡◌};
-ghost use Rattle.enclosure.specs.Enclosure.{add_e, mul_e};
+ghost use Rattle.number.specs.Arith.{one64};
+ghost use Rattle.enclosure.specs.Enclosure.{point, add_e, sub_e, mul_e, div_e, neg_e};
 ghost use Rattle.saftvrmie_dispersion.specs.Slope.{finite_ends, i_slope, j_slope, quotient_slope, stays_of, moderate_of, tiny_of, tiny_slope, lost_in, lost_sum};
 
 use crate::ChainNum;
@@ -112,35 +113,32 @@ fn whole_sum(x: Enclosure, b: Enclosure, t: Enclosure, c: Enclosure, e: Enclosur
     x + b * slope
 }
 
+// b by -(u - 1) / e, where u and e are worked of plain numbers alone; t is the slope of -(u - 1).
+#[inline(always)]
+fn times_quotient(b: EnclosureDual, u: Enclosure, e: Enclosure, t: Enclosure) -> EnclosureDual
+    ensures { let c = neg_e (sub_e u (point one64)) in
+        let q = div_e c e in
+        (result.re ≡ mul_e b.re q) × (result.eps ≡ add_e (mul_e b.eps q) (mul_e b.re (quotient_slope t c e))) }
+{
+    let c = -(u - Enclosure::point(1.0));
+    let q = c / e;
+    let x = b.eps * q;
+    let re = b.re * q;
+    if is_lost(x.ends, b.re.ends, e.ends) & is_tiny(t.ends) {
+        let eps = lost_sum(x, b.re.value, t.value, c.value, e.value);
+        return EnclosureDual { re, eps };
+    }
+    let eps = whole_sum(x, b.re, t, c, e);
+    EnclosureDual { re, eps }
+}
+
 impl ChainNum for EnclosureDual {
-    // Its tail is that of times_j: of both, one function would take the six numbers that it joins.
     fn times_i(self, p3: Enclosure, l3: Enclosure) -> EnclosureDual {
-        let c = -(p3 - Enclosure::point(1.0));
-        let i = c / l3;
-        let x = self.eps * i;
-        let re = self.re * i;
-        let t = i_slope();
-        if is_lost(x.ends, self.re.ends, l3.ends) & is_tiny(t.ends) {
-            let eps = lost_sum(x, self.re.value, t.value, c.value, l3.value);
-            return EnclosureDual { re, eps };
-        }
-        let eps = whole_sum(x, self.re, t, c, l3);
-        EnclosureDual { re, eps }
+        times_quotient(self, p3, l3, i_slope())
     }
 
     fn times_j(self, p4: Enclosure, p3: Enclosure, l3: Enclosure, l4: Enclosure) -> EnclosureDual {
-        let a = p4 * l3 - p3 * l4;
-        let c = -(a - Enclosure::point(1.0));
-        let e = l3 * l4;
-        let j = c / e;
-        let x = self.eps * j;
-        let re = self.re * j;
-        let t = j_slope(p4, p3, l3, l4);
-        if is_lost(x.ends, self.re.ends, e.ends) & is_tiny(t.ends) {
-            let eps = lost_sum(x, self.re.value, t.value, c.value, e.value);
-            return EnclosureDual { re, eps };
-        }
-        let eps = whole_sum(x, self.re, t, c, e);
-        EnclosureDual { re, eps }
+        let u = p4 * l3 - p3 * l4;
+        times_quotient(self, u, l3 * l4, j_slope(p4, p3, l3, l4))
     }
 }

@@ -146,7 +146,7 @@ pub fn add_pair<D: DualNum>(xi: D, xj: D, t: Terms<D>, s: Sums<D>) -> Sums<D>
     }
 }
 
-// The quantum model's, in saftvrqmie_dispersion, takes the temperature and three sums: what both have is this one line.
+// The quantum model's, in saftvrqmie_dispersion, takes the temperature and three sums. One function below both, of 1/T and three sums, would leave both, each to hand on its own.
 pub fn orders_sum<D: DualNum>(s: Sums<D>, t_inv: D) -> D
     ensures { (w : Bool) → D.of w result ≡ orders_sum (D.beside w) (D.of w t_inv) (D.of w s.a1) (D.of w s.a2) (D.of w s.a3) }
 {

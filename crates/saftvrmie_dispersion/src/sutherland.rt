@@ -5,13 +5,14 @@ ghost use Rattle.saftvrmie_dispersion.specs.Sutherland.{k_hs, fluid_of, c_row, b
 ghost use Rattle.saftvrmie_dispersion.specs.Terms.{five};
 ghost use Rattle.saftvrmie_dispersion.specs.Answer.{fluid_by, five_by};
 ghost use Rattle.saftvrmie_dispersion.specs.Staged.{powers_held, five_held};
-ghost use Rattle.saftvrmie_dispersion.specs.Shared.{lambda_by, lambda_of, zeta_eff_by, a1s_by, i_by, j_by, a1s_b_by};
+ghost use Rattle.saftvrmie_dispersion.specs.Shared.{lambda_by, lambda_of, zeta_eff_by, a1s_by, a1s_b_by};
 
 use crate::{Five, Fluid, Lambda};
 use dual_num::DualNum;
 use mie_parameters::LAM_COEFF;
 use number::{Arithmetic, Refusal};
 use plain_num::PlainNum;
+use saftvrqmie_dispersion_terms::{ilambda_of, jlambda_of};
 
 pub fn k_hs<D: DualNum>(zeta_x: D) -> D
     ensures { (w : Bool) → D.of w result ≡ k_hs (D.beside w) (D.of w zeta_x) }
@@ -78,19 +79,6 @@ fn a1s_ij<D: DualNum>(zeta_x: D, of: Lambda<D::Plain>) -> D
     -(-ze * half + one) / ((-ze + one).cube() * of.l3)
 }
 
-// As the quantum model's ilambda_of and jlambda_of. Their definitions are of one arithmetic; these are of two, since the chain with slopes reads them at numbers with slopes beside plain ones.
-fn i_of<D: DualNum>(x0_3ml: D, l3: D::Plain) -> D
-    ensures { (w : Bool) → D.of w result ≡ i_by (D.beside w) (D.beside w) (λ x. x) (D.of w x0_3ml) (D.plain w l3) }
-{
-    -(x0_3ml - D::Plain::lit(1.0)) / l3
-}
-
-fn j_of<D: DualNum>(x0_4ml: D, x0_3ml: D, l3: D::Plain, l4: D::Plain) -> D
-    ensures { (w : Bool) → D.of w result ≡ j_by (D.beside w) (D.beside w) (λ x. x) (D.of w x0_4ml) (D.of w x0_3ml) (D.plain w l3) (D.plain w l4) }
-{
-    -(x0_4ml * l3 - x0_3ml * l4 - D::Plain::lit(1.0)) / (l3 * l4)
-}
-
 fn b_of<D: DualNum>(fluid: &Fluid<D>, i: D, j: D) -> D
     ensures { (w : Bool) → D.of w result ≡ b_of (D.beside w) (D.beside w) (λ x. x) (fluid_by (D.of w) fluid.now) (D.of w i) (D.of w j) }
 {
@@ -101,7 +89,11 @@ fn b_of<D: DualNum>(fluid: &Fluid<D>, i: D, j: D) -> D
 fn a1s_b_of<D: DualNum>(fluid: &Fluid<D>, of: Lambda<D::Plain>, p: D, p3: D, p4: D) -> D
     ensures { (w : Bool) → D.of w result ≡ a1s_b_by (D.beside w) (D.beside w) (λ x. x) (fluid_by (D.of w) fluid.now) (lambda_by (D.plain w) of) (D.of w p) (D.of w p3) (D.of w p4) }
 {
-    let b = b_of(fluid, i_of(p3, of.l3), j_of(p4, p3, of.l3, of.l4));
+    let b = b_of(
+        fluid,
+        ilambda_of(of.l3, p3),
+        jlambda_of(of.l3, of.l4, p4, p3),
+    );
     p * (a1s_ij(fluid.zeta_x, of) + b)
 }
 

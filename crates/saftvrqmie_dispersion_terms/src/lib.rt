@@ -61,13 +61,14 @@ fn sutherland_of<D: DualNum>(l3: D::Plain, epsilon_k: D::Plain, ef: D, p: D) -> 
     (-ef * half + one) * D::Plain::lit(-12.0) * p * epsilon_k / l3 / d
 }
 
-fn ilambda_of<D: DualNum>(l3: D::Plain, p3: D) -> D
+// The two integrals of b, of both models.
+pub fn ilambda_of<D: DualNum>(l3: D::Plain, p3: D) -> D
     ensures { (w : Bool) → D.of w result ≡ ilambda_from (D.beside w) (D.plain w l3) (D.of w p3) }
 {
     -(p3 - D::Plain::lit(1.0)) / l3
 }
 
-fn jlambda_of<D: DualNum>(l3: D::Plain, l4: D::Plain, p4: D, p3: D) -> D
+pub fn jlambda_of<D: DualNum>(l3: D::Plain, l4: D::Plain, p4: D, p3: D) -> D
     ensures { (w : Bool) → D.of w result ≡ jlambda_from (D.beside w) (D.plain w l3) (D.plain w l4) (D.of w p4) (D.of w p3) }
 {
     -(p4 * l3 - p3 * l4 - D::Plain::lit(1.0)) / (l3 * l4)
