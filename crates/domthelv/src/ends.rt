@@ -164,14 +164,14 @@ pub fn domthelv_vr_dispersion_ends(
         sheets,
     };
     let set = set_lists::mie_set(&lent);
-    let worked = saftvrmie_energies_ends::dispersion_ends(
-        set,
+    let state = saftvrmie_energies::State {
+        set: saftvrmie_energies::Set::from(&set),
         temperature,
         fractions,
         densities,
         diameters,
-        chain,
-    );
+    };
+    let worked = saftvrmie_energies_ends::dispersion_ends(&state, chain);
     deliver_list(worked.map(pair_list), out)
 }
 

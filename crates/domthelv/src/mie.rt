@@ -9,7 +9,7 @@ ghost use Rattle.saftvrmie_parameters.specs.Parameters as Mie;
 
 use crate::functions::deliver;
 use number::Refusal;
-use saftvrmie_energies::Set;
+use saftvrmie_energies::{Set, State};
 use saftvrmie_parameters::ComponentLists;
 use set_lists::MieSet;
 use sizes::{SHEETS, SIDE};
@@ -176,14 +176,14 @@ pub fn domthelv_vr_dispersion(
         la: &la,
         sheets: flat,
     };
-    let worked = saftvrmie_energies::dispersion_of(
-        &set,
+    let state = State {
+        set,
         temperature,
         fractions,
         densities,
         diameters,
-        chain,
-    );
+    };
+    let worked = saftvrmie_energies::dispersion(&state, chain);
     deliver(worked, out)
 }
 

@@ -6,14 +6,14 @@ ghost use Rattle.saftvrmie_energies.specs.Dispersion.{dispersion, dispersion_cha
 ghost use Rattle.saftvrmie_energies.specs.Energies.{energy_run, energy};
 ghost use Rattle.saftvrmie_energies.specs.Reads.{set_of, state_of, Right};
 
+use crate::mixture::Mixture;
 use crate::properties::{after_ks, properties_of, total, weighted, xs_of};
-use crate::set::{Set, State, lent, tested};
+use crate::set::{State, tested};
 use crate::sums::{chain_rows, disp_rows};
 use dual::Dual;
 use number::Refusal;
 use plain_num::PlainNum;
 use saftvrmie_dispersion::{ChainNum, ChainState};
-use saftvrmie_parameters::SaftVRMiePars;
 use sizes::SIDE;
 
 // 1 / T
@@ -32,10 +32,16 @@ fn helmholtz_energy_density_disp<D: PlainNum>(s: &State, xs: &mut [D; SIDE]) -> 
     let mean = weighted::<D>(s.fractions, s.set.m);
     *xs = xs_of(s.fractions, s.set.m, mean);
     let q = properties_of(s, xs)?;
-    let k_hs = saftvrmie_dispersion::k_hs(q.zeta_x);
-    let fluid = saftvrmie_dispersion::fluid_of(q.segment_density, q.zeta_x, k_hs);
+    let zeta_x = q.zeta_x;
+    let k_hs = saftvrmie_dispersion::k_hs(zeta_x);
+    let fluid = saftvrmie_dispersion::fluid_of(q.segment_density, zeta_x, k_hs);
     let bar = saftvrmie_dispersion::bar_of(q.zeta_x_bar);
-    let a = disp_rows(s, xs, &fluid, &bar)?;
+    let m = Mixture {
+        state: &*s,
+        xs: &*xs,
+        fluid: &fluid,
+    };
+    let a = disp_rows(&m, &bar)?;
     let orders = saftvrmie_dispersion::orders_sum(a, inverse(s.temperature));
     let all = total::<D>(s.densities);
     Ok(after_ks(q.k, all * mean * orders))
@@ -52,8 +58,11 @@ fn helmholtz_energy_density_disp_chain<S: ChainNum>(
     let mean = weighted::<S::Re>(s.fractions, s.set.m);
     *xs = xs_of(s.fractions, s.set.m, mean);
     let q = properties_of(s, xs)?;
-    let v = saftvrmie_dispersion::fluid_dual::<S>(q.zeta_x, q.segment_density);
-    let fluid = saftvrmie_dispersion::fluid_of(q.segment_density, q.zeta_x, v.k_hs.re());
+    let rho_s = q.segment_density;
+    let zeta_x = q.zeta_x;
+    let v = saftvrmie_dispersion::fluid_dual::<S>(zeta_x, rho_s);
+    let k_hs = v.k_hs;
+    let fluid = saftvrmie_dispersion::fluid_of(rho_s, zeta_x, k_hs.re());
     let bar = saftvrmie_dispersion::bar_of(q.zeta_x_bar);
     let t_inv = inverse(s.temperature);
     let chain = ChainState {
@@ -61,7 +70,12 @@ fn helmholtz_energy_density_disp_chain<S: ChainNum>(
         bar,
         k: q.k,
     };
-    let a = chain_rows(s, xs, &fluid, &chain, t_inv)?;
+    let m = Mixture {
+        state: &*s,
+        xs: &*xs,
+        fluid: &fluid,
+    };
+    let a = chain_rows(&m, &chain, t_inv)?;
     let orders = saftvrmie_dispersion::orders_sum(a, t_inv);
     let all = total::<S::Re>(s.densities);
     Ok(all * (mean * orders + a.a_chain))
@@ -85,41 +99,13 @@ pub fn energy_run<S: ChainNum>(
     helmholtz_energy_density_disp(s, xs)
 }
 
-// Dispersion of a set that is lent list by list. 1, 2, 6, 7. Not of a State: tried, `dispersion` would make one of its own set's lists and the caller's, and the borrow rules do not take two lifetimes at State's one.
-pub fn dispersion_of(
-    set: &Set,
-    temperature: f64,
-    fractions: &[f64],
-    densities: &[f64],
-    diameters: &[f64],
-    chain: bool,
-) -> Result<f64, Refusal>
-    ensures { answer result ≡ energy (set_of set.now) temperature fractions.now densities.now diameters.now chain }
-{
-    let s = State {
-        set: *set,
-        temperature,
-        fractions,
-        densities,
-        diameters,
-    };
-    tested(&s)?;
-    let mut xs = [0.0; SIDE];
-    let v = energy_run::<Dual>(&s, chain, &mut xs)?;
-    number::if_finite(v)
-}
-
 // The Helmholtz energy density of dispersion, with or without chain, from a list of diameters. 1, 2, 6, 7.
-pub fn dispersion(
-    set: SaftVRMiePars,
-    temperature: f64,
-    fractions: &[f64],
-    densities: &[f64],
-    diameters: &[f64],
-    chain: bool,
-) -> Result<f64, Refusal>
-    ensures { answer result ≡ energy set temperature fractions.now densities.now diameters.now chain }
+pub fn dispersion(s: &State, chain: bool) -> Result<f64, Refusal>
+    ensures { let s = s.now in
+        answer result ≡ energy (set_of s.set) s.temperature s.fractions.now s.densities.now s.diameters.now chain }
 {
-    let lists = lent(&set);
-    dispersion_of(&lists, temperature, fractions, densities, diameters, chain)
+    tested(s)?;
+    let mut xs = [0.0; SIDE];
+    let v = energy_run::<Dual>(s, chain, &mut xs)?;
+    number::if_finite(v)
 }

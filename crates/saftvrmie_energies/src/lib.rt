@@ -2,9 +2,10 @@
 #![tactic(auto)]
 
 mod energies;
+mod mixture;
 mod properties;
 mod set;
 mod sums;
 
-pub use energies::{dispersion, dispersion_of, energy_run};
-pub use set::{Set, State, lent, tested};
+pub use energies::{dispersion, energy_run};
+pub use set::{Set, State, tested};

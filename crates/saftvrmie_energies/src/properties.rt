@@ -32,6 +32,7 @@ pub fn total<D: PlainNum>(v: &[f64]) -> D
     s
 }
 
+// The hard sphere's segment_density is this sum over a NumberList, of lists with a component: its zero is no D. Of a plain list it would take empty slopes and the length beside it.
 pub fn weighted<D: PlainNum>(v: &[f64], m: &[f64; SIDE]) -> D
     requires { length v.now ≤ side }
     ensures { (w : Bool) → D.of w result ≡ weighted (D.beside w) (length v.now) (entries (D.beside w) v.now) (entries (D.beside w) m.now) }
@@ -57,8 +58,8 @@ pub fn xs_of<D: PlainNum>(x: &[f64], m: &[f64; SIDE], mean: D) -> [D; SIDE]
 }
 
 // Entry i of a run's own list.
-pub fn component<D: PlainNum>(xs: &[D; SIDE], i: usize) -> D
-    requires { i < side }
+pub fn component<D: PlainNum>(xs: &[D], i: usize) -> D
+    requires { i < length xs.now }
     ensures { (w : Bool) → D.of w result ≡ read (D.beside w) (D.of w) xs.now i }
 {
     xs[i]
@@ -101,8 +102,7 @@ fn zeta_row<D: PlainNum, F: Fn(usize, usize) -> D>(
     let xi = component(xs, i);
     let two = D::Plain::lit(2.0);
     let mut s = start + xi.square() * cube(i, i);
-    for k in 0usize..n - (i + 1) {
-        let j = i + 1 + k;
+    for j in i + 1..n {
         s = s + xi * component(xs, j) * cube(i, j) * two;
     }
     s

@@ -1,16 +1,15 @@
-// A set's lists and a state by reference, and what the sums read of a component and of a pair.
+// A set's lists and a state by reference, and what the sums read of a component.
 ghost use Rattle.std.specs.Prelude.{◌≡◌, ◌<◌, length, true, cond};
 ghost use Rattle.mie_parameters.specs.Answer.{outcome};
 ghost use Rattle.limits.specs.Limits.{state_within};
 ghost use Rattle.number.specs.Ans.{held, refused};
 ghost use Rattle.sizes.specs.Sizes.{side};
-ghost use Rattle.saftvrmie_parameters.specs.Parameters.{pair_at};
 ghost use Rattle.saftvrmie_energies.specs.Energies.{pure_at, state_lengths};
 ghost use Rattle.saftvrmie_energies.specs.Reads.{set_of};
 
 use number::Refusal;
 use saftvrmie_parameters::{PairParameters, SaftVRMiePars};
-use sizes::mie_set::{ALPHA_IJ, C_IJ, EPSILON_K_IJ, LA_IJ, LR_IJ};
+use sizes::mie_set::{ALPHA_IJ, C_IJ};
 use sizes::{SHEETS, SIDE};
 
 // The boundary has lists and no set; operations that have a set lend its lists. The count stands beside them: it is the caller's number, tested with 1, and each list has SIDE places, as document 01's Forms have the set.
@@ -25,27 +24,29 @@ pub struct Set<'a> {
     pub sheets: &'a [f64; SHEETS],
 }
 
-// What an energy is worked from.
+// What an energy is worked from. Two lifetimes: a set that a function owns is lent for less long than the lists that it was handed.
 #[derive(Clone, Copy)]
-pub struct State<'a> {
-    pub set: Set<'a>,
+pub struct State<'s, 'a> {
+    pub set: Set<'s>,
     pub temperature: f64,
     pub fractions: &'a [f64],
     pub densities: &'a [f64],
     pub diameters: &'a [f64],
 }
 
-pub fn lent(set: &SaftVRMiePars) -> Set
-    ensures { set_of result ≡ set.now }
-{
-    Set {
-        count: set.count,
-        m: &set.m,
-        sigma: &set.sigma,
-        epsilon_k: &set.epsilon_k,
-        lr: &set.lr,
-        la: &set.la,
-        sheets: &set.sheets,
+impl<'a> From<&'a SaftVRMiePars> for Set<'a> {
+    ghost from_gives = { λ p s. set_of s ≡ p.now };
+
+    fn from(set: &'a SaftVRMiePars) -> Set<'a> {
+        Set {
+            count: set.count,
+            m: &set.m,
+            sigma: &set.sigma,
+            epsilon_k: &set.epsilon_k,
+            lr: &set.lr,
+            la: &set.la,
+            sheets: &set.sheets,
+        }
     }
 }
 
@@ -76,23 +77,7 @@ pub fn tested(s: &State) -> Result<(), Refusal>
     Ok(())
 }
 
-// Indexes are turns of loops over a count that was tested.
-pub fn pair_at(s: &[f64; SHEETS], i: usize, j: usize) -> PairParameters
-    requires { (i < side) × (j < side) }
-    ensures { result ≡ pair_at s.now i j }
-{
-    let e = SIDE * i + j;
-    PairParameters {
-        sigma: s[e],
-        epsilon_k: s[EPSILON_K_IJ + e],
-        lr: s[LR_IJ + e],
-        la: s[LA_IJ + e],
-        c: s[C_IJ + e],
-        alpha: s[ALPHA_IJ + e],
-    }
-}
-
-// sigma, epsilon_k, lr and la of the component lists; c and alpha of the sheets' diagonal. The index is such a turn.
+// sigma, epsilon_k, lr and la of the component lists; c and alpha of the sheets' diagonal. The index is a turn of a loop over a count that was tested.
 pub fn pure_at(set: &Set, i: usize) -> PairParameters
     requires { i < side }
     ensures { let s = set.now in

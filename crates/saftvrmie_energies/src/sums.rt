@@ -1,87 +1,75 @@
 // The sums of the three orders and of the chain over components and pairs (saftvrmie/eos/dispersion.rs). Indexes are turns of loops over the count, since a turn reads each of the state's lists, the segment fractions and the sheets at its index.
-ghost use Rattle.std.specs.Prelude.{◌≡◌, ℕ, Bool, ◌<◌};
+ghost use Rattle.std.specs.Prelude.{◌≡◌, Bool, ◌<◌};
 ghost use Rattle.number.specs.Answer.{answer_by};
 ghost use Rattle.slope_num.specs.Value.{slope_by};
-ghost use Rattle.saftvrmie_dispersion.specs.Chain.{LinkIn};
 ghost use Rattle.saftvrmie_dispersion.specs.Answer.{fluid_by, bar_by, sums_by, k_by};
-ghost use Rattle.saftvrmie_energies.specs.Dispersion.{no_sums, pair_turn, pair_row, disp_row, chain_row, disp_rows, chain_rows};
-ghost use Rattle.saftvrmie_energies.specs.Reads.{read, state_of, Right};
+ghost use Rattle.saftvrmie_energies.specs.Dispersion.{no_sums};
+ghost use Rattle.saftvrmie_energies.specs.Sums.{turn_of, pairs_of, row_of, rows_of, chain_row_of, chain_rows_of};
 
+use crate::mixture::Mixture;
 use crate::properties::{component, d_ij};
-use crate::set::{State, pair_at, pure_at};
+use crate::set::pure_at;
 use number::Refusal;
 use plain_num::PlainNum;
-use saftvrmie_dispersion::{Bar, ChainNum, ChainState, Fluid, Link, Sums};
-use sizes::SIDE;
+use saftvrmie_dispersion::{Bar, ChainNum, ChainState, Link, Sums};
+use saftvrmie_parameters::pair_at;
 
 fn pair_turn<D: PlainNum>(
-    s: &State,
-    xs: &[D; SIDE],
-    fluid: &Fluid<D>,
+    m: &Mixture<D>,
     bar: &Bar<D>,
     i: usize,
     j: usize,
     sum: Sums<D>,
 ) -> Result<Sums<D>, Refusal>
-    requires { Right s.now × (i < s.now.set.count) × (j < s.now.set.count) }
-    ensures { (w : Bool) → let A = D.beside w in
-        let t = state_of A s.now in
-        let fluid = fluid_by (D.of w) fluid.now in
-        let bar = bar_by (D.of w) bar.now in
-        answer_by (sums_by (D.of w)) result ≡ pair_turn A (D.functions w) (read A (D.of w) xs.now) t.diameter t.pair fluid bar i j (sums_by (D.of w) sum) }
+    requires { (i < m.now.state.now.set.count) × (j < m.now.state.now.set.count) }
+    ensures { (w : Bool) → answer_by (sums_by (D.of w)) result
+        ≡ turn_of (D.beside w) (D.functions w) (D.of w) m.now (bar_by (D.of w) bar.now) i j (sums_by (D.of w) sum) }
 {
+    let s = m.state;
     let p = pair_at(s.set.sheets, i, j);
     let d = d_ij::<D>(s.diameters, i, j);
-    let t = saftvrmie_dispersion::pair_terms(*fluid, *bar, p, d)?;
-    Ok(saftvrmie_dispersion::add_pair(component(xs, i), component(xs, j), t, sum))
+    let t = saftvrmie_dispersion::pair_terms(*m.fluid, *bar, p, d)?;
+    Ok(saftvrmie_dispersion::add_pair(component(m.xs, i), component(m.xs, j), t, sum))
 }
 
 // The pairs (i, j) with j > i.
-pub fn pair_row<D: PlainNum>(
-    s: &State,
-    xs: &[D; SIDE],
-    fluid: &Fluid<D>,
+fn pair_row<D: PlainNum>(
+    m: &Mixture<D>,
     bar: &Bar<D>,
     i: usize,
     start: Sums<D>,
 ) -> Result<Sums<D>, Refusal>
-    requires { Right s.now × (i < s.now.set.count) }
-    ensures { (w : Bool) → let A = D.beside w in
-        let t = state_of A s.now in
-        let fluid = fluid_by (D.of w) fluid.now in
-        let bar = bar_by (D.of w) bar.now in
-        answer_by (sums_by (D.of w)) result ≡ pair_row A (D.functions w) s.now.set.count (read A (D.of w) xs.now) t.diameter t.pair fluid bar i (sums_by (D.of w) start) }
+    requires { i < m.now.state.now.set.count }
+    ensures { (w : Bool) → answer_by (sums_by (D.of w)) result
+        ≡ pairs_of (D.beside w) (D.functions w) (D.of w) m.now (bar_by (D.of w) bar.now) i (sums_by (D.of w) start) }
 {
     let mut sum = start;
-    for k in 0usize..s.set.count - (i + 1) {
-        sum = pair_turn(s, xs, fluid, bar, i, i + 1 + k, sum)?;
+    for j in i + 1..m.state.set.count {
+        sum = pair_turn(m, bar, i, j, sum)?;
     }
     Ok(sum)
 }
 
 // Component i without chain, then its pairs.
 fn disp_row<D: PlainNum>(
-    s: &State,
-    xs: &[D; SIDE],
-    fluid: &Fluid<D>,
+    m: &Mixture<D>,
     bar: &Bar<D>,
     i: usize,
     sum: Sums<D>,
 ) -> Result<Sums<D>, Refusal>
-    requires { Right s.now × (i < s.now.set.count) }
-    ensures { (w : Bool) → let A = D.beside w in
-        let t = state_of A s.now in
-        let fluid = fluid_by (D.of w) fluid.now in
-        let bar = bar_by (D.of w) bar.now in
-        answer_by (sums_by (D.of w)) result ≡ disp_row A (D.functions w) s.now.set.count (read A (D.of w) xs.now) t.diameter t.pair fluid bar (t.pure i) i (sums_by (D.of w) sum) }
+    requires { i < m.now.state.now.set.count }
+    ensures { (w : Bool) → answer_by (sums_by (D.of w)) result
+        ≡ row_of (D.beside w) (D.functions w) (D.of w) m.now (bar_by (D.of w) bar.now) i (sums_by (D.of w) sum) }
 {
+    let s = m.state;
     let p = pure_at(&s.set, i);
-    let t = saftvrmie_dispersion::pair_terms(*fluid, *bar, p, D::entered(s.diameters[i]))?;
-    let next = saftvrmie_dispersion::add_pure(component(xs, i), t, sum);
-    pair_row(s, xs, fluid, bar, i, next)
+    let d = D::entered(s.diameters[i]);
+    let t = saftvrmie_dispersion::pair_terms(*m.fluid, *bar, p, d)?;
+    let next = saftvrmie_dispersion::add_pure(component(m.xs, i), t, sum);
+    pair_row(m, bar, i, next)
 }
 
-pub fn no_sums<D: PlainNum>() -> Sums<D>
+fn no_sums<D: PlainNum>() -> Sums<D>
     ensures { (w : Bool) → sums_by (D.of w) result ≡ no_sums (D.beside w) (D.functions w) }
 {
     let zero = D::entered(0.0);
@@ -93,76 +81,57 @@ pub fn no_sums<D: PlainNum>() -> Sums<D>
     }
 }
 
-pub fn disp_rows<D: PlainNum>(
-    s: &State,
-    xs: &[D; SIDE],
-    fluid: &Fluid<D>,
-    bar: &Bar<D>,
-) -> Result<Sums<D>, Refusal>
-    requires { Right s.now }
-    ensures { (w : Bool) → let A = D.beside w in
-        let t = state_of A s.now in
-        let fluid = fluid_by (D.of w) fluid.now in
-        let bar = bar_by (D.of w) bar.now in
-        answer_by (sums_by (D.of w)) result ≡ disp_rows A (D.functions w) s.now.set.count (read A (D.of w) xs.now) t.diameter t.pair fluid bar t.pure }
+pub fn disp_rows<D: PlainNum>(m: &Mixture<D>, bar: &Bar<D>) -> Result<Sums<D>, Refusal>
+    ensures { (w : Bool) → answer_by (sums_by (D.of w)) result
+        ≡ rows_of (D.beside w) (D.functions w) (D.of w) m.now (bar_by (D.of w) bar.now) }
 {
     let mut sum = no_sums::<D>();
-    for i in 0usize..s.set.count {
-        sum = disp_row(s, xs, fluid, bar, i, sum)?;
+    for i in 0usize..m.state.set.count {
+        sum = disp_row(m, bar, i, sum)?;
     }
     Ok(sum)
 }
 
 // Component i with slopes and its link, then its pairs.
 fn chain_row<S: ChainNum>(
-    s: &State,
-    xs: &[S::Re; SIDE],
-    fluid: &Fluid<S::Re>,
+    m: &Mixture<S::Re>,
     chain: &ChainState<S, S::Re>,
     t_inv: S::Re,
     i: usize,
     sum: Sums<S::Re>,
 ) -> Result<Sums<S::Re>, Refusal>
-    requires { Right s.now × (i < s.now.set.count) }
-    ensures { (w : Bool) → let A = S.Re.beside w in
-        let t = state_of A s.now in
-        let fluid = fluid_by (S.Re.of w) fluid.now in
-        let bar = bar_by (S.Re.of w) chain.now.bar in
-        let v = fluid_by (slope_by S.parts (S.Re.of w)) chain.now.fluid in
-        let link : LinkIn A.Num = record { m = t.m i; fraction = t.fraction i; t_inv = S.Re.of w t_inv } in
-        answer_by (sums_by (S.Re.of w)) result ≡ chain_row A (S.Re.functions w) s.now.set.count (read A (S.Re.of w) xs.now) t.diameter t.pair fluid bar v (k_by (S.Re.of w) chain.now.k) (t.pure i) link i (sums_by (S.Re.of w) sum) }
+    requires { i < m.now.state.now.set.count }
+    ensures { (w : Bool) → let of = S.Re.of w in
+        let v = fluid_by (slope_by S.parts of) chain.now.fluid in
+        answer_by (sums_by of) result
+        ≡ chain_row_of (S.Re.beside w) (S.Re.functions w) of m.now (bar_by of chain.now.bar) v (k_by of chain.now.k) (of t_inv) i (sums_by of sum) }
 {
+    let s = m.state;
     let p = pure_at(&s.set, i);
     let link = Link {
         m: S::Re::entered(s.set.m[i]),
         fraction: S::Re::entered(s.fractions[i]),
         t_inv,
     };
-    let xi = component(xs, i);
+    let xi = component(m.xs, i);
     let d = S::Re::entered(s.diameters[i]);
     let next = saftvrmie_dispersion::chain_pure(chain, p, d, link, xi, sum)?;
-    pair_row(s, xs, fluid, &chain.bar, i, next)
+    pair_row(m, &chain.bar, i, next)
 }
 
 pub fn chain_rows<S: ChainNum>(
-    s: &State,
-    xs: &[S::Re; SIDE],
-    fluid: &Fluid<S::Re>,
+    m: &Mixture<S::Re>,
     chain: &ChainState<S, S::Re>,
     t_inv: S::Re,
 ) -> Result<Sums<S::Re>, Refusal>
-    requires { Right s.now }
-    ensures { (w : Bool) → let A = S.Re.beside w in
-        let t = state_of A s.now in
-        let fluid = fluid_by (S.Re.of w) fluid.now in
-        let bar = bar_by (S.Re.of w) chain.now.bar in
-        let v = fluid_by (slope_by S.parts (S.Re.of w)) chain.now.fluid in
-        let link : ℕ → LinkIn A.Num = λ i. record { m = t.m i; fraction = t.fraction i; t_inv = S.Re.of w t_inv } in
-        answer_by (sums_by (S.Re.of w)) result ≡ chain_rows A (S.Re.functions w) s.now.set.count (read A (S.Re.of w) xs.now) t.diameter t.pair fluid bar t.pure v (k_by (S.Re.of w) chain.now.k) link }
+    ensures { (w : Bool) → let of = S.Re.of w in
+        let v = fluid_by (slope_by S.parts of) chain.now.fluid in
+        answer_by (sums_by of) result
+        ≡ chain_rows_of (S.Re.beside w) (S.Re.functions w) of m.now (bar_by of chain.now.bar) v (k_by of chain.now.k) (of t_inv) }
 {
     let mut sum = no_sums::<S::Re>();
-    for i in 0usize..s.set.count {
-        sum = chain_row(s, xs, fluid, chain, t_inv, i, sum)?;
+    for i in 0usize..m.state.set.count {
+        sum = chain_row(m, chain, t_inv, i, sum)?;
     }
     Ok(sum)
 }

@@ -9,6 +9,7 @@ ghost use Rattle.saftvrmie_parameters.specs.Parameters as Mie;
 ghost use Rattle.stages.specs.Stages.{quantum_stage, mie_energy, mie_stage};
 
 use number::Refusal;
+use saftvrmie_energies::{Set, State};
 use saftvrmie_parameters::SaftVRMiePars;
 use saftvrqmie_energies::QuantumEnergies;
 use sizes::{COUNTS, SIDE, TABLE};
@@ -24,7 +25,7 @@ pub fn quantum_stage(
     ensures { let l = Quantum.lists_of lists.now in
         energies_answer result ≡ quantum_stage l temperature fractions.now densities.now non_additive }
 {
-    // Taken apart by let .. else, as document 01's Forms ask.
+    // Taken apart by let .. else, as document 01's Forms ask; a pattern of Ok names no refusal, so that its else asks for it.
     let given = saftvrqmie_parameters::parameters(lists);
     let Ok(()) = given.answer else {
         return Err(given.answer.unwrap_err());
@@ -43,7 +44,7 @@ pub fn quantum_stage(
     )
 }
 
-// Diameters into a list of the stage's own, then the energy from them.
+// Diameters into a list of the stage's own, then the energy from them: there is a state once they are worked.
 fn mie_energy(
     set: SaftVRMiePars,
     temperature: f64,
@@ -55,7 +56,14 @@ fn mie_energy(
     ensures { answer result ≡ mie_energy set temperature fractions.now densities.now own.old chain }
 {
     saftvrmie::hs_diameter(set, temperature, own)?;
-    saftvrmie_energies::dispersion(set, temperature, fractions, densities, own, chain)
+    let s = State {
+        set: Set::from(&set),
+        temperature,
+        fractions,
+        densities,
+        diameters: own,
+    };
+    saftvrmie_energies::dispersion(&s, chain)
 }
 
 // SAFT-VR Mie: parameters (1, 2, 6), diameters of its own (2, 6, 7), dispersion with or without chain (1, 2, 6, 7); the first refusal on the way.
@@ -69,7 +77,7 @@ pub fn mie_stage(
     ensures { let l = Mie.lists_of lists.now in
         answer result ≡ mie_stage l temperature fractions.now densities.now chain }
 {
-    // Taken apart by let .. else, as document 01's Forms ask.
+    // Taken apart by let .. else, as document 01's Forms ask; a pattern of Ok names no refusal, so that its else asks for it.
     let given = saftvrmie_parameters::parameters(lists);
     let Ok(()) = given.answer else {
         return Err(given.answer.unwrap_err());

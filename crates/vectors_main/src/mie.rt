@@ -9,6 +9,7 @@ use crate::tally::Operation;
 use mie_parameters::set::Parameters;
 use number::{Refusal, bits_of};
 use records::{floats, part, word};
+use saftvrmie_energies::{Set, State};
 use saftvrmie_parameters::{ComponentLists, SaftVRMiePars};
 use sizes::{SHEET, SIDE};
 
@@ -77,14 +78,14 @@ impl Mie {
     fn dispersion(&self, record: &Record) -> bool {
         let l: [f64; WORDS] = floats(&record.list);
         let n = record.length(6);
-        let answer = saftvrmie_energies::dispersion(
-            self.set,
-            record.temperature(),
-            part(&l, 0, n),
-            part(&l, n, record.length(7)),
-            part(&self.diameters, 0, record.length(8)),
-            record.is_wanted(),
-        );
+        let state = State {
+            set: Set::from(&self.set),
+            temperature: record.temperature(),
+            fractions: part(&l, 0, n),
+            densities: part(&l, n, record.length(7)),
+            diameters: part(&self.diameters, 0, record.length(8)),
+        };
+        let answer = saftvrmie_energies::dispersion(&state, record.is_wanted());
         match answer {
             Err(r) => record.tells(Some(r)),
             Ok(x) => record.tells(None) & (record.word(15) == bits_of(x)),

@@ -9,4 +9,4 @@ pub returns-in_err-hs_diameter : goal.returns-in_err-hs_diameter
 returns-in_err-hs_diameter c = rw (handed_on _ c.from_residual.ensures) (mie_diameters _ _ _ _ _ _ _ _ (verdict_refused _ _ c.hs_diameter.ensures.0 c.in_err-hs_diameter.was) refl)
 
 pub returns : goal.returns
-returns c = mie_energies _ _ _ _ _ _ _ _ _ (verdict_held _ _ _ c.hs_diameter.ensures.0 c.in_ok-hs_diameter.was) c.hs_diameter.ensures.1 c.dispersion.ensures
+returns c = mie_energies c.args.set _ _ _ _ _ _ _ _ (verdict_held _ _ _ c.hs_diameter.ensures.0 c.in_ok-hs_diameter.was) c.hs_diameter.ensures.1 (rw c.from.ensures at c.dispersion.ensures)

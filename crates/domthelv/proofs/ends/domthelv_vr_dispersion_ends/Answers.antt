@@ -22,4 +22,4 @@ pub deliver_list-requires : goal.deliver_list-requires
 deliver_list-requires c = (omega arith, fits 2 pair_written _ _ _ c.map.ensures.cases (λ x e. c.if-out-ne2.false))
 
 pub returns : goal.returns
-returns c = list_delivered (λ x. x) pair_written 2 _ _ _ _ _ _ _ c.map.ensures.cases (λ x e. c.if-out-ne2.false) (by_self _ ∙ c.dispersion_ends-worked.ensures) (mie_dispersion_ends_is _ _ _ _ _ _ _ (eq-eqb _ _ c.if-out-ne2.false) _ (set_is _ _ _ (mie_holds _ (told c.mie_lengths.ensures c.if-not-mie_lengths.false)) c.mie_set-set.ensures)) c.deliver_list.ensures
+returns c = list_delivered (λ x. x) pair_written 2 _ _ _ _ _ _ _ c.map.ensures.cases (λ x e. c.if-out-ne2.false) (by_self _ ∙ rw c.from.ensures at c.dispersion_ends-worked.ensures) (mie_dispersion_ends_is _ _ _ _ _ _ _ (eq-eqb _ _ c.if-out-ne2.false) _ (set_is _ _ _ (mie_holds _ (told c.mie_lengths.ensures c.if-not-mie_lengths.false)) c.mie_set-set.ensures)) c.deliver_list.ensures

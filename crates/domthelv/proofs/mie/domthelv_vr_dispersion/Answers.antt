@@ -32,4 +32,4 @@ pub returns : goal.returns
 returns c =
     let e = (mie_lengths_told _ _ (told c.mie_lengths.ensures c.if-not-mie_lengths.false)).flat in
     let s = mie_by _ _ _ _ _ _ _ _ (mie_holds _ (told c.mie_lengths.ensures c.if-not-mie_lengths.false)) c.places-m.ensures c.places-sigma.ensures c.places-epsilon_k.ensures c.places-lr.ensures c.places-la.ensures (c.in-Ok.ensures.1.same ∙ taken_whole _ _ e) in
-    delivered _ _ _ _ _ c.deliver.ensures (c.dispersion_of-worked.ensures ∙ sym (dispersion_is _ _ _ _ _ _ _ s))
+    delivered _ _ _ _ _ c.deliver.ensures (c.dispersion-worked.ensures ∙ sym (dispersion_is _ _ _ _ _ _ _ s))

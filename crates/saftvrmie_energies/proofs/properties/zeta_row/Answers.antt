@@ -1,27 +1,32 @@
 -- `saftvrmie_energies::properties::zeta_row` meets its contract. Assumes nothing.
 use borrow.Author.Rules.{rules}
 use native.Mathlib.Omega.{arith}
+use Prim.Native.Nat.{◌+◌, ◌-◌, ◌≤◌}
 use Rattle.number.proofs.Walk.{turns_none, turns_next, turns_end}
 use lib.Ieee.{of_bits}
 use Rattle.number.specs.Arith.{decimal}
 use Rattle.saftvrmie_energies.specs.Properties.{zeta_turn, zeta_row}
+use Rattle.saftvrmie_energies.proofs.Laws.{of_none, from_start, from_next}
 use Rattle.saftvrmie_energies.proofs.properties.zeta_row.Goals as goal
 
-pub loop-k-init : goal.loop-k-init
-loop-k-init g c = (search rules, λ w f h. turns_none _ _)
+pub loop-j-init : goal.loop-j-init
+loop-j-init g c = (search rules, search rules, λ w f h. rw (of_none (c.args.i + 1)) (turns_none _ _))
 
-pub loop-k-preserved : goal.loop-k-preserved
+pub loop-j-preserved : goal.loop-j-preserved
 unfolding zeta_turn decimal of_bits
-loop-k-preserved g c =
+loop-j-preserved g c =
     let m = g.met.D.DualNum in
-    (search rules, λ w f h. turns_next _ _ _ _ _ (c.loop-k.invariant.1 w f h) (rw (m.add_law w _ _ _ c.add-s-in-loop-k.ensures, m.mul_plain_law w _ _ _ c.mul-in-loop-k-3.ensures, m.mul_law w _ _ _ c.mul-in-loop-k-2.ensures, m.mul_law w _ _ _ c.mul-in-loop-k.ensures, c.component.ensures w, c.component-xi.ensures w, h _ _ _ (search rules) (omega (arith, c.loop-k-test.true)) c.cube-in-loop-k.ensures, m.plain_lit_law w _ _ c.lit-two.ensures)))
+    let d = from_start _ _ c.loop-j.invariant.0 in
+    (omega (arith, c.loop-j.invariant.0), search rules, λ w f h. rw (from_next _ _ c.loop-j.invariant.0) (turns_next _ _ _ _ _ (c.loop-j.invariant.2 w f h) (rw (m.add_law w _ _ _ c.add-s-in-loop-j.ensures, m.mul_plain_law w _ _ _ c.mul-in-loop-j-3.ensures, m.mul_law w _ _ _ c.mul-in-loop-j-2.ensures, m.mul_law w _ _ _ c.mul-in-loop-j.ensures, c.component.ensures w, c.component-xi.ensures w, h _ _ _ c.requires.inside.1 c.loop-j-test.true c.cube-in-loop-j.ensures, m.plain_lit_law w _ _ c.lit-two.ensures, ← d))))
 
 pub returns : goal.returns
 unfolding zeta_row decimal of_bits
 returns g c w f h =
     let m = g.met.D.DualNum in
+    let p : c.loop-j.j - (c.args.i + 1) ≤ c.args.n - (c.args.i + 1) = omega (arith, c.loop-j.invariant.1) in
+    let q : c.args.n - (c.args.i + 1) ≤ c.loop-j.j - (c.args.i + 1) = omega (arith, c.loop-j-test.false) in
     rw (
-      turns_end _ _ _ _ _ c.loop-k.invariant.0 c.loop-k-test.false (c.loop-k.invariant.1 w f h),
+      turns_end _ _ _ _ _ p q (c.loop-j.invariant.2 w f h),
       m.add_law w _ _ _ c.add-s.ensures,
       m.mul_law w _ _ _ c.mul.ensures,
       c.square.ensures w,

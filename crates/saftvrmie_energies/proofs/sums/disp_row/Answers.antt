@@ -8,8 +8,8 @@ use Rattle.saftvrmie_energies.proofs.sums.disp_row.Goals as goal
 
 pub returns-in_err-t : goal.returns-in_err-t
 unfolding disp_row ◌>>=◌
-returns-in_err-t g c w = rw (handed_on _ c.from_residual.ensures, via (answer_by (terms_by (g.D.DualNum.of w))) (rw (c.pure_at-p.ensures, c.entered.ensures w) at (c.pair_terms.ensures w)) c.in_err-t.was)
+returns-in_err-t g c w = rw (handed_on _ c.from_residual.ensures, via (answer_by (terms_by (g.D.DualNum.of w))) (rw (c.pure_at-p.ensures, c.entered-d.ensures w) at (c.pair_terms.ensures w)) c.in_err-t.was)
 
 pub returns : goal.returns
 unfolding disp_row ◌>>=◌
-returns g c w = rw (via (answer_by (terms_by (g.D.DualNum.of w))) (rw (c.pure_at-p.ensures, c.entered.ensures w) at (c.pair_terms.ensures w)) c.in_ok-t.was, c.pair_row.ensures w, c.add_pure-next.ensures w, c.component.ensures w)
+returns g c w = rw (via (answer_by (terms_by (g.D.DualNum.of w))) (rw (c.pure_at-p.ensures, c.entered-d.ensures w) at (c.pair_terms.ensures w)) c.in_ok-t.was, c.pair_row.ensures w, c.add_pure-next.ensures w, c.component.ensures w)

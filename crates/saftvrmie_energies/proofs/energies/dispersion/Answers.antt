@@ -1,11 +1,11 @@
--- `saftvrmie_energies::energies::dispersion_of` meets its contract. Assumes nothing.
+-- `saftvrmie_energies::energies::dispersion` meets its contract. Assumes nothing.
 use borrow.Author.Rules.{rules}
 use mathlib.Core.Bool.{true}
 use Rattle.mie_parameters.proofs.Laws.{held_at, refused_at}
 use Rattle.saftvrmie_energies.proofs.Laws.{right_high, right_x, right_rho, right_d, first_passed, second_passed, test_told, refuses_1, refuses_2, refuses_6, refuses_or_holds}
 use Rattle.number.proofs.Walk.{via, handed_on}
 use Rattle.number.specs.Answer.{answer_by}
-use Rattle.saftvrmie_energies.proofs.energies.dispersion_of.Goals as goal
+use Rattle.saftvrmie_energies.proofs.energies.dispersion.Goals as goal
 
 pub returns-in_err-tested : goal.returns-in_err-tested
 returns-in_err-tested c = rw (handed_on _ c.from_residual.ensures) (test_told _ _ _ _ (refused_at _ _ _ _ c.tested.ensures c.in_err-tested.was) (refuses_1 _ _ _ _ _ _) (refuses_2 _ _ _ _ _ _))
