@@ -1,5 +1,8 @@
 -- Lent lists and a run's own as the formulas read them: the contracts of helpers alone.
-use Rattle.std.specs.Prelude.{ℕ, Float, List, map, length, ◌≡◌, ◌<◌, ◌≤◌}
+use Rattle.std.specs.Prelude.{ℕ, Float, List, map, length, Result, ◌≡◌, ◌<◌, ◌≤◌}
+use Rattle.number.specs.declared.refusal.Refusal.{Refusal}
+use Rattle.number.specs.Ans.{Ans}
+use Rattle.number.specs.Answer.{answer_by}
 use Rattle.number.specs.Arith.{Arith}
 use Rattle.number.specs.Lists.{at, nth}
 use Rattle.sizes.specs.Sizes.{side}
@@ -28,6 +31,10 @@ read A of l = nth A (map of l)
 -- what a closure gives of each pair of the count
 abbrev pub Cubes : {D N : Type 0} → ℕ → (D → N) → (ℕ → ℕ → D → Type 0) → (ℕ → ℕ → N) → Type 0
 Cubes n of post c = (i j : ℕ) (r : _) → i < n → j < n → post i j r → of r ≡ c i j
+
+-- what a closure gives of each row below the count, from the sum before it
+abbrev pub Rows : {D N : Type 0} → ℕ → (D → N) → (ℕ → D → Result D Refusal → Type 0) → (ℕ → N → Ans N) → Type 0
+Rows n of post f = (i : ℕ) (sum : _) (r : _) → i < n → post i sum r → answer_by of r ≡ f i (of sum)
 
 abbrev pub properties_by : {S N : Type 0} → (S → N) → Properties S → PropertiesIn N
 properties_by of q = record { segment_density = of q.segment_density; zeta_x = of q.zeta_x; zeta_x_bar = of q.zeta_x_bar; k = k_by of q.k }

@@ -1,9 +1,13 @@
 // The sums of the three orders and of the chain over components and pairs (saftvrmie/eos/dispersion.rs). Indexes are turns of loops over the count, since a turn reads each of the state's lists, the segment fractions and the sheets at its index.
-ghost use Rattle.std.specs.Prelude.{◌≡◌, Bool, ◌<◌};
+ghost use Rattle.std.specs.Prelude.{◌≡◌, ℕ, Bool, ◌<◌};
+ghost use Rattle.number.specs.Ans.{Ans};
+ghost use Rattle.number.specs.Walk.{walk};
 ghost use Rattle.number.specs.Answer.{answer_by};
 ghost use Rattle.slope_num.specs.Value.{slope_by};
+ghost use Rattle.saftvrmie_dispersion.specs.Terms.{SumsIn};
 ghost use Rattle.saftvrmie_dispersion.specs.Answer.{fluid_by, bar_by, sums_by, k_by};
 ghost use Rattle.saftvrmie_energies.specs.Dispersion.{no_sums};
+ghost use Rattle.saftvrmie_energies.specs.Reads.{Rows};
 ghost use Rattle.saftvrmie_energies.specs.Sums.{turn_of, pairs_of, row_of, rows_of, chain_row_of, chain_rows_of};
 
 use crate::mixture::Mixture;
@@ -81,15 +85,27 @@ fn no_sums<D: PlainNum>() -> Sums<D>
     }
 }
 
+// A sum from nothing on, row by row, up to the first that refuses.
+fn rows<D: PlainNum, F: Fn(usize, Sums<D>) -> Result<Sums<D>, Refusal>>(
+    n: usize,
+    row: F,
+) -> Result<Sums<D>, Refusal>
+    requires { (i : ℕ) (sum : _) → i < n → F.pre row i sum }
+    ensures { (w : Bool) (f : ℕ → SumsIn (D.beside w).Num → Ans (SumsIn (D.beside w).Num)) → Rows n (sums_by (D.of w)) (F.post row) f
+        → answer_by (sums_by (D.of w)) result ≡ walk n f (no_sums (D.beside w) (D.functions w)) }
+{
+    let mut sum = no_sums::<D>();
+    for i in 0usize..n {
+        sum = row(i, sum)?;
+    }
+    Ok(sum)
+}
+
 pub fn disp_rows<D: PlainNum>(m: &Mixture<D>, bar: &Bar<D>) -> Result<Sums<D>, Refusal>
     ensures { (w : Bool) → answer_by (sums_by (D.of w)) result
         ≡ rows_of (D.beside w) (D.functions w) (D.of w) m.now (bar_by (D.of w) bar.now) }
 {
-    let mut sum = no_sums::<D>();
-    for i in 0usize..m.state.set.count {
-        sum = disp_row(m, bar, i, sum)?;
-    }
-    Ok(sum)
+    rows(m.state.set.count, |i, sum| disp_row(m, bar, i, sum))
 }
 
 // Component i with slopes and its link, then its pairs.
@@ -129,9 +145,8 @@ pub fn chain_rows<S: ChainNum>(
         answer_by (sums_by of) result
         ≡ chain_rows_of (S.Re.beside w) (S.Re.functions w) of m.now (bar_by of chain.now.bar) v (k_by of chain.now.k) (of t_inv) }
 {
-    let mut sum = no_sums::<S::Re>();
-    for i in 0usize..m.state.set.count {
-        sum = chain_row(m, chain, t_inv, i, sum)?;
-    }
-    Ok(sum)
+    rows(
+        m.state.set.count,
+        |i, sum| chain_row(m, chain, t_inv, i, sum),
+    )
 }
