@@ -88,13 +88,6 @@ number_same kind (suc (suc k)) e h = absurd (omega arith)
 
 -- ---- field k as the code finds it
 module _ (newer : Bool) (n k : ℕ) where
-  form_spared : (form_of newer).spared ≡ newer
-  form_spared = either newer
-    where
-      either : (b : Bool) → (form_of b).spared ≡ b
-      either true = refl
-      either false = refl
-
   -- of the quantum model
   pub order_field : (kind : ℕ) → kind ≡ 0 → k < 6 * n → k % 6 ≡ 5 → record { width = 2; spared = false } ≡ get_or (layout (form_of newer) kind n) k float
   unfolding component
@@ -131,10 +124,10 @@ module _ (newer : Bool) (n k : ℕ) where
       fifth (suc (suc (suc (suc zero)))) = refl
       fifth (suc (suc (suc (suc (suc e))))) = refl
 
-  pub pair_field : (kind s : ℕ) → s ≡ size kind → s * n ≤ k → k < value_count kind n → record { width = 64; spared = newer } ≡ get_or (layout (form_of newer) kind n) k float
-  pair_field kind s z h g =
+  pub pair_field : (kind s : ℕ) (spared : Bool) → s ≡ size kind → spared ≡ (form_of newer).spared → s * n ≤ k → k < value_count kind n → record { width = 64; spared = spared } ≡ get_or (layout (form_of newer) kind n) k float
+  pair_field kind s spared z y h g =
       let m : n * s ≡ s * n = mul_comm n s in
       let d : n * s + (k - n * s) ≡ k = omega (arith, m) in
       let b = rw (sym z) at g in
       let p = rw (sym z) at (layout_pair (form_of newer) kind n (k - n * s)) in
-      sym (rw (d, form_spared) at (p (omega (arith, b, m))))
+      sym (rw (d, ← y) at (p (omega (arith, b, m))))

@@ -6,7 +6,7 @@ use Rattle.number.specs.Answer.{code}
 use native.Mathlib.Nat.{le_of_eq, mul-le-mul}
 use native.Mathlib.Numerals.{add-one}
 use native.Mathlib.Omega.{arith}
-use lib.Dec.{eqb, leb, leb-zero}
+use lib.Dec.{eqb, leb}
 use lib.ListN.{length, get_or, take, drop, set, length-drop, drop_of_length-le}
 use lib.Seq.{drop-drop, drop-cons, take-suc-set, take_all}
 use mathlib.Core.Path.{◌≡◌, refl, sym, ◌∙◌}
@@ -17,7 +17,7 @@ use Rattle.number.specs.Ans.{Ans, held, refused, ◌>>=◌, demand}
 use Rattle.bit_fields.specs.Bits.{numeral, bits_of}
 use Rattle.bit_fields.proofs.Bytes.{bits_length}
 use Rattle.card.specs.Fields.{Read, Numbers, read_plain, read_spared, read_field, read_fields}
-use Rattle.card.specs.Card.{Form, form_of, layout, size, value_count, known, filling, field_answer, end_of}
+use Rattle.card.specs.Card.{Form, layout, size, value_count, known, filling, field_answer, end_of}
 use Rattle.card.proofs.Fields.{layout_length}
 use Rattle.card.specs.declared.Field.{Field}
 use Rattle.card.specs.declared.FieldValue.{FieldValue}
@@ -136,13 +136,9 @@ value_small kind n h =
     few false = omega arith
 
 -- ---- the tests of a card
-pub known_newer : (newer : Bool) (model count : ℕ) → newer ≡ true → (leb 2 model && leb model 3 && leb 1 count && leb count 12) ≡ known (form_of newer) model count
+pub known_by : (f : Form) (first most model count : ℕ) → first ≡ f.first → most ≡ f.most → (leb first model && leb model (first + 1) && leb 1 count && leb count most) ≡ known f model count
 unfolding known
-known_newer newer model count e = rw e
-
-pub known_older : (newer : Bool) (model count : ℕ) → newer ≡ false → (leb model 1 && leb 1 count && leb count 8) ≡ known (form_of newer) model count
-unfolding known
-known_older newer model count e = rw (e, leb-zero model)
+known_by f first most model count a b = rw (a, b)
 
 module _ (card : List ℕ) (end : ℕ) where
   left : length (drop end (bits_of card)) ≡ 8 * length card - end

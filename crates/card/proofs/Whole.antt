@@ -14,6 +14,7 @@ use Rattle.number.specs.Ans.{held, refused, ◌>>=◌, demand}
 use Rattle.bit_fields.specs.Bits.{bits_of}
 use Rattle.card.specs.Fields.{read_plain, read_field, read_fields}
 use Rattle.card.specs.Card.{Form, form_of, heading, layout, value_count, known, filling, read_card, field_answer, end_answer, reach_of, card_answer, kind_of, number_of}
+use Rattle.card.specs.declared.Form.{Form as CardForm}
 use Rattle.card.specs.declared.Kind.{Kind}
 use Rattle.card.specs.declared.FieldValue.{FieldValue}
 use Rattle.card.proofs.Fields.{number_same}
@@ -99,8 +100,8 @@ module _ (f : Form) (card : List ℕ) (first : Result FieldValue Refusal) (p : f
               let s = rw (c, k) at r in
               rw (headed, t, ← s, z)
 
-          pub whole : (newer : Bool) → filling (drop end (bits_of card)) ≡ true → card_answer values (Ok (record { kind = kind; count = count.value; newer = newer })) ≡ read_card f card
+          pub whole : (form : CardForm) → filling (drop end (bits_of card)) ≡ true → card_answer values (Ok (record { kind = kind; count = count.value; form = form })) ≡ read_card f card
           unfolding read_card demand ◌>>=◌
-          whole newer z =
+          whole form z =
               let s = rw (c, k) at r in
               rw (headed, t, ← s, z, k)

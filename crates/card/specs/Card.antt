@@ -3,6 +3,8 @@ use Rattle.std.specs.Prelude.{◌≡◌, ◌≤◌, ℕ, ◌+◌, ◌*◌, ◌-�
 use Rattle.number.specs.declared.refusal.Refusal.{Refusal}
 use Rattle.number.specs.Answer.{code}
 use Rattle.card.specs.declared.Heading.{Heading}
+use Rattle.card.specs.declared.Form.{Form as CardForm}
+use Rattle.card.specs.declared.Form.TheVariants.{Older, Newer}
 use Rattle.card.specs.declared.Kind.{Kind}
 use Rattle.card.specs.declared.Kind.TheVariants.{Quantum, Mie}
 use Rattle.card.specs.declared.FieldValue.{FieldValue}
@@ -31,6 +33,11 @@ newer_form = record { first = 2; most = 12; spared = true }
 
 abbrev pub form_of : Bool → Form
 form_of newer = cond newer newer_form older
+
+-- of a form in the code, whether it is the newer one
+abbrev pub is_newer : CardForm → Bool
+is_newer Older = false
+is_newer Newer = true
 
 -- ---- the fields. A card's kind is 0 for quantum, 1 for VR Mie.
 
@@ -105,7 +112,7 @@ kind_of n = cond (eqb n 0) Quantum Mie
 
 -- of a heading: its fields, how many they are, that its count is within the limits, and that these are its numbers
 abbrev pub fields_of : Heading → List Field
-fields_of h = layout (form_of h.newer) (number_of h.kind) h.count
+fields_of h = layout (form_of (is_newer h.form)) (number_of h.kind) h.count
 
 abbrev pub total_of : Heading → ℕ
 total_of h = value_count (number_of h.kind) h.count
@@ -138,6 +145,6 @@ card_answer values (Ok c) = held (record { kind = number_of c.kind; count = c.co
 card_answer values (Err r) = refused (code r)
 
 -- the form of a card that was read
-abbrev pub form_read : Bool → Result Heading Refusal → Bool
-form_read newer (Ok c) = c.newer
-form_read newer (Err r) = newer
+abbrev pub form_read : CardForm → Result Heading Refusal → CardForm
+form_read form (Ok c) = c.form
+form_read form (Err r) = form

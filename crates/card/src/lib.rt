@@ -1,10 +1,10 @@
 // The fuel card, read as patterns of 64 bits: field by field, by its list of fields.
 #![tactic(auto)]
 
-ghost use Rattle.std.specs.Prelude.{◌≡◌, ◌+◌, ◌*◌, ◌-◌, ◌^◌, ◌<◌, ◌≤◌, length, get_or, drop};
+ghost use Rattle.std.specs.Prelude.{◌≡◌, not, ◌+◌, ◌*◌, ◌-◌, ◌^◌, ◌<◌, ◌≤◌, length, get_or, drop};
 ghost use Rattle.bit_fields.specs.Bits.{bits_of};
 ghost use Rattle.card.specs.Fields.{IsWidth, read_plain, read_spared, read_field, read_fields};
-ghost use Rattle.card.specs.Card.{form_of, float, most_components, kind_of, fields_of, total_of, Within, read_card, field_answer, end_of, end_answer, reach_of, card_answer, form_read, known, filling};
+ghost use Rattle.card.specs.Card.{form_of, is_newer, float, most_components, kind_of, fields_of, total_of, Within, read_card, field_answer, end_of, end_answer, reach_of, card_answer, form_read, known, filling};
 
 use number::Refusal;
 
@@ -17,7 +17,7 @@ pub const NEWER_MOST: usize = 12;
 // The most numbers behind a heading: twelve components of the quantum model, six each, and two for each pair.
 pub const VALUES: usize = 204;
 
-// How a field is stored: its width, and whether a bit first says that it is 0. A yes or no, as is `newer` below, the form of card: the exported functions have each form under its own name.
+// How a field is stored: its width, and whether a bit first says that it is 0.
 #[derive(Clone, Copy)]
 pub struct Field {
     pub width: usize,
@@ -51,12 +51,61 @@ impl From<usize> for Kind {
     }
 }
 
+// A card's form. The definitions ask whether it is the newer one: `is_newer`.
+#[derive(Clone, Copy)]
+pub enum Form {
+    Older,
+    Newer,
+}
+
+impl Form {
+    // The quantum model's number on a card; SAFT-VR Mie's is one more.
+    pub fn first(self) -> u64
+        ensures { (result ≡ (form_of (is_newer self)).first) × (result ≤ 2) }
+    {
+        match self {
+            Form::Older => 0,
+            Form::Newer => 2,
+        }
+    }
+
+    // The most components.
+    pub fn most(self) -> usize
+        ensures { result ≡ (form_of (is_newer self)).most }
+    {
+        match self {
+            Form::Older => MOST,
+            Form::Newer => NEWER_MOST,
+        }
+    }
+
+    // Whether a pair's number is not stored where it is +0.
+    fn spares_zero(self) -> bool
+        ensures { result ≡ (form_of (is_newer self)).spared }
+    {
+        match self {
+            Form::Older => false,
+            Form::Newer => true,
+        }
+    }
+
+    // The form that a card of this one is moved to.
+    pub fn other(self) -> Form
+        ensures { is_newer result ≡ not (is_newer self) }
+    {
+        match self {
+            Form::Older => Form::Newer,
+            Form::Newer => Form::Older,
+        }
+    }
+}
+
 // What a card's fields hang on: its kind, how many components it has, and its form.
 #[derive(Clone, Copy)]
 pub struct Heading {
     pub kind: Kind,
     pub count: usize,
-    pub newer: bool,
+    pub form: Form,
 }
 
 // No card comes near 2^16 bits.
@@ -132,7 +181,7 @@ impl Heading {
         }
         Field {
             width: 64,
-            spared: self.newer,
+            spared: self.form.spares_zero(),
         }
     }
 
@@ -172,13 +221,12 @@ fn read_values(
     Ok(end)
 }
 
-fn known(newer: bool, model: u64, count: u64) -> bool
-    ensures { result ≡ known (form_of newer) model count }
+fn known(form: Form, model: u64, count: u64) -> bool
+    ensures { result ≡ known (form_of (is_newer form)) model count }
 {
-    if newer {
-        return (2 <= model) & (model <= 3) & (1 <= count) & (count <= NEWER_MOST as u64);
-    }
-    (model <= 1) & (1 <= count) & (count <= MOST as u64)
+    let first = form.first();
+    let most = form.most() as u64;
+    (first <= model) & (model <= first + 1) & (1 <= count) & (count <= most)
 }
 
 // Whether fewer than eight bits are left, all of them zero.
@@ -197,28 +245,28 @@ fn filling(card: &[u8], end: usize) -> bool
 }
 
 // The kind of a known model.
-fn kind_of(newer: bool, model: u64) -> Kind
-    requires { (form_of newer).first ≤ model }
-    ensures { result ≡ kind_of (model - (form_of newer).first) }
+fn kind_of(form: Form, model: u64) -> Kind
+    requires { (form_of (is_newer form)).first ≤ model }
+    ensures { result ≡ kind_of (model - (form_of (is_newer form)).first) }
 {
-    let first = if newer { 2 } else { 0 };
-    Kind::from(model as usize - first)
+    let number = model - form.first();
+    Kind::from(number as usize)
 }
 
 // A card's heading, its numbers in an array that is lent; of a card that is refused the array holds what was read before.
-pub fn read(card: &[u8], newer: bool, values: &mut [u64; VALUES]) -> Result<Heading, Refusal>
-    ensures { (card_answer values.new result ≡ read_card (form_of newer) card.now) × (length values.new ≡ 204) × (form_read newer result ≡ newer) }
+pub fn read(card: &[u8], form: Form, values: &mut [u64; VALUES]) -> Result<Heading, Refusal>
+    ensures { (card_answer values.new result ≡ read_card (form_of (is_newer form)) card.now) × (length values.new ≡ 204) × (form_read form result ≡ form) }
 {
     let model = plain(card, 0, 2)?;
     let count = plain(card, model.end, 4)?;
-    if !known(newer, model.value, count.value) {
+    if !known(form, model.value, count.value) {
         return Err(Refusal::Heading);
     }
-    let kind = kind_of(newer, model.value);
+    let kind = kind_of(form, model.value);
     let head = Heading {
         kind,
         count: count.value as usize,
-        newer,
+        form,
     };
     let end = read_values(card, count.end, head, values)?;
     if !filling(card, end) {

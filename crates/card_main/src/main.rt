@@ -3,6 +3,7 @@
 
 ghost use Rattle.std.specs.Prelude.{◌<◌};
 
+use card::Form;
 use case_arguments::{list, whole_at};
 use number::bits_of;
 use records::{Records, floats, part};
@@ -11,7 +12,7 @@ use std::fs::File;
 use std::io::{self, Read};
 
 // What is told of a refused card is what was lent: model 9, count 99 and zeros.
-fn read(rt: &impl Print, card: &[u8], newer: bool) -> io::Result<()> {
+fn read(rt: &impl Print, card: &[u8], form: Form) -> io::Result<()> {
     let mut model = 9;
     let mut count = 99;
     let mut m = [0.0; SIDE];
@@ -20,7 +21,7 @@ fn read(rt: &impl Print, card: &[u8], newer: bool) -> io::Result<()> {
     let mut orders = [0; SHEET];
     let answer = card_parameters::parameters(
         card,
-        newer,
+        form,
         &mut model,
         &mut count,
         &mut m,
@@ -43,9 +44,9 @@ fn told(rt: &impl Print, number: u8, length: usize, list: &[u8]) -> io::Result<(
     println!(rt; "")
 }
 
-fn moved(rt: &impl Print, card: &[u8], newer: bool, list: &mut [u8]) -> io::Result<()> {
+fn moved(rt: &impl Print, card: &[u8], form: Form, list: &mut [u8]) -> io::Result<()> {
     let mut length = 9999;
-    let answer = card_writer::moved(card, newer, list, &mut length);
+    let answer = card_writer::moved(card, form, list, &mut length);
     told(rt, mie_parameters::number(answer), length, list)
 }
 
@@ -67,9 +68,10 @@ fn cards(rt: &impl Print, file: &mut impl Read) -> io::Result<()> {
             break;
         };
         match record[2] {
-            0 => read(rt, card, false)?,
-            1 => read(rt, card, true)?,
-            task => moved(rt, card, task == 3, room)?,
+            0 => read(rt, card, Form::Older)?,
+            1 => read(rt, card, Form::Newer)?,
+            3 => moved(rt, card, Form::Newer, room)?,
+            _ => moved(rt, card, Form::Older, room)?,
         }
     }
     Ok(())

@@ -12,7 +12,7 @@ ghost use Rattle.card_writer.specs.Writing.{card_bytes, CardRoom, card_stored};
 ghost use Rattle.number.specs.Ans.{◌>>=◌ as bound_to, demand};
 ghost use Rattle.card_of_lists.specs.Cards.{quantum_component_of, mie_component_of, pair_row, pair_rows, passed_by, vrq_card, vr_card};
 
-use card::{Heading, Kind, MOST, VALUES};
+use card::{Form, Heading, Kind, MOST, VALUES};
 use number::Refusal;
 use saftvrmie_parameters::ComponentLists as MieLists;
 use saftvrqmie_parameters::ComponentLists as QuantumLists;
@@ -111,7 +111,7 @@ fn stored(
     let head = Heading {
         kind,
         count: n,
-        newer: false,
+        form: Form::Older,
     };
     let total = head.value_count();
     pair_rows(values, total - n * (n - 1), n, k_ij, l_ij);

@@ -7,11 +7,11 @@ ghost use Rattle.number.specs.Answer.{answer};
 ghost use Rattle.mie_parameters.specs.Answer.{outcome, verdict, stored};
 ghost use Rattle.saftvrqmie_parameters.specs.Parameters as Quantum;
 ghost use Rattle.saftvrmie_parameters.specs.Parameters as Mie;
-ghost use Rattle.card.specs.Card.{Card, form_of};
+ghost use Rattle.card.specs.Card.{Card, form_of, is_newer};
 ghost use Rattle.card_lists.specs.Lists.{quantum_lists, mie_lists};
 ghost use Rattle.card_parameters.specs.Parameters.{CardLent, card_lengths, card_parameters};
 
-use card::{Kind, VALUES};
+use card::{Form, Kind, VALUES};
 use card_lists::PairNumbers;
 use number::Refusal;
 use saftvrmie_parameters::SaftVRMiePars;
@@ -92,7 +92,7 @@ fn card_lengths(m: &[f64], lists: &[f64], sheets: &[f64], orders: &[u8]) -> bool
 // A card's model and count, and its set in the lists of that model. 1, then the card's refusals, then the parameters'. The lent lists are the C call's own, one by one: in a struct of six `&mut` each would be named once more at both calls and in this contract.
 pub fn parameters(
     card: &[u8],
-    newer: bool,
+    form: Form,
     model: &mut u8,
     count: &mut usize,
     m: &mut [f64],
@@ -109,7 +109,7 @@ pub fn parameters(
           sheets = sheets.old;
           orders = orders.old;
         } in
-        let q = card_parameters (form_of newer) card.now l in
+        let q = card_parameters (form_of (is_newer form)) card.now l in
         (outcome result true ≡ verdict q) × (model.exit.now ≡ (stored l q).model) × (count.new ≡ (stored l q).count) × (m.new ≡ (stored l q).m)
         × (lists.new ≡ (stored l q).lists) × (sheets.new ≡ (stored l q).sheets) × (orders.new ≡ (stored l q).orders) }
 {
@@ -117,7 +117,7 @@ pub fn parameters(
         return Err(Refusal::Length);
     }
     let mut values = [0; VALUES];
-    let head = card::read(card, newer, &mut values)?;
+    let head = card::read(card, form, &mut values)?;
     let n = head.count;
     let total = head.value_count();
     match head.kind {

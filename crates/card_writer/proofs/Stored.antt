@@ -4,21 +4,20 @@ use Rattle.std.specs.Prelude.{Err, Ok, Result}
 use Rattle.number.specs.declared.refusal.Refusal.{Refusal}
 use Rattle.number.specs.Answer.{code}
 use native.Mathlib.Omega.{arith}
-use lib.Dec.{ltb}
 use lib.Pow.{shr_le}
 use lib.ListN.{length, take, drop, replicate, length-append}
 use lib.Seq.{get_or-drop, length-take-le}
 use mathlib.Core.Path.{◌≡◌, refl, sym, ap, ◌∙◌}
-use mathlib.Core.Bool.{Bool, true, false, not, ◌&&◌}
+use mathlib.Core.Bool.{Bool, true, false}
 use mathlib.Core.List.{List, [], ◌∷◌, ◌++◌, append-nil}
-use borrow.Author.Tests.{le-leb, lt-leb, ltb-true, ltb-false}
+use borrow.Author.Tests.{le-leb, lt-leb}
 use Rattle.number.specs.Ans.{Ans, held, refused, ◌>>=◌, demand}
 use Rattle.mie_parameters.specs.Answer.{verdict, stored}
 use Rattle.bit_fields.specs.Bits.{digits, bits_of, over}
 use Rattle.bit_fields.proofs.Digits.{digits_length, numeral_below}
 use Rattle.bit_fields.proofs.Bytes.{Bytes, bits_length, bits_drop}
 use Rattle.bit_fields.proofs.Written.{over_over}
-use Rattle.card.specs.Card.{Card, Form, form_of, number_of, layout, value_count, read_card, card_answer}
+use Rattle.card.specs.Card.{Card, Form, number_of, layout, value_count, read_card, card_answer}
 use Rattle.card.specs.declared.Heading.{Heading}
 use Rattle.card.proofs.Good.{Counted, counted}
 use Rattle.card.proofs.Reading.{value_small}
@@ -179,15 +178,6 @@ module _ (f g : Form) (bytes : List ℕ) (l : CardRoom) (values : List ℕ) (ans
     moved_goes total b t =
         let z : total - 0 ≡ total = omega arith in
         rw (read_is, le-leb h.count g.most b, z, t)
-
--- 16, as the code tests it
-pub too_many : (newer : Bool) (n : ℕ) → (newer && ltb 8 n) ≡ true → (form_of (not newer)).most < n
-too_many true n p = ltb-true 8 n p
-too_many false n p = let z : true ≡ false = sym p in let y : ◌≡◌ {A = ℕ} 0 1 = cc in absurd (omega arith)
-
-pub few_enough : (newer : Bool) (n : ℕ) → n ≤ (form_of newer).most → (newer && ltb 8 n) ≡ false → n ≤ (form_of (not newer)).most
-few_enough true n h p = ltb-false 8 n p
-few_enough false n h p = omega arith
 
 pub part_many : (values : List ℕ) (total kind n : ℕ) → length values ≡ 204 → n ≤ 12 → total ≡ value_count kind n → length (take (total - 0) (drop 0 values)) ≡ value_count kind n
 part_many values total kind n e h t =

@@ -4,10 +4,10 @@
 ghost use Rattle.std.specs.Prelude.{true, ◌≡◌, not, ◌++◌, ◌+◌, ◌*◌, ◌^◌, ◌<◌, ◌≤◌, length, drop};
 ghost use Rattle.bit_fields.specs.Bits.{bits_of, over};
 ghost use Rattle.mie_parameters.specs.Answer.{outcome, verdict, stored};
-ghost use Rattle.card.specs.Card.{Card, form_of, number_of, fields_of, Complete};
+ghost use Rattle.card.specs.Card.{Card, form_of, is_newer, number_of, fields_of, Complete};
 ghost use Rattle.card_writer.specs.Writing.{write_field, write_fields, card_bits, byte_count, card_bytes, CardRoom, card_stored, card_moved};
 
-use card::{Field, Heading, MOST, VALUES};
+use card::{Field, Form, Heading, VALUES};
 use number::Refusal;
 
 // How many bits a number takes.
@@ -69,12 +69,9 @@ fn write_values(card: &mut [u8], head: Heading, values: &[u64])
 
 // The model's number of a card's kind and form.
 fn model_of(head: Heading) -> u64
-    ensures { result ≡ (form_of head.newer).first + number_of head.kind }
+    ensures { result ≡ (form_of (is_newer head.form)).first + number_of head.kind }
 {
-    if head.newer {
-        return 2 + head.kind as u64;
-    }
-    head.kind as u64
+    head.form.first() + head.kind as u64
 }
 
 // A card of a known count into a lent list, and its length; 12.
@@ -87,7 +84,7 @@ pub fn store(
     requires { Complete head values.now }
     ensures { let c : Card = record { kind = number_of head.kind; count = head.count; values = values.now } in
         let l : CardRoom = record { card = card.entry.now; length = told.old } in
-        let q = card_stored (card_bytes (form_of head.newer) c) l in
+        let q = card_stored (card_bytes (form_of (is_newer head.form)) c) l in
         (outcome result true ≡ verdict q) × (card.exit.now ≡ (stored l q).card) × (told.new ≡ (stored l q).length) }
 {
     let bits = card_length(head, values);
@@ -104,22 +101,23 @@ pub fn store(
 }
 
 // A card of the one form written in the other: the refusals of reading, 16 for more components than an older card holds, 12.
-pub fn moved(card: &[u8], newer: bool, to: &mut [u8], told: &mut usize) -> Result<(), Refusal>
+pub fn moved(card: &[u8], form: Form, to: &mut [u8], told: &mut usize) -> Result<(), Refusal>
     ensures { let l : CardRoom = record { card = to.old; length = told.old } in
+        let newer = is_newer form in
         let q = card_moved (form_of newer) (form_of (not newer)) card.entry.now l in
         (outcome result true ≡ verdict q) × (to.new ≡ (stored l q).card) × (told.new ≡ (stored l q).length) }
 {
     let mut values = [0; VALUES];
-    let head = card::read(card, newer, &mut values)?;
-    let n = head.count;
-    if newer & (MOST < n) {
+    let head = card::read(card, form, &mut values)?;
+    let other = form.other();
+    if other.most() < head.count {
         return Err(Refusal::Components);
     }
     let total = head.value_count();
-    let other = Heading {
+    let moved = Heading {
         kind: head.kind,
-        count: n,
-        newer: !newer,
+        count: head.count,
+        form: other,
     };
-    store(other, &values[0..total], to, told)
+    store(moved, &values[0..total], to, told)
 }

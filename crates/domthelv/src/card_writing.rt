@@ -7,6 +7,8 @@ ghost use Rattle.card.specs.Card as Card;
 ghost use Rattle.card_writer.specs.Writing.{CardRoom, card_moved};
 ghost use Rattle.card_of_lists.specs.Cards.{vrq_card, vr_card};
 
+use card::Form;
+
 // The older card of a quantum fluid into a lent list, and its length. The parameters' 1, 2, 3, 4 or 5, then 10 for more than eight components, then 12.
 pub fn domthelv_vrq_card(
     count: usize,
@@ -101,7 +103,7 @@ pub fn domthelv_card_to_newer(card: &[u8], newer: &mut [u8], length: &mut usize)
         let q = card_moved Card.older Card.newer_form card.entry.now l in
         (result ≡ status q) × (newer.new ≡ (stored l q).card) × (length.new ≡ (stored l q).length) }
 {
-    let answer = card_writer::moved(card, false, newer, length);
+    let answer = card_writer::moved(card, Form::Older, newer, length);
     mie_parameters::number(answer)
 }
 
@@ -111,6 +113,6 @@ pub fn domthelv_card_to_older(card: &[u8], older: &mut [u8], length: &mut usize)
         let q = card_moved Card.newer_form Card.older card.entry.now l in
         (result ≡ status q) × (older.new ≡ (stored l q).card) × (length.new ≡ (stored l q).length) }
 {
-    let answer = card_writer::moved(card, true, older, length);
+    let answer = card_writer::moved(card, Form::Newer, older, length);
     mie_parameters::number(answer)
 }

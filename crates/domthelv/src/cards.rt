@@ -4,6 +4,8 @@ ghost use Rattle.mie_parameters.specs.Answer.{status, stored};
 ghost use Rattle.card.specs.Card.{older, newer_form};
 ghost use Rattle.card_parameters.specs.Parameters.{CardLent, card_parameters};
 
+use card::Form;
+
 // From a card to the parameters: its model (0 quantum, 1 SAFT-VR Mie), its count, and the set in the lists of that model; lists of the other keep their bits. 1, 9, 10, 11, then the parameters' 2, 3, 4 or 5, 6.
 pub fn domthelv_card_parameters(
     card: &[u8],
@@ -28,7 +30,14 @@ pub fn domthelv_card_parameters(
         × (set_lists.new ≡ (stored l q).lists) × (set_sheets.new ≡ (stored l q).sheets) × (set_orders.new ≡ (stored l q).orders) }
 {
     let answer = card_parameters::parameters(
-        card, false, model, count, set_m, set_lists, set_sheets, set_orders,
+        card,
+        Form::Older,
+        model,
+        count,
+        set_m,
+        set_lists,
+        set_sheets,
+        set_orders,
     );
     mie_parameters::number(answer)
 }
@@ -57,7 +66,14 @@ pub fn domthelv_newer_card_parameters(
         × (set_lists.new ≡ (stored l q).lists) × (set_sheets.new ≡ (stored l q).sheets) × (set_orders.new ≡ (stored l q).orders) }
 {
     let answer = card_parameters::parameters(
-        card, true, model, count, set_m, set_lists, set_sheets, set_orders,
+        card,
+        Form::Newer,
+        model,
+        count,
+        set_m,
+        set_lists,
+        set_sheets,
+        set_orders,
     );
     mie_parameters::number(answer)
 }

@@ -1,11 +1,5 @@
-use Rattle.card.proofs.Reading.{known_newer, known_older}
+use Rattle.card.proofs.Reading.{known_by}
 use Rattle.card.proofs.known.Goals as goal
 
--- src/lib.rt:175:9
-
-pub returns-then-newer : goal.returns-then-newer
-returns-then-newer c = known_newer _ _ _ c.if-newer.true
-
--- src/lib.rt:171:1
 pub returns : goal.returns
-returns c = known_older _ _ _ c.if-newer.false
+returns c = known_by _ _ _ _ _ c.first-first.ensures.0 c.most-most.ensures
