@@ -30,7 +30,7 @@ fn quantum_components(values: &mut [u64], l: &QuantumLists)
         values[at + 2] = number::bits_of(l.lr[i]);
         values[at + 3] = number::bits_of(l.la[i]);
         values[at + 4] = number::bits_of(l.mass[i]);
-        values[at + 5] = l.fh[i] as u64;
+        values[at + 5] = u64::from(l.fh[i]);
     }
 }
 
