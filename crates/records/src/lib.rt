@@ -91,7 +91,7 @@ pub fn floats<const W: usize>(bytes: &[u8]) -> [f64; W]
     )
 }
 
-// So many places of a list from one on; none where they are not there.
+// So many places of a list from one on; none where they are not there. The empty list says so, not a None: each caller hands it on in the list's place.
 pub fn part<T>(list: &[T], from: usize, n: usize) -> &[T]
     ensures held { from + n ≤ length list.now → result.now ≡ take n (drop from list.now) }
     ensures none { length list.now < from + n → result.now ≡ [] }
