@@ -1,13 +1,21 @@
 // Chains of calls in a file: what one model's calls work on, and the loop over a file, which is the same for both.
-use crate::record::Record;
+use crate::place::Place;
+use crate::record::{Record, Step};
 use crate::tally::{Operation, Tally};
+use records::word;
 use std::fs::File;
 use std::io::{self, Read};
 use std::rt::Files;
 
 pub trait Chains: Drop {
-    // Makes a record's call: the operation, and whether it gave what the record has; None for a change by hand or a new chain.
-    fn call(&mut self, record: &Record) -> Option<(Operation, bool)>;
+    // Makes a record's call: whether it gave what the record has. A call of the other model does not.
+    fn call(&mut self, operation: Operation, record: &Record) -> bool;
+
+    // A new chain.
+    fn begin(&mut self);
+
+    // A place of what the calls work on changed by hand.
+    fn change(&mut self, place: Place, bits: u64);
 }
 
 pub fn run<C: Chains>(rt: &impl Files, name: &str, chain: C, tally: &mut Tally) -> io::Result<()> {
@@ -21,9 +29,20 @@ fn worked<C: Chains>(file: &mut impl Read, mut chain: C, tally: &mut Tally) -> i
         if !record.is_next(file)? {
             break;
         }
-        if let Some((operation, same)) = chain.call(&record) {
-            tally.note(operation, record.word(1), same);
+        match record.step() {
+            Step::Call(operation) => {
+                let same = chain.call(operation, &record);
+                tally.note(operation, record.word(1), same);
+            }
+            Step::Begin => chain.begin(),
+            Step::Changes => changed(&mut chain, &record),
         }
     }
     Ok(())
+}
+
+fn changed<C: Chains>(chain: &mut C, record: &Record) {
+    for pair in record.changes() {
+        chain.change(Place::from(word(pair, 0)), word(pair, 1));
+    }
 }

@@ -4,11 +4,11 @@ ghost use Rattle.std.specs.Prelude.{◌≤◌};
 use crate::chains::Chains;
 use crate::hash::Hash;
 use crate::place::{Of, Place, put};
-use crate::record::{Record, WORDS};
+use crate::record::{Lists, Record, WORDS};
 use crate::tally::Operation;
 use mie_parameters::set::Parameters;
 use number::{Refusal, bits_of};
-use records::{floats, part, word};
+use records::{floats, part};
 use saftvrmie_energies::{Set, State};
 use saftvrmie_parameters::{ComponentLists, SaftVRMiePars};
 use sizes::{SHEET, SIDE};
@@ -32,22 +32,17 @@ fn hash_of(set: SaftVRMiePars) -> u64 {
 }
 
 fn parameters(record: &Record) -> Result<SaftVRMiePars, Refusal> {
-    let l: [f64; WORDS] = floats(&record.list);
-    let b = record.length(6);
-    let c = b + record.length(7);
-    let d = c + record.length(8);
-    let e = d + record.length(9);
-    let f = e + record.length(10);
-    let g = f + record.length(11);
+    let numbers: [f64; WORDS] = floats(&record.list);
+    let mut lists = Lists::new(&numbers);
     saftvrmie_parameters::saft_vr_mie_pars(&ComponentLists {
         count: record.word(2) as usize,
-        m: part(&l, 0, b),
-        sigma: part(&l, b, record.length(7)),
-        epsilon_k: part(&l, c, record.length(8)),
-        lr: part(&l, d, record.length(9)),
-        la: part(&l, e, record.length(10)),
-        k_ij: part(&l, f, record.length(11)),
-        gamma_ij: part(&l, g, record.length(12)),
+        m: lists.take(record.length(6)),
+        sigma: lists.take(record.length(7)),
+        epsilon_k: lists.take(record.length(8)),
+        lr: lists.take(record.length(9)),
+        la: lists.take(record.length(10)),
+        k_ij: lists.take(record.length(11)),
+        gamma_ij: lists.take(record.length(12)),
     })
 }
 
@@ -92,19 +87,6 @@ impl Mie {
         }
     }
 
-    // A place of the set or of the diameters changed by hand.
-    fn change(&mut self, place: Place, bits: u64) {
-        match place.of {
-            Of::Count => {
-                self.set.count = bits as usize;
-            }
-            Of::Lists => self.change_list(place.index / SHEET, place.index % SHEET, bits),
-            Of::Sheets => put(&mut self.set.sheets, place.index, bits),
-            Of::Worked => put(&mut self.diameters, place.index, bits),
-            Of::Orders | Of::Spent => {}
-        }
-    }
-
     fn change_list(&mut self, list: usize, i: usize, bits: u64) {
         match list {
             0 => put(&mut self.set.m, i, bits),
@@ -118,29 +100,29 @@ impl Mie {
 }
 
 impl Chains for Mie {
-    // The numbers of the calls are matched in this place only, so an enum would say them a second time.
-    fn call(&mut self, record: &Record) -> Option<(Operation, bool)> {
-        match record.word(0) {
-            4 => Some((Operation::MieParameters, self.parameters(record))),
-            5 => Some((Operation::MieDiameters, self.diameters(record))),
-            6 => {
-                let operation = if record.is_wanted() {
-                    Operation::MieAndChain
-                } else {
-                    Operation::MieDispersion
-                };
-                Some((operation, self.dispersion(record)))
+    fn call(&mut self, operation: Operation, record: &Record) -> bool {
+        match operation {
+            Operation::MieParameters => self.parameters(record),
+            Operation::MieDiameters => self.diameters(record),
+            Operation::MieDispersion | Operation::MieAndChain => self.dispersion(record),
+            Operation::QuantumParameters | Operation::QuantumTable | Operation::QuantumEnergies =>
+                false,
+        }
+    }
+
+    fn begin(&mut self) {
+        self.diameters = [0.0; SIDE];
+    }
+
+    fn change(&mut self, place: Place, bits: u64) {
+        match place.of {
+            Of::Count => {
+                self.set.count = bits as usize;
             }
-            10 => {
-                self.diameters = [0.0; SIDE];
-                None
-            }
-            _ => {
-                for pair in record.changes() {
-                    self.change(Place::from(word(pair, 0)), word(pair, 1));
-                }
-                None
-            }
+            Of::Lists => self.change_list(place.index / SHEET, place.index % SHEET, bits),
+            Of::Sheets => put(&mut self.set.sheets, place.index, bits),
+            Of::Worked => put(&mut self.diameters, place.index, bits),
+            Of::Orders | Of::Spent => {}
         }
     }
 }

@@ -4,11 +4,11 @@ ghost use Rattle.std.specs.Prelude.{◌≤◌};
 use crate::chains::Chains;
 use crate::hash::Hash;
 use crate::place::{Of, Place, put};
-use crate::record::{Record, WORDS};
+use crate::record::{Lists, Record, WORDS};
 use crate::tally::Operation;
 use mie_parameters::set::Parameters;
 use number::{Refusal, bits_of};
-use records::{floats, part, word};
+use records::{floats, part};
 use saftvrqmie_parameters::{ComponentLists, FeynmanHibbsOrder, OrderRecord, SaftVRQMiePars};
 use sizes::{COUNTS, TABLE};
 
@@ -27,38 +27,39 @@ fn hash_of(set: SaftVRQMiePars) -> u64 {
         .value()
 }
 
-// The orders from a byte of the list on, each in a word.
-fn orders_from(list: &[u8], from: usize) -> [u8; 16] {
+// The orders of a list of words, as bytes.
+fn orders_of(words: &[f64]) -> [u8; 16] {
     let mut orders = [0u8; 16];
-    let words = list.get(from..).unwrap_or(&[]).as_chunks::<8>().0;
     for (order, word) in orders.iter_mut().zip(words) {
-        *order = word[0];
+        *order = bits_of(*word).to_le_bytes()[0];
     }
     orders
 }
 
 fn parameters(record: &Record) -> Result<SaftVRQMiePars, Refusal> {
-    let l: [f64; WORDS] = floats(&record.list);
-    let b = record.length(6);
-    let c = b + record.length(7);
-    let d = c + record.length(8);
-    let e = d + record.length(9);
-    let f = e + record.length(10);
-    let g = f + record.length(11);
-    let h = g + record.length(12);
-    let i = h + record.length(13);
-    let orders = orders_from(&record.list, 8 * i);
+    let numbers: [f64; WORDS] = floats(&record.list);
+    let mut lists = Lists::new(&numbers);
+    let m = lists.take(record.length(6));
+    let sigma = lists.take(record.length(7));
+    let epsilon_k = lists.take(record.length(8));
+    let lr = lists.take(record.length(9));
+    let la = lists.take(record.length(10));
+    let mass = lists.take(record.length(11));
+    let k_ij = lists.take(record.length(12));
+    let l_ij = lists.take(record.length(13));
+    let fh = lists.take(record.length(14));
+    let orders = orders_of(fh);
     saftvrqmie_parameters::saft_vrq_mie_pars(&ComponentLists {
         count: record.word(2) as usize,
-        m: part(&l, 0, b),
-        sigma: part(&l, b, record.length(7)),
-        epsilon_k: part(&l, c, record.length(8)),
-        lr: part(&l, d, record.length(9)),
-        la: part(&l, e, record.length(10)),
-        mass: part(&l, f, record.length(11)),
-        fh: part(&orders, 0, record.length(14)),
-        k_ij: part(&l, g, record.length(12)),
-        l_ij: part(&l, h, record.length(13)),
+        m,
+        sigma,
+        epsilon_k,
+        lr,
+        la,
+        mass,
+        fh: part(&orders, 0, fh.len()),
+        k_ij,
+        l_ij,
     })
 }
 
@@ -71,6 +72,7 @@ impl Quantum {
         }
     }
 
+    // As of SAFT-VR Mie; one function of both would take the empty set and the hash beside the answer, for three lines.
     fn parameters(&mut self, record: &Record) -> bool {
         let answer = parameters(record);
         self.set = answer.unwrap_or(SaftVRQMiePars::empty());
@@ -119,8 +121,26 @@ impl Quantum {
             }
         }
     }
+}
 
-    // A place of the set or of the table changed by hand.
+impl Chains for Quantum {
+    fn call(&mut self, operation: Operation, record: &Record) -> bool {
+        match operation {
+            Operation::QuantumParameters => self.parameters(record),
+            Operation::QuantumTable => self.table(record),
+            Operation::QuantumEnergies => self.energies(record),
+            Operation::MieParameters
+            | Operation::MieDiameters
+            | Operation::MieDispersion
+            | Operation::MieAndChain => false,
+        }
+    }
+
+    fn begin(&mut self) {
+        self.table = [0.0; TABLE];
+        self.counts = [0u8; COUNTS];
+    }
+
     fn change(&mut self, place: Place, bits: u64) {
         match place.of {
             Of::Count => {
@@ -136,28 +156,6 @@ impl Quantum {
             }
             Of::Worked => put(&mut self.table, place.index, bits),
             Of::Spent => {}
-        }
-    }
-}
-
-impl Chains for Quantum {
-    // The numbers of the calls are matched in this place only, so an enum would say them a second time.
-    fn call(&mut self, record: &Record) -> Option<(Operation, bool)> {
-        match record.word(0) {
-            1 => Some((Operation::QuantumParameters, self.parameters(record))),
-            2 => Some((Operation::QuantumTable, self.table(record))),
-            3 => Some((Operation::QuantumEnergies, self.energies(record))),
-            10 => {
-                self.table = [0.0; TABLE];
-                self.counts = [0u8; COUNTS];
-                None
-            }
-            _ => {
-                for pair in record.changes() {
-                    self.change(Place::from(word(pair, 0)), word(pair, 1));
-                }
-                None
-            }
         }
     }
 }

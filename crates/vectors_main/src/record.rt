@@ -1,6 +1,7 @@
 // A record: its head and its list.
 ghost use Rattle.std.specs.Prelude.{◌<◌, ◌≤◌};
 
+use crate::tally::Operation;
 use number::Refusal;
 use records::{is_read, word};
 use std::io::{self, Read};
@@ -11,6 +12,14 @@ const HEAD: usize = 192;
 pub const WORDS: usize = 512;
 
 pub const BYTES: usize = 8 * WORDS;
+
+// What a record asks: a call, a new chain, or changes by hand.
+#[derive(Clone, Copy)]
+pub enum Step {
+    Call(Operation),
+    Begin,
+    Changes,
+}
 
 #[derive(Drop)]
 pub struct Record {
@@ -33,6 +42,25 @@ impl Record {
         }
         let end = 8 * self.length(5);
         is_read(file, &mut self.list[..end])
+    }
+
+    pub fn step(&self) -> Step {
+        match self.word(0) {
+            1 => Step::Call(Operation::QuantumParameters),
+            2 => Step::Call(Operation::QuantumTable),
+            3 => Step::Call(Operation::QuantumEnergies),
+            4 => Step::Call(Operation::MieParameters),
+            5 => Step::Call(Operation::MieDiameters),
+            6 => {
+                Step::Call(if self.is_wanted() {
+                    Operation::MieAndChain
+                } else {
+                    Operation::MieDispersion
+                })
+            }
+            10 => Step::Begin,
+            _ => Step::Changes,
+        }
     }
 
     pub fn word(&self, k: usize) -> u64
@@ -80,5 +108,28 @@ impl Record {
     pub fn changes(&self) -> &[[u8; 16]] {
         let end = 8 * self.length(5);
         self.list[..end].as_chunks().0
+    }
+}
+
+// A record's numbers, taken list by list.
+#[derive(Drop)]
+pub struct Lists<'a> {
+    rest: &'a [f64],
+}
+
+impl<'a> Lists<'a> {
+    pub fn new(numbers: &'a [f64]) -> Lists<'a> {
+        Lists { rest: numbers }
+    }
+
+    // The next list; empty where fewer numbers are left.
+    pub fn take(&mut self, n: usize) -> &'a [f64] {
+        match self.rest.split_at_checked(n) {
+            Some((list, rest)) => {
+                self.rest = rest;
+                list
+            }
+            None => &[],
+        }
     }
 }
