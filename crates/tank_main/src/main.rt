@@ -102,6 +102,7 @@ fn set_of(f: &[f64; WORDS]) -> Set {
 
 // ---- calls
 
+// The two differ in the call alone. One function of both would take it as a closure that writes its eleven parameters twice more: handed by its name it has no contract here, as its module is private.
 fn tank(f: &[f64], set: &Set, out: &mut [f64]) -> u8 {
     domthelv::domthelv_vrq_tank(
         whole_at(f, 2),
@@ -176,11 +177,9 @@ fn layers(f: &[f64], set: &Set) -> [f64; 3] {
     if LAYERS < most || COMPONENTS < n {
         return sum;
     }
-    let mut at = 0;
     for k in 0..most {
-        let [a, b, c] = energies(f, set, k, at);
+        let [a, b, c] = energies(f, set, k, n * k);
         sum = [sum[0] + a, sum[1] + b, sum[2] + c];
-        at += n;
     }
     sum
 }
@@ -191,13 +190,15 @@ fn same(x: f64, y: f64) -> bool {
     bits_of(x) == bits_of(y)
 }
 
-// Whether the sums are the layers', or the ends lie around them.
-fn right(ends: bool, out: &[f64; 8], sum: &[f64; 3]) -> bool {
-    if ends {
-        let pairs = out.as_chunks::<2>().0;
-        return pairs.iter().zip(sum).all(|(e, x)| e[0] <= *x && *x <= e[1]);
-    }
+// Whether the tank's energies are the layers' sums.
+fn equal(out: &[f64; 8], sum: &[f64; 3]) -> bool {
     out.iter().zip(sum).all(|(x, y)| same(*x, *y))
+}
+
+// Whether the ends lie around them.
+fn around(out: &[f64; 8], sum: &[f64; 3]) -> bool {
+    let pairs = out.as_chunks::<2>().0;
+    pairs.iter().zip(sum).all(|(e, x)| e[0] <= *x && *x <= e[1])
 }
 
 fn told(rt: &impl Print, number: u8, ok: bool) -> io::Result<()> {
@@ -205,23 +206,24 @@ fn told(rt: &impl Print, number: u8, ok: bool) -> io::Result<()> {
     println!(rt; "{number}{mark}")
 }
 
-// A refused call leaves the halves that were lent.
-fn tried(rt: &impl Print, f: &[f64; WORDS]) -> io::Result<()> {
+// A call at the record's set, and whether what it gives is right beside the layers. A refused call leaves the halves that were lent.
+fn tried<C, R>(rt: &impl Print, f: &[f64; WORDS], call: C, right: R) -> io::Result<()>
+where
+    C: FnOnce(&Set, &mut [f64]) -> u8,
+    R: FnOnce(&[f64; 8], &[f64; 3]) -> bool,
+    requires call { C.IsAlwaysCallable call }
+    requires right { R.IsAlwaysCallable right }
+{
     let set = set_of(f);
-    let ends = byte_at(f, 0) == 1;
     let mut out = [0.5; 8];
     let Some(lent) = out.get_mut(..whole_at(f, 8)) else {
         return Ok(());
     };
-    let n = if ends {
-        tank_ends(f, &set, lent)
-    } else {
-        tank(f, &set, lent)
-    };
+    let n = call(&set, lent);
     if n != 0 {
         return told(rt, n, out.iter().all(|x| same(*x, 0.5)));
     }
-    told(rt, n, right(ends, &out, &layers(f, &set)))
+    told(rt, n, right(&out, &layers(f, &set)))
 }
 
 fn main(rt: HostRuntime) -> io::Result<()> {
@@ -229,7 +231,12 @@ fn main(rt: HostRuntime) -> io::Result<()> {
     for record in Records::<_, RECORD>::new(&mut file) {
         let record = record?;
         rt.write_all(&record[NAME..])?;
-        tried(&rt, &floats(&record))?;
+        let f = floats(&record);
+        if byte_at(&f, 0) == 1 {
+            tried(&rt, &f, |set, out| tank_ends(&f, set, out), around)?;
+        } else {
+            tried(&rt, &f, |set, out| tank(&f, set, out), equal)?;
+        }
     }
     Ok(())
 }
