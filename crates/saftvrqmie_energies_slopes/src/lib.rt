@@ -23,6 +23,7 @@ fn is_finite(x: Dual) -> bool
     number::is_finite(x.re) & number::is_finite(x.eps)
 }
 
+// Of values and slopes: `saftvrqmie_energies::all_finite` is of values alone, in runs without slopes.
 fn all_finite(e: QuantumEnergiesSlopes) -> bool
     ensures { result ≡ slopes_finite (energies_slopes_in e) }
 {
