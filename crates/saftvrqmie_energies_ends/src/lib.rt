@@ -3,7 +3,6 @@
 
 ghost use Rattle.std.specs.Prelude.{◌≡◌};
 ghost use Rattle.elementary.specs.Port.{port};
-ghost use Rattle.enclosure.specs.Ends.{ends_in};
 ghost use Rattle.saftvrqmie_energies.specs.Energies.{energies_in, energies_answer};
 ghost use Rattle.saftvrqmie_energies.specs.Reads.{set_of};
 ghost use Rattle.saftvrqmie_energies_ends.specs.Operation.{all_sound, sound_ends, energies_enclosed, energies_ends};
@@ -19,16 +18,6 @@ pub type EnergiesEnds = Energies<Ends>;
 
 // Each contribution of the two-ended run, sound or not.
 pub type EnergiesEnclosures = Energies<Enclosure>;
-
-fn ends_in(b: Enclosure) -> Ends
-    ensures { result ≡ ends_in b }
-{
-    let ends = b.ends;
-    Ends {
-        lower: ends.lower,
-        upper: ends.upper,
-    }
-}
 
 fn all_sound(e: EnergiesEnclosures) -> bool
     ensures { result ≡ all_sound (energies_in e) }
@@ -60,9 +49,9 @@ pub fn sound_ends(e: EnergiesEnclosures) -> Result<EnergiesEnds, Refusal>
         return Err(Refusal::Unsound);
     }
     Ok(Energies {
-        hard_sphere: ends_in(e.hard_sphere),
-        dispersion: ends_in(e.dispersion),
-        non_additive: ends_in(e.non_additive),
+        hard_sphere: Ends::from(e.hard_sphere),
+        dispersion: Ends::from(e.dispersion),
+        non_additive: Ends::from(e.non_additive),
     })
 }
 

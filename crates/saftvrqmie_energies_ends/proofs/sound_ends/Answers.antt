@@ -8,5 +8,5 @@ returns-then-not-all_sound c = unsound _ (told c.all_sound.ensures c.if-not-all_
 
 pub returns : goal.returns
 returns c =
-    rw (c.ends_in-3.ensures, c.ends_in-2.ensures, c.ends_in.ensures)
+    rw (c.from-3.ensures, c.from-2.ensures, c.from.ensures)
     (sound _ (told c.all_sound.ensures c.if-not-all_sound.false))
