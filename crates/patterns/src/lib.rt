@@ -33,10 +33,10 @@ pub fn slope<S: SlopeNum>(x: S::Re, y: S::Re) -> S::Re
 pub fn blend<D: PlainNum>(x: D, y: D) -> Result<D, Refusal>
     ensures { (w : Bool) → let A = D.beside w in answer_by (D.of w) result ≡ blend A (calls A root_alone) (D.of w x) (D.of w y) }
 {
-    let v = root::sqrt(x.value())?;
+    let v = root::sqrt(x.re())?;
     let r = D::entered(v).after(x);
     let unused = r / y;
-    if r.value() < y.value() {
+    if r.re() < y.re() {
         Ok((r + y).after(unused))
     } else {
         Ok((r * y).after(unused))

@@ -9,15 +9,11 @@ use dual_num::DualNum;
 use enclosure::Enclosure;
 use number::Refusal;
 
-// `entered`, `value` and `ln` are `lit`, `re` and `plain_ln` at `Plain` = Self: said of Self, no caller needs that equation of types.
+// `entered` and `ln` are `lit` and `plain_ln` at `Plain` = Self: said of Self, no caller needs that equation of types.
 pub trait PlainNum: DualNum {
     // An input.
     fn entered(x: f64) -> Self
         ensures { (w : Bool) → Self.of w result ≡ (Self.beside w).lit x };
-
-    // The float run's value: what branches look at.
-    fn value(self) -> f64
-        ensures { (w : Bool) → result ≡ (Self.beside w).val (Self.of w self) };
 
     fn ln(self) -> Result<Self, Refusal>
         ensures { (w : Bool) → answer_by (Self.of w) result ≡ (Self.functions w).ln (Self.of w self) };
@@ -35,10 +31,6 @@ pub trait PlainNum: DualNum {
 impl PlainNum for f64 {
     fn entered(x: f64) -> f64 {
         x
-    }
-
-    fn value(self) -> f64 {
-        self
     }
 
     fn ln(self) -> Result<f64, Refusal> {
@@ -59,10 +51,6 @@ impl PlainNum for f64 {
 impl PlainNum for Enclosure {
     fn entered(x: f64) -> Enclosure {
         Enclosure::point(x)
-    }
-
-    fn value(self) -> f64 {
-        self.value
     }
 
     fn ln(self) -> Result<Enclosure, Refusal> {

@@ -89,7 +89,7 @@ fn zeta_dual<S: SlopeNum>(zeta_x: S::Re, rho: S::Re) -> S
     ensures { (w : Bool) → slope_by S.parts (S.Re.of w) result ≡ zeta_dual (S.Re.beside w) (S.Re.of w zeta_x) (S.Re.of w rho) }
 {
     let rho_s = rho_dual::<S>(rho);
-    if rho.value() == 0.0 {
+    if rho.re() == 0.0 {
         return rho_s * S::Re::entered(0.0);
     }
     S::plain_mul(zeta_x / rho, rho_s)

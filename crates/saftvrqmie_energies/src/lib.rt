@@ -55,13 +55,13 @@ pub fn lent(set: &SaftVRQMiePars) -> Set
     }
 }
 
-// Of the float run's values, which the two-ended run has too.
+// Of the float run's values, which the two-ended run has too. `limits::all_finite` is of a list, these are three fields.
 pub fn all_finite<D: PlainNum>(e: Energies<D>) -> bool
     ensures { result ≡ energies_finite (each_by (λ x. (D.beside true).val (D.of true x)) e) }
 {
-    number::is_finite(e.hard_sphere.value())
-        & number::is_finite(e.dispersion.value())
-        & number::is_finite(e.non_additive.value())
+    number::is_finite(e.hard_sphere.re())
+        & number::is_finite(e.dispersion.re())
+        & number::is_finite(e.non_additive.re())
 }
 
 pub fn right_lengths(n: usize, x: &[f64], rho: &[f64], table: &[f64]) -> bool

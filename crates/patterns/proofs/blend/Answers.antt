@@ -8,16 +8,16 @@ use Rattle.patterns.proofs.blend.Goals as goal
 
 pub returns-in_err-v : goal.returns-in_err-v
 unfolding blend answered ◌>>=◌
-returns-in_err-v g c w = rw (handed_on _ c.from_residual.ensures, ← c.value.ensures w, via answer c.sqrt.ensures c.in_err-v.was)
+returns-in_err-v g c w = rw (handed_on _ c.from_residual.ensures, ← c.re.ensures w, via answer c.sqrt.ensures c.in_err-v.was)
 
-pub returns-then-value : goal.returns-then-value
+pub returns-then-re : goal.returns-then-re
 unfolding blend answered ◌>>=◌
-returns-then-value g c w =
+returns-then-re g c w =
     let m = g.met.D.DualNum in
-    rw (c.after.ensures w, m.div_law w _ _ _ c.div-unused.ensures, m.add_law w _ _ _ c.add.ensures, ← c.value.ensures w, via answer c.sqrt.ensures c.in_ok-v.was, ← c.entered.ensures w, ← c.after-r.ensures w, ← c.value-2.ensures w, ← c.value-3.ensures w, c.if-value.true)
+    rw (c.after.ensures w, m.div_law w _ _ _ c.div-unused.ensures, m.add_law w _ _ _ c.add.ensures, ← c.re.ensures w, via answer c.sqrt.ensures c.in_ok-v.was, ← c.entered.ensures w, ← c.after-r.ensures w, ← c.re-2.ensures w, ← c.re-3.ensures w, c.if-re.true)
 
-pub returns-else-value : goal.returns-else-value
+pub returns-else-re : goal.returns-else-re
 unfolding blend answered ◌>>=◌
-returns-else-value g c w =
+returns-else-re g c w =
     let m = g.met.D.DualNum in
-    rw (c.after-else-value.ensures w, m.div_law w _ _ _ c.div-unused.ensures, m.mul_law w _ _ _ c.mul.ensures, ← c.value.ensures w, via answer c.sqrt.ensures c.in_ok-v.was, ← c.entered.ensures w, ← c.after-r.ensures w, ← c.value-2.ensures w, ← c.value-3.ensures w, c.if-value.false)
+    rw (c.after-else-re.ensures w, m.div_law w _ _ _ c.div-unused.ensures, m.mul_law w _ _ _ c.mul.ensures, ← c.re.ensures w, via answer c.sqrt.ensures c.in_ok-v.was, ← c.entered.ensures w, ← c.after-r.ensures w, ← c.re-2.ensures w, ← c.re-3.ensures w, c.if-re.false)
