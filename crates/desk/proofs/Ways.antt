@@ -122,16 +122,6 @@ pub begun_is : (l : Lists) (f : List Float) (y : List ℕ) → right_desk (lengt
 unfolding begun verdict stored demand ◌>>=◌
 begun_is l f y h e g = rw h (refl, lists_are _ _ _ _ e (ap (λ (z : List ℕ). set z last_at 15) g))
 
-abbrev pub zeros : List ℕ
-zeros = replicate (last_at + 1) 0
-
-pub blank_laid : (b y : List ℕ) → length b ≡ last_at + 1 → y ≡ zeros ++ drop (length zeros) b → y ≡ zeros
-blank_laid b y h e =
-    let z : ℕ = 0 in
-    let k : length zeros ≡ last_at + 1 = length-replicate (last_at + 1) z in
-    let d : length b ≤ length zeros = omega (arith, h, k) in
-    e ∙ ap (λ (z : List ℕ). zeros ++ z) (drop_of_length-le b d) ∙ append-nil zeros
-
 -- ---- the door
 
 two_refused : {t : Bool} → t ≡ false → verdict (demand 2 t) ≡ refused 2
