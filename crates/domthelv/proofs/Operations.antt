@@ -174,7 +174,7 @@ module _ (s : QuantumLists) (t : Float) (l : Lent) where
 
     pub radii_is : radii_lengths l ≡ true → vrq_radii s i j t l ≡ (radii_asked s i j t >>= λ r. held (radii_written r l))
     unfolding vrq_radii demand ◌>>=◌
-    radii_is p = rw p (sym (bind_bind (quantum_set (index_within s.count i j) s) (λ y. radii_ij y i j t) (λ r. held (radii_written r l))))
+    radii_is p = rw p
 
 module _ (s : QuantumLists) (t : Float) (x rho table : List Float) (wanted : Bool) (l : List Float) where
   pub energies_1 : eqb (length l) 3 ≡ false → vrq_energies s t x rho table wanted l ≡ refused 1
@@ -183,7 +183,7 @@ module _ (s : QuantumLists) (t : Float) (x rho table : List Float) (wanted : Boo
 
   pub energies_is : eqb (length l) 3 ≡ true → vrq_energies s t x rho table wanted l ≡ (energies_asked s t x rho table wanted >>= λ e. held (energies_written e l))
   unfolding vrq_energies demand ◌>>=◌
-  energies_is p = rw p (sym (bind_bind (quantum_set (state_lengths s.count x rho table) s) (λ y. energies y t x rho table wanted) (λ e. held (energies_written e l))))
+  energies_is p = rw p
 
 module _ (s : QuantumLists) (t : Float) (x rho table : List Float) (wanted : Bool) (l : List Float) where
   pub energies_ends_1 : eqb (length l) 6 ≡ false → vrq_energies_ends s t x rho table wanted l ≡ refused 1
@@ -192,7 +192,7 @@ module _ (s : QuantumLists) (t : Float) (x rho table : List Float) (wanted : Boo
 
   pub energies_ends_is : eqb (length l) 6 ≡ true → vrq_energies_ends s t x rho table wanted l ≡ (ends_asked s t x rho table wanted >>= λ e. held (ends_written e l))
   unfolding vrq_energies_ends demand ◌>>=◌
-  energies_ends_is p = rw p (sym (bind_bind (quantum_set (state_lengths s.count x rho table) s) (λ y. energies_ends port y t x rho table wanted) (λ e. held (ends_written e l))))
+  energies_ends_is p = rw p
 
 module _ (s : QuantumLists) (i j : ℕ) (t sigma_eff r0 : Float) where
   pub diameter_set : (k : ℕ) → quantum_set (index_within s.count i j) s ≡ refused k → vrq_diameter s i j t sigma_eff r0 ≡ refused k
@@ -210,7 +210,7 @@ module _ (s : QuantumLists) (i j : ℕ) (t sigma_eff r0 : Float) where
 
     pub diameter_ends_is : eqb (length l) 2 ≡ true → vrq_diameter_ends s i j t sigma_eff r0 l ≡ (diameter_ends_asked s i j t sigma_eff r0 >>= λ e. held (pair_written e l))
     unfolding vrq_diameter_ends demand ◌>>=◌
-    diameter_ends_is p = rw p (sym (bind_bind (quantum_set (index_within s.count i j) s) (λ y. diameter_ends port y i j t sigma_eff r0) (λ e. held (pair_written e l))))
+    diameter_ends_is p = rw p
 
 module _ (x : Quantum.Lists) (t : Float) (fractions rho : List Float) (wanted : Bool) (l : List Float) where
   pub stage_1 : eqb (length l) 3 ≡ false → vrq_stage x t fractions rho wanted l ≡ refused 1

@@ -21,7 +21,7 @@ module _ (s : QuantumLists) (t : Float) (x rho table : List Float) (wanted : Boo
 
   pub total_is : eqb (length l) 4 ≡ true → vrq_total s t x rho table wanted l ≡ (total_asked s t x rho table wanted >>= λ w. held (total_written w l))
   unfolding vrq_total total_stored demand ◌>>=◌
-  total_is p = rw p (sym (bind_bind (quantum_set (state_lengths s.count x rho table) s) (λ y. total y t x rho table wanted) (λ w. held (total_written w l))))
+  total_is p = rw p
 
 -- of the energies that a set answered
 module _ (a : Ans SaftVRQMiePars) (t : Float) (x rho table : List Float) (wanted : Bool) where

@@ -9,12 +9,10 @@ use Rattle.saftvrqmie_properties.specs.Properties.{radius_of, last_of}
 use Rattle.limits.specs.Limits.{index_within}
 use Rattle.saftvrqmie.specs.Table.{Lent, right_lists, temperature_table}
 use Rattle.saftvrqmie.specs.Pairs as Pairs
-use Rattle.saftvrqmie.specs.Pairs.{SearchesIn, radii_ij}
-use Rattle.saftvrqmie_energies.specs.Energies.{EnergiesIn, state_lengths, energies}
+use Rattle.saftvrqmie.specs.Pairs.{SearchesIn}
+use Rattle.saftvrqmie_energies.specs.Energies.{EnergiesIn}
 use Rattle.elementary.specs.Port.{port}
 use Rattle.enclosure.specs.declared.Ends.{Ends}
-use Rattle.saftvrqmie_energies_ends.specs.Operation.{energies_ends}
-use Rattle.saftvrqmie_diameter_ends.specs.Operations.{diameter_ends}
 use Rattle.stages.specs.Stages.{quantum_stage}
 use Rattle.saftvrmie.specs.Diameters.{diameters}
 use Rattle.saftvrmie.specs.Pairs.{radius_ij, diameter_ij}
@@ -23,6 +21,7 @@ use Rattle.saftvrmie_energies_ends.specs.Operation.{dispersion_ends}
 use Rattle.saftvrmie_diameter_ends.specs.Operations as MieDiameter
 use Rattle.set_lists.specs.Sets.{QuantumLists, quantum_lengths, quantum_set, MieLists, mie_lengths, mie_set}
 use Rattle.set_lists.specs.Written.{QuantumLent, set_written, MieLent, mie_written}
+use Rattle.domthelv.specs.Asked.{radii_asked, energies_asked, ends_asked, diameter_ends_asked}
 
 -- how many order lists pass, meet 4, meet 5
 unfoldable pub counts_written : OrderCounts → List ℕ → List ℕ
@@ -60,8 +59,7 @@ radii_lengths l = eqb (length l.values) 6 && eqb (length l.numbers) 3
 unfoldable pub vrq_radii : QuantumLists → ℕ → ℕ → Float → Lent → Ans Lent
 vrq_radii s i j t l =
     demand 1 (radii_lengths l) >>= λ _.
-    quantum_set (index_within s.count i j) s >>= λ p.
-    radii_ij p i j t >>= λ r.
+    radii_asked s i j t >>= λ r.
     held (radii_written r l)
 
 -- hard sphere, dispersion, non-additive
@@ -71,8 +69,7 @@ energies_written e l = set (set (set l 0 e.hard_sphere) 1 e.dispersion) 2 e.non_
 unfoldable pub vrq_energies : QuantumLists → Float → List Float → List Float → List Float → Bool → List Float → Ans (List Float)
 vrq_energies s t x rho table wanted l =
     demand 1 (eqb (length l) 3) >>= λ _.
-    quantum_set (state_lengths s.count x rho table) s >>= λ p.
-    energies p t x rho table wanted >>= λ e.
+    energies_asked s t x rho table wanted >>= λ e.
     held (energies_written e l)
 
 -- low and high end of each of the three
@@ -83,8 +80,7 @@ ends_written e l =
 unfoldable pub vrq_energies_ends : QuantumLists → Float → List Float → List Float → List Float → Bool → List Float → Ans (List Float)
 vrq_energies_ends s t x rho table wanted l =
     demand 1 (eqb (length l) 6) >>= λ _.
-    quantum_set (state_lengths s.count x rho table) s >>= λ p.
-    energies_ends port p t x rho table wanted >>= λ e.
+    ends_asked s t x rho table wanted >>= λ e.
     held (ends_written e l)
 
 -- low and high end
@@ -99,8 +95,7 @@ vrq_diameter s i j t sigma_eff r0 =
 unfoldable pub vrq_diameter_ends : QuantumLists → ℕ → ℕ → Float → Float → Float → List Float → Ans (List Float)
 vrq_diameter_ends s i j t sigma_eff r0 l =
     demand 1 (eqb (length l) 2) >>= λ _.
-    quantum_set (index_within s.count i j) s >>= λ p.
-    diameter_ends port p i j t sigma_eff r0 >>= λ e.
+    diameter_ends_asked s i j t sigma_eff r0 >>= λ e.
     held (pair_written e l)
 
 unfoldable pub vrq_stage : Quantum.Lists → Float → List Float → List Float → Bool → List Float → Ans (List Float)

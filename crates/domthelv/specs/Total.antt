@@ -1,10 +1,9 @@
 -- Slip 5 behind the boundary: the total of the quantum energies, with the lists that a call lends.
 use Rattle.std.specs.Prelude.{eqb, Float, length, set, List, Bool}
 use Rattle.number.specs.Ans.{Ans, held, ◌>>=◌, demand}
-use Rattle.saftvrqmie_energies.specs.Energies.{state_lengths}
 use Rattle.saftvrqmie_total.specs.declared.QuantumTotal.{QuantumTotal}
-use Rattle.saftvrqmie_total.specs.Total.{total}
-use Rattle.set_lists.specs.Sets.{QuantumLists, quantum_set}
+use Rattle.set_lists.specs.Sets.{QuantumLists}
+use Rattle.domthelv.specs.Asked.{total_asked}
 
 -- the first sum and its remainder, the last and its own
 unfoldable pub total_written : QuantumTotal → List Float → List Float
@@ -18,5 +17,4 @@ total_stored a l =
 unfoldable pub vrq_total : QuantumLists → Float → List Float → List Float → List Float → Bool → List Float → Ans (List Float)
 vrq_total s t x rho table wanted l =
     demand 1 (eqb (length l) 4) >>= λ _.
-    quantum_set (state_lengths s.count x rho table) s >>= λ p.
-    total_stored (total p t x rho table wanted) l
+    total_stored (total_asked s t x rho table wanted) l
