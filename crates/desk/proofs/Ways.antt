@@ -34,7 +34,7 @@ use Rattle.desk_place.specs.Place.{floats_entered, bytes_entered}
 use Rattle.desk_place.proofs.Parts.{part_length}
 use Rattle.desk_place.proofs.Steps.{part_to}
 use Rattle.sizes.specs.Sizes.{side}
-use Rattle.set_lists.proofs.Sets.{Lengths}
+use Rattle.set_lists.proofs.Sets.{Lengths, not_right}
 use Rattle.mie_parameters.proofs.Laws.{and_right}
 use Rattle.set_lists.specs.Sets.{quantum_lengths}
 use Rattle.limits.specs.Limits.{count_within}
@@ -132,9 +132,13 @@ two_held : {t : Bool} → t ≡ true → verdict (demand 2 t) ≡ held true
 unfolding verdict demand
 two_held f = rw f
 
-module _ (q : Query) (b : Bool) (is : b ≡ state_lengths q.lists.count q.fractions q.densities) (r : Result (Unit {0}) Refusal) (p : outcome r true ≡ verdict (quantum_set b q.lists)) where
+pub door_1 : (q : Query) → state_lengths q.lists.count q.fractions q.densities ≡ false → refused 1 ≡ verdict (door q)
+unfolding door verdict ◌>>=◌
+door_1 q h = rw (not_right q.lists _ h)
+
+module _ (q : Query) (is : state_lengths q.lists.count q.fractions q.densities ≡ true) (r : Result (Unit {0}) Refusal) (p : outcome r true ≡ verdict (quantum_set true q.lists)) where
   asked : outcome r true ≡ verdict (quantum_set (state_lengths q.lists.count q.fractions q.densities) q.lists)
-  asked = p ∙ ap (λ (z : Bool). verdict (quantum_set z q.lists)) is
+  asked = p ∙ ap (λ (z : Bool). verdict (quantum_set z q.lists)) (sym is)
 
   door_step : (a : Ans SaftVRQMiePars) (t : Bool) (n : ℕ) → refused n ≡ verdict a → refused n ≡ verdict (a >>= λ _. demand 2 t)
   unfolding verdict ◌>>=◌
@@ -339,13 +343,6 @@ opened (refused m) h = absurd (never h)
   where
     never : ◌≡◌ {A = Ans Bool} (held true) (refused m) → ⊥
     never e = let z : ◌≡◌ {A = ℕ} 0 1 = cc in omega arith
-
-pub right_told : (b : Bool) (s : QuantumLists) (r : Result (Unit {0}) Refusal) {u : Unit {0}} → outcome r true ≡ verdict (quantum_set b s) → r ≡ Ok u → b ≡ true
-unfolding quantum_set
-right_told b s r e h =
-    let o = opened (quantum_set b s) (rw h at e) in
-    let f = then_held (demand 1 (count_within s.count && quantum_lengths s.m s.sheets s.orders && b)) _ o.0 o.1 in
-    and_right (count_within s.count && quantum_lengths s.m s.sheets s.orders) b (demanded 1 _ f.0 f.1)
 
 pub let_in : (q : Query) (r : Result (Unit {0}) Refusal) {u : Unit {0}} → outcome r true ≡ verdict (door q) → r ≡ Ok u → Passed q
 let_in q r e h = let o = opened (door q) (rw h at e) in door_passed q o.0 o.1

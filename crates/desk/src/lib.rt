@@ -99,8 +99,10 @@ fn door(q: &DeskQuery) -> Result<(), Refusal>
     ensures { outcome result true ≡ verdict (door (query_of q.now)) }
 {
     let n = q.lists.count;
-    let right = right_state(n, q.fractions, q.densities);
-    set_lists::quantum_answer(&q.lists, right)?;
+    if !right_state(n, q.fractions, q.densities) {
+        return Err(Refusal::Length);
+    }
+    set_lists::quantum_answer(&q.lists)?;
     if !limits::state_within(n, q.temperature, q.fractions, q.densities) {
         return Err(Refusal::Limit);
     }

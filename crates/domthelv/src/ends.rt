@@ -8,13 +8,12 @@ ghost use Rattle.domthelv.specs.Asked.{ends_asked, diameter_ends_asked};
 ghost use Rattle.saftvrqmie_energies.specs.Energies.{energies_in, energies_answer};
 
 use crate::functions::deliver_list;
-use crate::quantum::pair_set;
+use crate::quantum::{lent_set, pair_set};
 use enclosure::Ends;
 use number::Refusal;
-use saftvrqmie_energies::{Set, StateLists};
+use saftvrqmie_energies::StateLists;
 use saftvrqmie_energies_ends::EnergiesEnds;
 use set_lists::{MieSet, QuantumSet};
-use sizes::SHEETS;
 
 // What the definition writes into a list of as many places.
 pub fn ends_list(e: EnergiesEnds) -> [f64; 6]
@@ -37,21 +36,8 @@ fn pair_list(e: Ends) -> [f64; 2]
 fn energies_ends(s: &QuantumSet, q: &StateLists) -> Result<EnergiesEnds, Refusal>
     ensures { energies_answer result ≡ ends_asked (quantum_lists s.now) q.now.temperature q.now.fractions.now q.now.densities.now q.now.table.now q.now.non_additive }
 {
-    let right = saftvrqmie_energies::right_lengths(s.count, q.fractions, q.densities, q.table);
-    set_lists::quantum_answer(s, right)?;
-    let places = set_lists::places(s.m, 0);
-    // Where they lie: a set of references to a copy would keep the copy.
-    let Ok(flat) = <&[f64; SHEETS]>::try_from(s.sheets) else {
-        return Err(Refusal::Length);
-    };
-    let records = set_lists::order_records(s.orders);
-    let set = Set {
-        count: s.count,
-        m: &places,
-        sheets: flat,
-        orders: &records,
-    };
-    saftvrqmie_energies_ends::energies_ends_of(&set, q)
+    let lent = lent_set(s, q)?;
+    saftvrqmie_energies_ends::energies_ends_of(&lent.parts(), q)
 }
 
 // Two ends of the quantum energies: low and high end of each. 1, 4, then 2, 6, 7, 8.

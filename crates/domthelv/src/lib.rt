@@ -1,5 +1,5 @@
 // The C boundary: each function takes lists apart, calls a proved operation and stores its result.
-// Its parameters are those of the C call, one by one: domthelv_c exports it under the same clause, and include/domthelv.h has no structs.
+// Its parameters are those of the C call, one by one. A struct in their place would be no plainer: domthelv_c, which exports each function under the same clause, would make it of them, field by field, and its clause name them once more.
 #![tactic(auto)]
 
 mod card_writing;

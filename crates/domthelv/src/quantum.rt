@@ -1,27 +1,29 @@
 // SAFT-VRQ Mie at the C boundary: parameters, table, a pair's searches and diameter, energies, the stage.
 ghost use Rattle.std.specs.Prelude.{◌≡◌, true, ℕ, Float, List, length};
-ghost use Rattle.number.specs.Answer.{answer};
+ghost use Rattle.number.specs.Answer.{answer, answer_by};
 ghost use Rattle.mie_parameters.specs.Answer.{outcome, verdict, status, stored};
 ghost use Rattle.limits.specs.Limits.{index_within};
 ghost use Rattle.set_lists.specs.Sets.{QuantumLists, quantum_lists, quantum_set};
 ghost use Rattle.set_lists.specs.Written.{QuantumLent};
 ghost use Rattle.domthelv.specs.Operations.{counts_written, order_counts_out, vrq_parameters, vrq_table, radii_written, radii_lengths, vrq_radii, energies_written, vrq_energies, vrq_diameter, vrq_stage};
 ghost use Rattle.domthelv.specs.Asked.{energies_asked, total_asked, radii_asked};
+ghost use Rattle.domthelv.specs.Lent.{lent_read};
 ghost use Rattle.domthelv.specs.Total.{total_written, vrq_total};
 ghost use Rattle.saftvrqmie_parameters.specs.Parameters as Quantum;
 ghost use Rattle.saftvrqmie.specs.Table.{Lent};
 ghost use Rattle.saftvrqmie.specs.Pairs.{searches_in, searches_answer};
-ghost use Rattle.saftvrqmie_energies.specs.Energies.{energies_in, energies_answer};
+ghost use Rattle.saftvrqmie_energies.specs.Energies.{state_lengths, energies_in, energies_answer};
+ghost use Rattle.saftvrqmie_energies.specs.Reads.{set_of};
 
 use crate::functions::{deliver, deliver_list};
 use number::Refusal;
 use order_counts::OrderCounts;
 use saftvrqmie::{PairSearches, PairsAt};
 use saftvrqmie_energies::{QuantumEnergies, Set, StateLists};
-use saftvrqmie_parameters::{ComponentLists, SaftVRQMiePars};
+use saftvrqmie_parameters::{ComponentLists, OrderRecord, SaftVRQMiePars};
 use saftvrqmie_total::QuantumTotal;
 use set_lists::QuantumSet;
-use sizes::SHEETS;
+use sizes::{SHEET, SHEETS, SIDE};
 
 // `SaftVRQMieRecord::new`: 3 if m is not 1.
 pub fn domthelv_vrq_record_m(m: f64) -> u8
@@ -51,6 +53,7 @@ pub fn domthelv_order_counts(count: usize, out: &mut [u64]) -> u8
 }
 
 // Quantum parameters. 1, 2, 3, 4 or 5, 6.
+// Here and in two calls more several lists are written, in a `match`: of a closure that wrote them nothing is known where it is not called, so the proof that a refusal leaves them did not close.
 pub fn domthelv_vrq_parameters(
     count: usize,
     m: &[f64],
@@ -119,8 +122,10 @@ fn table_of(
         let q = vrq_table (quantum_lists s.now) temperature l in
         (outcome result true ≡ verdict q) × (table.new ≡ (stored l q).values) × (counts.new ≡ (stored l q).numbers) }
 {
-    let right = saftvrqmie::right_lists(s.count, table.len(), counts.len());
-    set_lists::quantum_answer(s, right)?;
+    if !saftvrqmie::right_lists(s.count, table.len(), counts.len()) {
+        return Err(Refusal::Length);
+    }
+    set_lists::quantum_answer(s)?;
     let flat = set_lists::flat(s.sheets);
     let records = set_lists::order_records(s.orders);
     let pairs = PairsAt {
@@ -186,8 +191,10 @@ fn write_searches(p: PairSearches, out: &mut [f64], counts: &mut [u8])
 pub fn pair_set(s: &QuantumSet, i: usize, j: usize) -> Result<SaftVRQMiePars, Refusal>
     ensures { let l = quantum_lists s.now in answer result ≡ quantum_set (index_within l.count i j) l }
 {
-    let right = limits::index_within(s.count, i, j);
-    set_lists::quantum_answer(s, right)?;
+    if !limits::index_within(s.count, i, j) {
+        return Err(Refusal::Length);
+    }
+    set_lists::quantum_answer(s)?;
     Ok(set_lists::quantum_set(s))
 }
 
@@ -240,26 +247,56 @@ pub fn energies_list(e: QuantumEnergies) -> [f64; 3]
     [e.hard_sphere, e.dispersion, e.non_additive]
 }
 
+// A set as the energies' calls take it: its short lists are read, and its sheets stay where they lie, since a set of references to a copy would keep the copy.
+#[derive(Clone, Copy)]
+pub struct LentSet<'a> {
+    pub count: usize,
+    pub m: [f64; SIDE],
+    pub sheets: &'a [f64; SHEETS],
+    pub orders: [OrderRecord; SHEET],
+}
+
+impl<'a> LentSet<'a> {
+    #[inline(always)]
+    pub fn parts(&'a self) -> Set<'a>
+        ensures { set_of result ≡ lent_read self.now }
+    {
+        Set {
+            count: self.count,
+            m: &self.m,
+            sheets: self.sheets,
+            orders: &self.orders,
+        }
+    }
+}
+
+// The set that energies are asked of. 1, 4.
+#[inline(always)]
+pub fn lent_set<'a>(s: &QuantumSet<'a>, q: &StateLists) -> Result<LentSet<'a>, Refusal>
+    ensures { let l = quantum_lists s.now in answer_by lent_read result ≡ quantum_set (state_lengths l.count q.now.fractions.now q.now.densities.now q.now.table.now) l }
+{
+    if !saftvrqmie_energies::right_lengths(s.count, q.fractions, q.densities, q.table) {
+        return Err(Refusal::Length);
+    }
+    set_lists::quantum_answer(s)?;
+    let Ok(sheets) = <&[f64; SHEETS]>::try_from(s.sheets) else {
+        return Err(Refusal::Length);
+    };
+    Ok(LentSet {
+        count: s.count,
+        m: set_lists::places(s.m, 0),
+        sheets,
+        orders: set_lists::order_records(s.orders),
+    })
+}
+
 // The energies of a set that crosses as its lists. 1, 4, then 2, 6, 7.
 #[inline(always)]
 fn energies(s: &QuantumSet, q: &StateLists) -> Result<QuantumEnergies, Refusal>
     ensures { energies_answer result ≡ energies_asked (quantum_lists s.now) q.now.temperature q.now.fractions.now q.now.densities.now q.now.table.now q.now.non_additive }
 {
-    let right = saftvrqmie_energies::right_lengths(s.count, q.fractions, q.densities, q.table);
-    set_lists::quantum_answer(s, right)?;
-    let places = set_lists::places(s.m, 0);
-    // Where they lie: a set of references to a copy would keep the copy.
-    let Ok(flat) = <&[f64; SHEETS]>::try_from(s.sheets) else {
-        return Err(Refusal::Length);
-    };
-    let records = set_lists::order_records(s.orders);
-    let set = Set {
-        count: s.count,
-        m: &places,
-        sheets: flat,
-        orders: &records,
-    };
-    saftvrqmie_energies::energies_of(&set, q)
+    let lent = lent_set(s, q)?;
+    saftvrqmie_energies::energies_of(&lent.parts(), q)
 }
 
 // Quantum energies: hard sphere, dispersion, non-additive (+0 where not wanted). 1, 4, then 2, 6, 7.

@@ -7,6 +7,7 @@ ghost use Rattle.domthelv.specs.Tank.{vrq_tank, vrq_tank_ends};
 
 use crate::functions::deliver_list;
 use crate::{ends, quantum};
+use number::Refusal;
 use saftvrqmie_tank::Layers;
 use set_lists::QuantumSet;
 
@@ -49,7 +50,11 @@ pub fn domthelv_vrq_tank(
         densities,
         volumes,
     };
-    let worked = tank_lists::listed_tank(&set, &q, non_additive, out.len() == 3);
+    // Layers outside are 14, which is behind this.
+    if saftvrqmie_tank::layers_within(layers) & (out.len() != 3) {
+        return Refusal::Length.code();
+    }
+    let worked = tank_lists::listed_tank(&set, &q, non_additive);
     deliver_list(worked.map(quantum::energies_list), out)
 }
 
@@ -92,6 +97,9 @@ pub fn domthelv_vrq_tank_ends(
         densities,
         volumes,
     };
-    let worked = tank_lists::listed_tank_ends(&set, &q, non_additive, out.len() == 6);
+    if saftvrqmie_tank::layers_within(layers) & (out.len() != 6) {
+        return Refusal::Length.code();
+    }
+    let worked = tank_lists::listed_tank_ends(&set, &q, non_additive);
     deliver_list(worked.map(ends::ends_list), out)
 }

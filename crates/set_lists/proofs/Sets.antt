@@ -55,28 +55,24 @@ mie_lengths_told lists sheets p =
     record { places = eqb-true (length lists) (5 * side) (and_left a b p); flat = eqb-true (length sheets) (6 * sheet) (and_right a b p) }
 
 -- the returns of `quantum_answer`
-module _ (right : Bool) (l : QuantumLists) where
-  pub count_1 : count_within l.count ≡ false → refused 1 ≡ verdict (quantum_set right l)
+module _ (l : QuantumLists) where
+  pub count_1 : count_within l.count ≡ false → refused 1 ≡ verdict (quantum_set true l)
   unfolding quantum_set demand ◌>>=◌ verdict
   count_1 p = rw p
 
   module _ (p : count_within l.count ≡ true) where
-    pub lengths_1 : quantum_lengths l.m l.sheets l.orders ≡ false → refused 1 ≡ verdict (quantum_set right l)
+    pub lengths_1 : quantum_lengths l.m l.sheets l.orders ≡ false → refused 1 ≡ verdict (quantum_set true l)
     unfolding quantum_set demand ◌>>=◌ verdict
     lengths_1 q = rw (p, q)
 
     module _ (q : quantum_lengths l.m l.sheets l.orders ≡ true) where
-      pub right_1 : right ≡ false → refused 1 ≡ verdict (quantum_set right l)
+      pub orders_4 : orders_within l.count l.orders ≡ false → refused 4 ≡ verdict (quantum_set true l)
       unfolding quantum_set demand ◌>>=◌ verdict
-      right_1 e = rw (p, q, e)
+      orders_4 o = rw (p, q, o)
 
-      pub orders_4 : right ≡ true → orders_within l.count l.orders ≡ false → refused 4 ≡ verdict (quantum_set right l)
+      pub holds : orders_within l.count l.orders ≡ true → held true ≡ verdict (quantum_set true l)
       unfolding quantum_set demand ◌>>=◌ verdict
-      orders_4 e o = rw (p, q, e, o)
-
-      pub holds : right ≡ true → orders_within l.count l.orders ≡ true → held true ≡ verdict (quantum_set right l)
-      unfolding quantum_set demand ◌>>=◌ verdict
-      holds e o = rw (p, q, e, o)
+      holds o = rw (p, q, o)
 
 -- what the answer says to a caller
 abbrev is_held : Ans Bool → Bool
@@ -102,18 +98,29 @@ chain_refused true true false o x n e = cc
 chain_refused true true true false x n e = cc
 chain_refused true true true true x n e = absurd (mathlib.Core.Bool.true≢false (ap is_held e))
 
-module _ (l : QuantumLists) (b right : Bool) (is : b ≡ right) (r : Result (Unit {0}) Refusal) (p : outcome r true ≡ verdict (quantum_set b l)) where
+chain_false : (a b o : Bool) (x : SaftVRQMiePars) → chain a b false o x ≡ refused 1
+unfolding chain demand ◌>>=◌
+chain_false false b o x = refl
+chain_false true false o x = refl
+chain_false true true o x = refl
+
+-- what else of a call is 1: it comes before the 4, whatever the set
+pub not_right : (l : QuantumLists) (right : Bool) → right ≡ false → quantum_set right l ≡ refused 1
+unfolding quantum_set chain
+not_right l right is = rw is (chain_false (count_within l.count) (quantum_lengths l.m l.sheets l.orders) (orders_within l.count l.orders) (quantum_read l))
+
+module _ (l : QuantumLists) (right : Bool) (is : right ≡ true) (r : Result (Unit {0}) Refusal) (p : outcome r true ≡ verdict (quantum_set true l)) where
   pub passed_lengths : {u : Unit {0}} → r ≡ Ok u → quantum_lengths l.m l.sheets l.orders ≡ true
   unfolding quantum_set chain
-  passed_lengths e = (chain_passed (count_within l.count) (quantum_lengths l.m l.sheets l.orders) b (orders_within l.count l.orders) (quantum_read l) (sym (rw e at p))).0
+  passed_lengths e = (chain_passed (count_within l.count) (quantum_lengths l.m l.sheets l.orders) true (orders_within l.count l.orders) (quantum_read l) (sym (rw e at p))).0
 
   pub passed : {u : Unit {0}} → r ≡ Ok u → quantum_set right l ≡ held (quantum_read l)
   unfolding quantum_set chain
-  passed e = rw (← is) (chain_passed (count_within l.count) (quantum_lengths l.m l.sheets l.orders) b (orders_within l.count l.orders) (quantum_read l) (sym (rw e at p))).1
+  passed e = rw is (chain_passed (count_within l.count) (quantum_lengths l.m l.sheets l.orders) true (orders_within l.count l.orders) (quantum_read l) (sym (rw e at p))).1
 
   pub not_passed : {n : Refusal} → r ≡ Err n → quantum_set right l ≡ refused (code n)
   unfolding quantum_set chain
-  not_passed e = rw (← is) (chain_refused (count_within l.count) (quantum_lengths l.m l.sheets l.orders) b (orders_within l.count l.orders) (quantum_read l) _ (sym (rw e at p)))
+  not_passed e = rw is (chain_refused (count_within l.count) (quantum_lengths l.m l.sheets l.orders) true (orders_within l.count l.orders) (quantum_read l) _ (sym (rw e at p)))
 
 -- the set whole, and by its parts
 pub set_is : {S : Type 0} (q : Ans S) (x y : S) → q ≡ held x → y ≡ x → q ≡ held y

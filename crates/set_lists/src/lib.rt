@@ -15,7 +15,7 @@ use saftvrqmie_parameters::{FeynmanHibbsOrder, OrderRecord, SaftVRQMiePars};
 use sizes::{LISTS, SHEET, SHEETS, SIDE};
 use std::array;
 
-// A quantum set as it crosses the C boundary.
+// A quantum set as it crosses the C boundary. The lists have as many places for every set; the count, which says how many are in use, is the call's own, and 1 tests it.
 #[derive(Clone, Copy)]
 pub struct QuantumSet<'a> {
     pub count: usize,
@@ -83,17 +83,14 @@ pub fn quantum_lengths(m: &[f64], sheets: &[f64], orders: &[u8]) -> bool
     (m.len() == SIDE) & (sheets.len() == SHEETS) & (orders.len() == SHEET)
 }
 
-// Whether a quantum set can be read: 1 where it cannot or the rest of the call is not `right`, then 4.
-pub fn quantum_answer(s: &QuantumSet, right: bool) -> Result<(), Refusal>
-    ensures { outcome result true ≡ verdict (quantum_set right (quantum_lists s.now)) }
+// Whether a quantum set can be read: 1, 4. A call first asks what else of it is 1.
+pub fn quantum_answer(s: &QuantumSet) -> Result<(), Refusal>
+    ensures { outcome result true ≡ verdict (quantum_set true (quantum_lists s.now)) }
 {
     if !limits::count_within(s.count) {
         return Err(Refusal::Length);
     }
     if !quantum_lengths(s.m, s.sheets, s.orders) {
-        return Err(Refusal::Length);
-    }
-    if !right {
         return Err(Refusal::Length);
     }
     if !orders_within(s.count, s.orders) {

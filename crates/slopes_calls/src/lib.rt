@@ -41,8 +41,10 @@ pub fn vrq_energies_slopes(
     if out.len() != 6 {
         return Err(Refusal::Length);
     }
-    let right = slopes_lists::sloped_lengths(s.count, t, x, rho);
-    set_lists::quantum_answer(s, right)?;
+    if !slopes_lists::sloped_lengths(s.count, t, x, rho) {
+        return Err(Refusal::Length);
+    }
+    set_lists::quantum_answer(s)?;
     let set = set_lists::quantum_set(s);
     let e = saftvrqmie_slopes::energies_slopes(&set, t, x, rho, non_additive)?;
     out.copy_from_slice(&slopes_list(e));

@@ -1,12 +1,12 @@
 // Slip 10 behind the C boundary: a tank over a quantum set that crosses as its lists.
 #![tactic(auto)]
 
-ghost use Rattle.std.specs.Prelude.{◌≡◌, ◌≤◌};
+ghost use Rattle.std.specs.Prelude.{◌≡◌, true};
 ghost use Rattle.number.specs.Answer.{answer};
 ghost use Rattle.saftvrqmie_energies.specs.Energies.{energies_answer};
-ghost use Rattle.saftvrqmie_tank.specs.Tank.{most_layers, lists_of};
+ghost use Rattle.saftvrqmie_tank.specs.Tank.{lists_of};
 ghost use Rattle.set_lists.specs.Sets.{quantum_lists};
-ghost use Rattle.tank_lists.specs.Lists.{tank_right, tank_set, listed_tank, listed_tank_ends};
+ghost use Rattle.tank_lists.specs.Lists.{tank_set, listed_tank, listed_tank_ends};
 
 use number::Refusal;
 use saftvrqmie_energies::QuantumEnergies;
@@ -15,36 +15,30 @@ use saftvrqmie_parameters::SaftVRQMiePars;
 use saftvrqmie_tank::Layers;
 use set_lists::QuantumSet;
 
-// 1 of the tank's lists, and of the list that the answer is written into.
-fn tank_right(n: usize, q: &Layers, right: bool) -> bool
-    requires { q.now.layers ≤ most_layers }
-    ensures { result ≡ tank_right n (lists_of q.now) right }
-{
-    right & saftvrqmie_tank::tank_lengths(n, q)
-}
-
 // The tank's set. 14, 1, 4.
-fn tank_set(s: &QuantumSet, q: &Layers, right: bool) -> Result<SaftVRQMiePars, Refusal>
-    ensures { answer result ≡ tank_set (quantum_lists s.now) (lists_of q.now) right }
+fn tank_set(s: &QuantumSet, q: &Layers) -> Result<SaftVRQMiePars, Refusal>
+    ensures { answer result ≡ tank_set (quantum_lists s.now) (lists_of q.now) true }
 {
     if !saftvrqmie_tank::layers_within(q.layers) {
         return Err(Refusal::Layers);
     }
-    let right = tank_right(s.count, q, right);
-    set_lists::quantum_answer(s, right)?;
+    if !saftvrqmie_tank::tank_lengths(s.count, q) {
+        return Err(Refusal::Length);
+    }
+    set_lists::quantum_answer(s)?;
     Ok(set_lists::quantum_set(s))
 }
 
-// `right`: whether the list that the answer is written into has its length. 14, 1, 4, then layer by layer 2, 6, 7, then 7 of the tank.
+// 14, 1, 4, then layer by layer 2, 6, 7, then 7 of the tank. The 1 of the list that an answer is written into comes behind the 14 too: who lends one asks it.
+// A function each, here and below: one over a closure for the last line would be longer than both.
 pub fn listed_tank(
     s: &QuantumSet,
     q: &Layers,
     non_additive: bool,
-    right: bool,
 ) -> Result<QuantumEnergies, Refusal>
-    ensures { energies_answer result ≡ listed_tank (quantum_lists s.now) (lists_of q.now) non_additive right }
+    ensures { energies_answer result ≡ listed_tank (quantum_lists s.now) (lists_of q.now) non_additive true }
 {
-    let set = tank_set(s, q, right)?;
+    let set = tank_set(s, q)?;
     saftvrqmie_tank::tank(&set, q, non_additive)
 }
 
@@ -53,10 +47,9 @@ pub fn listed_tank_ends(
     s: &QuantumSet,
     q: &Layers,
     non_additive: bool,
-    right: bool,
 ) -> Result<EnergiesEnds, Refusal>
-    ensures { energies_answer result ≡ listed_tank_ends (quantum_lists s.now) (lists_of q.now) non_additive right }
+    ensures { energies_answer result ≡ listed_tank_ends (quantum_lists s.now) (lists_of q.now) non_additive true }
 {
-    let set = tank_set(s, q, right)?;
+    let set = tank_set(s, q)?;
     saftvrqmie_tank_ends::tank_ends(&set, q, non_additive)
 }

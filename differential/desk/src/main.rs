@@ -100,8 +100,10 @@ impl Query {
 
     /// What the door says: every 1, then 4, then every 2.
     fn door(&self) -> Option<u8> {
-        let right = self.fractions.len() == self.count && self.densities.len() == self.count;
-        match set_lists::quantum_answer(&self.lists(), right) {
+        if self.fractions.len() != self.count || self.densities.len() != self.count {
+            return Some(Refusal::Length.code());
+        }
+        match set_lists::quantum_answer(&self.lists()) {
             Err(r) => Some(r.code()),
             Ok(()) => (!limits::state_within(self.count, self.temperature, &self.fractions, &self.densities)).then_some(2),
         }
