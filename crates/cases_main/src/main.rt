@@ -20,6 +20,48 @@ const BYTES: usize = 448;
 
 type Line = [u8; 32];
 
+// The list whose places a line fills: one that is read, one that is lent, or what is to be left in one.
+#[derive(Clone, Copy)]
+enum Filled {
+    Floats,
+    Bytes,
+    LentFirst,
+    LentSecond,
+    LentBytes,
+    LeftFirst,
+    LeftSecond,
+    LeftBytes,
+}
+
+// What a line has: a case's name, what fills a list, or a call.
+#[derive(Clone, Copy)]
+enum Kind {
+    Name,
+    Fills(Filled),
+    Call,
+}
+
+impl TryFrom<u64> for Kind {
+    type Error = u64;
+
+    // The number itself where no kind has it.
+    fn try_from(number: u64) -> Result<Kind, u64> {
+        Ok(match number {
+            0 => Kind::Name,
+            1 => Kind::Fills(Filled::Floats),
+            2 => Kind::Fills(Filled::Bytes),
+            3 => Kind::Fills(Filled::LentFirst),
+            4 => Kind::Fills(Filled::LentSecond),
+            5 => Kind::Fills(Filled::LentBytes),
+            6 => Kind::Fills(Filled::LeftFirst),
+            7 => Kind::Fills(Filled::LeftSecond),
+            8 => Kind::Fills(Filled::LeftBytes),
+            9 => Kind::Call,
+            _ => return Err(number),
+        })
+    }
+}
+
 // A line's last word into its places of a list.
 fn fill<T: Copy>(list: &mut [T], line: &Line, x: T) {
     let from = word(line, 1) as usize;
@@ -53,33 +95,40 @@ struct Case {
     left: Lists,
 }
 
-// Takes in a line other than a name's or a call's: what is read, what is lent, or what is to be left.
-fn put(case: &mut Case, line: &Line) {
+// Fills a list by a line; what is lent is to be left so, until a line says what is.
+fn put(case: &mut Case, filled: Filled, line: &Line) {
     let x = of_bits(word(line, 3));
     let byte = line[24];
-    match word(line, 0) {
-        1 => fill(&mut case.floats, line, x),
-        2 => fill(&mut case.bytes, line, byte),
-        3 => {
+    match filled {
+        Filled::Floats => fill(&mut case.floats, line, x),
+        Filled::Bytes => fill(&mut case.bytes, line, byte),
+        Filled::LentFirst => {
             fill(&mut case.lent.first, line, x);
             fill(&mut case.left.first, line, x);
         }
-        4 => {
+        Filled::LentSecond => {
             fill(&mut case.lent.second, line, x);
             fill(&mut case.left.second, line, x);
         }
-        5 => {
+        Filled::LentBytes => {
             fill(&mut case.lent.bytes, line, byte);
             fill(&mut case.left.bytes, line, byte);
         }
-        6 => fill(&mut case.left.first, line, x),
-        7 => fill(&mut case.left.second, line, x),
-        8 => fill(&mut case.left.bytes, line, byte),
-        _ => {}
+        Filled::LeftFirst => fill(&mut case.left.first, line, x),
+        Filled::LeftSecond => fill(&mut case.left.second, line, x),
+        Filled::LeftBytes => fill(&mut case.left.bytes, line, byte),
     }
 }
 
 // ---- numbers
+
+// A call that writes one number, to the first place of a list; nowhere where there is none.
+fn at_first<F: FnOnce(&mut f64) -> u8>(list: &mut [f64], call: F) -> u8
+    requires { F.IsAlwaysCallable call }
+{
+    let mut nowhere = 0.0;
+    call(list.first_mut().unwrap_or(&mut nowhere))
+}
 
 // What cannot be refused.
 fn plain(f: &[f64]) -> f64 {
@@ -99,7 +148,7 @@ fn plain(f: &[f64]) -> f64 {
     }
 }
 
-// The number at the C boundary; None where no call has the case's number.
+// The number at the C boundary; None where no call has the case's number. That number is matched once, straight into its call: here by ranges, in each range's function by itself. An enum of the 27 calls between would say each a second time.
 fn worked(f: &[f64], b: &[u8], x: &mut [f64], y: &mut [f64], z: &mut [u8]) -> Option<u8> {
     match whole_at(f, 0) {
         0..16 => {
@@ -187,15 +236,17 @@ fn main(rt: HostRuntime) -> io::Result<()> {
     let mut other = 0u64;
     for line in Records::<_, 32>::new(&mut file) {
         let line = line?;
-        match word(&line, 0) {
-            0 => rt.write_all(&line[8..])?,
-            9 => {
+        match Kind::try_from(word(&line, 0)) {
+            Ok(Kind::Name) => rt.write_all(&line[8..])?,
+            Ok(Kind::Fills(filled)) => put(&mut case, filled, &line),
+            Ok(Kind::Call) => {
                 calls = calls.saturating_add(1);
                 if !is_right(&rt, &mut case, &line)? {
                     other = other.saturating_add(1);
                 }
             }
-            _ => put(&mut case, &line),
+            // A line of another kind says nothing.
+            Err(_) => {}
         }
     }
     println!(rt; "{calls} calls, {other} differ")

@@ -1,6 +1,6 @@
-// Worked cases of SAFT-VR Mie: each call on the C boundary, by its number. The numbers of the file are matched here and
-// in the two places like it only: an enum between would say each a second time.
+// Worked cases of SAFT-VR Mie: each call on the C boundary, by its number. What the quantum model has too is written here anew, as its C calls take other lists. Calls that take alike (a state, a pair) stay apart as quantum.rt says.
 
+use crate::at_first;
 use case_arguments::{list, number_at, whole_at};
 
 fn vr_parameters(f: &[f64], x: &mut [f64], y: &mut [f64]) -> u8 {
@@ -22,9 +22,7 @@ fn vr_diameters(f: &[f64], x: &mut [f64]) -> u8 {
     domthelv::domthelv_vr_diameters(whole_at(f, 2), list(f, 20), list(f, 21), number_at(f, 5), x)
 }
 
-fn vr_radius(f: &[f64], x: &mut [f64]) -> u8 {
-    let mut nowhere = 0.0;
-    let v = x.first_mut().unwrap_or(&mut nowhere);
+fn vr_radius(f: &[f64], x: &mut f64) -> u8 {
     domthelv::domthelv_vr_radius(
         whole_at(f, 2),
         list(f, 20),
@@ -32,13 +30,11 @@ fn vr_radius(f: &[f64], x: &mut [f64]) -> u8 {
         whole_at(f, 3),
         whole_at(f, 4),
         number_at(f, 5),
-        v,
+        x,
     )
 }
 
-fn vr_dispersion(f: &[f64], x: &mut [f64]) -> u8 {
-    let mut nowhere = 0.0;
-    let v = x.first_mut().unwrap_or(&mut nowhere);
+fn vr_dispersion(f: &[f64], x: &mut f64) -> u8 {
     domthelv::domthelv_vr_dispersion(
         whole_at(f, 2),
         list(f, 20),
@@ -48,7 +44,7 @@ fn vr_dispersion(f: &[f64], x: &mut [f64]) -> u8 {
         list(f, 18),
         list(f, 19),
         whole_at(f, 8) == 1,
-        v,
+        x,
     )
 }
 
@@ -79,9 +75,7 @@ fn vr_diameter_ends(f: &[f64], x: &mut [f64]) -> u8 {
     )
 }
 
-fn vr_diameter(f: &[f64], x: &mut [f64]) -> u8 {
-    let mut nowhere = 0.0;
-    let v = x.first_mut().unwrap_or(&mut nowhere);
+fn vr_diameter(f: &[f64], x: &mut f64) -> u8 {
     domthelv::domthelv_vr_diameter(
         whole_at(f, 2),
         list(f, 20),
@@ -90,13 +84,11 @@ fn vr_diameter(f: &[f64], x: &mut [f64]) -> u8 {
         whole_at(f, 4),
         number_at(f, 5),
         number_at(f, 7),
-        v,
+        x,
     )
 }
 
-fn vr_stage(f: &[f64], x: &mut [f64]) -> u8 {
-    let mut nowhere = 0.0;
-    let v = x.first_mut().unwrap_or(&mut nowhere);
+fn vr_stage(f: &[f64], x: &mut f64) -> u8 {
     domthelv::domthelv_vr_stage(
         whole_at(f, 2),
         list(f, 9),
@@ -110,7 +102,7 @@ fn vr_stage(f: &[f64], x: &mut [f64]) -> u8 {
         list(f, 17),
         list(f, 18),
         whole_at(f, 8) == 1,
-        v,
+        x,
     )
 }
 
@@ -119,12 +111,12 @@ pub fn mie(f: &[f64], x: &mut [f64], y: &mut [f64]) -> Option<u8> {
     Some(match whole_at(f, 0) {
         32 => vr_parameters(f, x, y),
         33 => vr_diameters(f, x),
-        34 => vr_radius(f, x),
-        35 => vr_dispersion(f, x),
+        34 => at_first(x, |x| vr_radius(f, x)),
+        35 => at_first(x, |x| vr_dispersion(f, x)),
         36 => vr_dispersion_ends(f, x),
-        37 => vr_diameter(f, x),
+        37 => at_first(x, |x| vr_diameter(f, x)),
         38 => vr_diameter_ends(f, x),
-        39 => vr_stage(f, x),
+        39 => at_first(x, |x| vr_stage(f, x)),
         _ => return None,
     })
 }

@@ -1,5 +1,7 @@
 // Worked cases of the quantum model: each call on the C boundary, by its number.
+// Calls that take alike (a state, a pair) stay apart: one function of them would take each as a closure that writes the C call's parameters twice more, as a function handed by its name has no contract here where its module is private.
 
+use crate::at_first;
 use case_arguments::{list, number_at, whole_at};
 use number::{bits_of, of_bits};
 use records::part;
@@ -108,9 +110,7 @@ fn vrq_diameter_ends(f: &[f64], b: &[u8], x: &mut [f64]) -> u8 {
     )
 }
 
-fn vrq_diameter(f: &[f64], b: &[u8], x: &mut [f64]) -> u8 {
-    let mut nowhere = 0.0;
-    let v = x.first_mut().unwrap_or(&mut nowhere);
+fn vrq_diameter(f: &[f64], b: &[u8], x: &mut f64) -> u8 {
     domthelv::domthelv_vrq_diameter(
         whole_at(f, 2),
         list(f, 9),
@@ -121,7 +121,7 @@ fn vrq_diameter(f: &[f64], b: &[u8], x: &mut [f64]) -> u8 {
         number_at(f, 5),
         number_at(f, 6),
         number_at(f, 7),
-        v,
+        x,
     )
 }
 
@@ -167,7 +167,7 @@ pub fn quantum(f: &[f64], b: &[u8], x: &mut [f64], y: &mut [f64], z: &mut [u8]) 
         18 => vrq_radii(f, b, x, z),
         19 => vrq_energies(f, b, x),
         20 => vrq_energies_ends(f, b, x),
-        21 => vrq_diameter(f, b, x),
+        21 => at_first(x, |x| vrq_diameter(f, b, x)),
         22 => vrq_diameter_ends(f, b, x),
         23 => vrq_stage(f, b, x),
         24 => domthelv::domthelv_vrq_record_m(number_at(f, 6)),
