@@ -83,6 +83,7 @@ const WORDS: usize = 300;
 
 const RECORD: usize = 8 * WORDS;
 
+// A function for each model: it names the lists of that model's struct one by one.
 fn quantum_card(f: &[f64], order: &[u8], room: &mut [u8], length: &mut usize) -> u8 {
     let lists = saftvrqmie_parameters::ComponentLists {
         count: whole_at(f, 0),
@@ -115,32 +116,30 @@ fn mie_card(f: &[f64], room: &mut [u8], length: &mut usize) -> u8 {
     mie_parameters::number(answer)
 }
 
-// One card; false where the list that it goes to is longer than this program has. The model's number is asked in this place only, so an enum would say it a second time.
-fn written(rt: &impl Print, record: &[u8; RECORD]) -> io::Result<bool> {
-    let f: [f64; WORDS] = floats(record);
-    let mut list = [0xa5u8; 1600];
-    let Some(room) = list.get_mut(..whole_at(&f, 2)) else {
-        return Ok(false);
-    };
-    let order = part(record, 400, whole_at(&f, 23));
-    let mut length = 9999;
-    let number = if whole_at(&f, 1) == 1 {
-        mie_card(&f, room, &mut length)
-    } else {
-        quantum_card(&f, order, room, &mut length)
-    };
-    told(rt, number, length, room)?;
-    Ok(true)
+// The cards that are written, up to a record whose list is longer than this program has. The model's number is asked in this place only, so an enum would say it a second time.
+fn written(rt: &impl Print, file: &mut impl Read) -> io::Result<()> {
+    for record in Records::<_, RECORD>::new(file) {
+        let record = record?;
+        let f: [f64; WORDS] = floats(&record);
+        let mut list = [0xa5u8; 1600];
+        let Some(room) = list.get_mut(..whole_at(&f, 2)) else {
+            break;
+        };
+        let order = part(&record, 400, whole_at(&f, 23));
+        let mut length = 9999;
+        let number = if whole_at(&f, 1) == 1 {
+            mie_card(&f, room, &mut length)
+        } else {
+            quantum_card(&f, order, room, &mut length)
+        };
+        told(rt, number, length, room)?;
+    }
+    Ok(())
 }
 
 fn main(rt: HostRuntime) -> io::Result<()> {
     let mut cards_file = File::open(&rt, "cards.bin")?;
     cards(&rt, &mut cards_file)?;
     let mut written_file = File::open(&rt, "written.bin")?;
-    for record in Records::<_, RECORD>::new(&mut written_file) {
-        if !written(&rt, &record?)? {
-            break;
-        }
-    }
-    Ok(())
+    written(&rt, &mut written_file)
 }
