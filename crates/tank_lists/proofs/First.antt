@@ -27,7 +27,7 @@ module _ (s : SaftVRQMiePars) (q : TankLists) (wanted : Bool) where
       let a = h l (omega arith) in
       let next = layer_piled floats wanted (at q.volumes l) (at q.temperatures l) a.0 r.0 in
       let d : suc l ≡ l + 1 = omega arith in
-      (next, rw d (pile_next floats q wanted (answers_of s q wanted) l r.0 a.0 next r.1 a.1 refl))
+      (next, rw d (pile_next floats q wanted (answers_of s q wanted) l r.0 a.0 next (at q.volumes l) (at q.temperatures l) refl refl r.1 a.1 refl))
 
   pub first_refused : layers_within q.layers ≡ true → tank_lengths s.count q ≡ true → (l k : ℕ) → l < q.layers → ((j : ℕ) → j < l → LayerHeld j) → layer_of s (layer_at s.count q l) wanted ≡ refused k → tank s q wanted ≡ refused k
   first_refused p r l k b below at_l =
