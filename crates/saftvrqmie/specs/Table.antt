@@ -1,10 +1,8 @@
 -- The temperature table, `TemperatureDependentProperties::new` of saftvrqmie/eos/mod.rs on a set: the tests in their order, and both lent lists.
-use Rattle.std.specs.Prelude.{◌≡◌, Result, ℕ, ◌+◌, ◌*◌, eqb, Float, length, set, replicate, List, [], Bool, ◌&&◌}
+use Rattle.std.specs.Prelude.{ℕ, ◌+◌, ◌*◌, eqb, Float, length, set, replicate, List, [], Bool, ◌&&◌}
 use Rattle.std.specs.Float.Ieee.Scale.{finite}
 use Rattle.number.specs.Ans.{Ans, held, ◌>>=◌, demand}
-use Rattle.number.specs.declared.refusal.Refusal.{Refusal}
-use Rattle.number.specs.Answer.{answer_by}
-use Rattle.number.specs.Arith.{floats, whole, zero64}
+use Rattle.number.specs.Arith.{floats, zero64}
 use Rattle.number.specs.Functions.{calls}
 use Rattle.number.specs.Lists.{at}
 use Rattle.sizes.specs.Sizes.{sheet, cell}
@@ -13,10 +11,8 @@ use Rattle.elementary.specs.Port.{port}
 use Rattle.limits.specs.Limits.{count_within, temperature_within}
 use Rattle.saftvrqmie_parameters.specs.declared.OrderRecord.{OrderRecord}
 use Rattle.saftvrqmie_parameters.specs.declared.SaftVRQMiePars.{SaftVRQMiePars}
-use Rattle.saftvrqmie_potential.specs.declared.Pair.{Pair}
-use Rattle.saftvrqmie_potential.specs.Potential.{pair_by, pair_in, pair_at_entry, potential}
-use Rattle.saftvrqmie_properties.specs.declared.PairProperties.{PairProperties}
-use Rattle.saftvrqmie_properties.specs.Properties.{PairPropertiesIn, pair_properties_by, properties_from, properties_by, pair_properties}
+use Rattle.saftvrqmie_potential.specs.Potential.{pair_in, pair_at_entry}
+use Rattle.saftvrqmie_properties.specs.Properties.{PairPropertiesIn, pair_properties}
 use Rattle.saftvrqmie.specs.declared.Room.{Room}
 
 -- the two lists: '256 floats, and 192 bytes of counts'
@@ -34,13 +30,6 @@ store s e p =
       values = set (set (set (set s.values e p.sigma_eff) (1 * sheet + e) p.hs_diameter) (2 * sheet + e) p.epsilon_k_eff) (3 * sheet + e) p.quantum_d;
       numbers = set (set (set s.numbers e p.sigma_count) (1 * sheet + e) p.zero_count) (2 * sheet + e) p.depth_count;
     }
-
--- what the code answers of a pair in floats is what the definition answers
-pub float_properties : (p : Pair Float Float) (a : Result (PairProperties Float) Refusal) → let q = pair_by floats.lit (λ x. x) p in
-    answer_by (pair_properties_by (λ x. x)) a ≡ properties_from floats (calls floats port) (potential floats (calls floats port) q) (floats.mul (whole floats 1) q.sigma) q.mass q.temperature
-    → answer_by (pair_properties_by (λ x. x)) a ≡ pair_properties floats (calls floats port) (pair_in p)
-unfolding pair_properties properties_by
-float_properties p a h = h
 
 -- pair (i, j), row i, and all ordered pairs row by row
 unfoldable pub work_turn : List Float → List OrderRecord → Float → ℕ → ℕ → Lent → Ans Lent

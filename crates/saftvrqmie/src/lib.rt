@@ -12,7 +12,8 @@ ghost use Rattle.elementary.specs.Port.{port};
 ghost use Rattle.mie_parameters.specs.Answer.{outcome, verdict, stored};
 ghost use Rattle.saftvrqmie_potential.specs.Potential.{pair_in};
 ghost use Rattle.saftvrqmie_properties.specs.Properties.{pair_properties_in, pair_properties};
-ghost use Rattle.saftvrqmie.specs.Table.{Lent, lent_of, store, float_properties, table_finite, right_lists, temperature_table, pairs_of};
+ghost use Rattle.saftvrqmie.specs.Laws.{float_properties};
+ghost use Rattle.saftvrqmie.specs.Table.{Lent, lent_of, store, table_finite, right_lists, temperature_table, pairs_of};
 ghost use Rattle.saftvrqmie.specs.Pairs.{searches_answer, pair_searches, radii_ij, diameter_ij};
 
 use number::Refusal;

@@ -1,27 +1,20 @@
 -- The temperature table with slopes: `TemperatureDependentProperties::new` of saftvrqmie/eos/mod.rs at D on a set, row by row (document 02, Slip 1).
-use Rattle.std.specs.Prelude.{ℕ, ◌≡◌, ◌*◌, Result, false, Float, replicate, List, [], Bool, ◌&&◌}
+use Rattle.std.specs.Prelude.{ℕ, ◌*◌, Float, replicate, List, [], Bool, ◌&&◌}
 use Rattle.number.specs.Ans.{Ans, held, ◌>>=◌, demand}
-use Rattle.number.specs.Answer.{answer_by}
-use Rattle.number.specs.declared.refusal.Refusal.{Refusal}
-use Rattle.number.specs.Arith.{floats, decimal, zero64}
+use Rattle.number.specs.Arith.{zero64}
 use Rattle.number.specs.Functions.{Answers}
 use Rattle.number.specs.Walk.{walk}
 use Rattle.sizes.specs.Sizes.{sheet, cell}
-use Rattle.elementary.specs.Port.{port}
-use Rattle.dual.specs.Dual.{DualOf, plain_d}
+use Rattle.dual.specs.Dual.{DualOf}
 use Rattle.dual.specs.Value.{dual_of}
 use Rattle.dual.specs.declared.Dual.{Dual}
-use Rattle.slopes.specs.Mixed.{plain, sloped, mixed}
-use Rattle.slopes.specs.Rules.{mixed_functions}
 use Rattle.slopes_lists.specs.Lists.{SlopedList}
 use Rattle.saftvrqmie_parameters.specs.declared.OrderRecord.{OrderRecord}
 use Rattle.saftvrqmie_potential.specs.declared.Pair.{Pair}
-use Rattle.saftvrqmie_potential.specs.Potential.{pair_by, pair_at_entry, potential}
+use Rattle.saftvrqmie_potential.specs.Potential.{pair_at_entry}
 use Rattle.saftvrqmie.specs.Table.{store, table_finite}
-use Rattle.saftvrqmie_properties.specs.declared.PairProperties.{PairProperties}
-use Rattle.saftvrqmie_properties.specs.Properties.{PairPropertiesIn, pair_properties_by, properties_from}
+use Rattle.saftvrqmie_properties.specs.Properties.{PairPropertiesIn}
 use Rattle.saftvrqmie_properties.specs.Slopes.{properties_slope}
-use Rattle.saftvrqmie_properties.proofs.Slopes.{slope_answer}
 use Rattle.saftvrqmie_table_slopes.specs.declared.SlopedTable.{SlopedTable}
 
 -- of a pair's properties the values alone, or the slopes alone
@@ -47,12 +40,6 @@ store_slopes x e p = record { values = store_part x.values e (parts_of (λ d. d.
 -- the properties of a pair at its temperature
 abbrev pub properties_at : Answers → Pair Dual Float → Ans (PairPropertiesIn (DualOf Float))
 properties_at E p = properties_slope E (record { sigma = p.sigma; epsilon_k = p.epsilon_k; c = p.c; lr = p.lr; la = p.la; mass = p.mass; order = p.order; temperature = (dual_of p.temperature).re }) (dual_of p.temperature)
-
--- what the code answers of a pair with slopes is what the definition answers
-pub slope_properties : (p : Pair Dual Float) (a : Result (PairProperties Dual) Refusal) → let q = pair_by plain (λ (x : Dual). sloped (dual_of x)) p in
-    answer_by (pair_properties_by (λ (x : Dual). sloped (dual_of x))) a ≡ properties_from mixed (mixed_functions port) (potential mixed (mixed_functions port) q) (mixed.mul (sloped (plain_d floats (decimal false 1 0))) q.sigma) q.mass q.temperature
-    → answer_by (pair_properties_by dual_of) a ≡ properties_at port p
-slope_properties p a h = slope_answer a _ _ h
 
 -- a table's two lists
 abbrev pub sloped_of : SlopedTable → SlopedList

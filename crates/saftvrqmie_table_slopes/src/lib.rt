@@ -10,7 +10,8 @@ ghost use Rattle.dual.specs.Value.{dual_of};
 ghost use Rattle.mie_parameters.specs.Answer.{outcome};
 ghost use Rattle.slopes_lists.specs.Lists.{SlopedList};
 ghost use Rattle.saftvrqmie_properties.specs.Properties.{pair_properties_by};
-ghost use Rattle.saftvrqmie_table_slopes.specs.Table.{store_slopes, properties_at, slope_properties, sloped_of, table_slopes_into};
+ghost use Rattle.saftvrqmie_table_slopes.specs.Laws.{slope_properties};
+ghost use Rattle.saftvrqmie_table_slopes.specs.Table.{store_slopes, properties_at, sloped_of, table_slopes_into};
 
 use dual::Dual;
 use number::Refusal;
