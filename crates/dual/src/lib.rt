@@ -40,7 +40,7 @@ impl Dual {
         }
     }
 
-    // The whole power minus n.
+    // The whole power minus n. Beside pow_up it differs in the power's way, in the exponent next to n and in a sign: one text would take all three.
     pub fn pow_down(self, n: u16) -> Dual
         ensures { dual_of result ≡ down_d floats (dual_of self) n }
     {
@@ -130,10 +130,7 @@ impl Add<f64> for Dual {
     ghost add_gives = { λ x c r. dual_of r ≡ add_d floats (dual_of x) (plain_d floats c) };
 
     fn add(self, c: f64) -> Dual {
-        Dual {
-            re: self.re + c,
-            eps: self.eps + 0.0,
-        }
+        self + Dual::plain(c)
     }
 }
 
@@ -143,10 +140,7 @@ impl Sub<f64> for Dual {
     ghost sub_gives = { λ x c r. dual_of r ≡ sub_d floats (dual_of x) (plain_d floats c) };
 
     fn sub(self, c: f64) -> Dual {
-        Dual {
-            re: self.re - c,
-            eps: self.eps - 0.0,
-        }
+        self - Dual::plain(c)
     }
 }
 
@@ -156,10 +150,7 @@ impl Mul<f64> for Dual {
     ghost mul_gives = { λ x c r. dual_of r ≡ mul_d floats (dual_of x) (plain_d floats c) };
 
     fn mul(self, c: f64) -> Dual {
-        Dual {
-            re: self.re * c,
-            eps: self.eps * c + self.re * 0.0,
-        }
+        self * Dual::plain(c)
     }
 }
 
@@ -169,9 +160,6 @@ impl Div<f64> for Dual {
     ghost div_gives = { λ x c r. dual_of r ≡ div_d floats (dual_of x) (plain_d floats c) };
 
     fn div(self, c: f64) -> Dual {
-        Dual {
-            re: self.re / c,
-            eps: (self.eps * c - self.re * 0.0) / (c * c),
-        }
+        self / Dual::plain(c)
     }
 }
