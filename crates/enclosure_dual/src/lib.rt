@@ -58,7 +58,7 @@ impl EnclosureDual {
         }
     }
 
-    // The whole power minus n.
+    // The whole power minus n. Beside pow_up it differs in the power's way, in the exponent next to n and in a sign: one text would take all three.
     pub fn pow_down(self, n: u16) -> EnclosureDual
         ensures { dual_of result ≡ down_d enclosures (dual_of self) n }
     {
@@ -200,10 +200,7 @@ impl Add<Enclosure> for EnclosureDual {
 
     #[inline(always)]
     fn add(self, c: Enclosure) -> EnclosureDual {
-        EnclosureDual {
-            re: self.re + c,
-            eps: self.eps + Enclosure::point(0.0),
-        }
+        self + EnclosureDual::plain(c)
     }
 }
 
@@ -214,10 +211,7 @@ impl Sub<Enclosure> for EnclosureDual {
 
     #[inline(always)]
     fn sub(self, c: Enclosure) -> EnclosureDual {
-        EnclosureDual {
-            re: self.re - c,
-            eps: self.eps - Enclosure::point(0.0),
-        }
+        self - EnclosureDual::plain(c)
     }
 }
 
