@@ -91,13 +91,14 @@ fn pair_orders(a: u8, b: u8) -> Result<(), Refusal>
     if 2 < b {
         return Err(Refusal::Order);
     }
+    // By the bytes, as the definition: of two numbers up to 2 the product is 2 where 1 and 2 meet.
     if a * b == 2 {
         return Err(Refusal::MixedOrders);
     }
     Ok(())
 }
 
-// The order of one component beside each of the list. A loop, which `?` leaves with the first refusal.
+// The order of one component beside each of the list.
 fn order_row(a: u8, fh: &[u8]) -> Result<(), Refusal>
     ensures { (i : ℕ) → a ≡ get_or fh.now i 0 → outcome result true ≡ order_row (length fh.now) fh.now i }
 {
@@ -207,27 +208,28 @@ impl From<u8> for FeynmanHibbsOrder {
 }
 
 // By index: an entry is of a pair, and rows of the sheet are longer than the list.
-fn orders_row(s: [OrderRecord; SHEET], n: usize, fh: &[u8], i: usize) -> [OrderRecord; SHEET]
-    requires { (n ≤ side) × (i < n) × (length fh.now ≡ n) }
-    ensures { result ≡ orders_row n fh.now i s }
+fn orders_row(s: [OrderRecord; SHEET], fh: &[u8], i: usize) -> [OrderRecord; SHEET]
+    requires { (length fh.now ≤ side) × (i < length fh.now) }
+    ensures { result ≡ orders_row (length fh.now) fh.now i s }
 {
     let mut orders = s;
-    for j in 0usize..n {
+    for j in 0usize..fh.len() {
         let order = FeynmanHibbsOrder::from(fh[i].max(fh[j]));
         orders[SIDE * i + j] = OrderRecord { order };
     }
     orders
 }
 
-fn orders_of(n: usize, fh: &[u8]) -> [OrderRecord; SHEET]
-    requires { (n ≤ side) × (length fh.now ≡ n) }
-    ensures { result ≡ orders_of n fh.now }
+// `next`, as the check covers no call whose result is laid in a local that holds an array.
+fn orders_of(fh: &[u8]) -> [OrderRecord; SHEET]
+    requires { length fh.now ≤ side }
+    ensures { result ≡ orders_of (length fh.now) fh.now }
 {
     let mut orders = [OrderRecord {
         order: FeynmanHibbsOrder::FH0,
     }; SHEET];
-    for i in 0usize..n {
-        let next = orders_row(orders, n, fh, i);
+    for i in 0usize..fh.len() {
+        let next = orders_row(orders, fh, i);
         orders = next;
     }
     orders
@@ -290,7 +292,7 @@ pub fn saft_vrq_mie_pars(l: &ComponentLists) -> Result<SaftVRQMiePars, Refusal>
     let mut sheets = [0.0; SHEETS];
     sheets::fill_sheets(l, &mut sheets)?;
     let m = mie_parameters::in_places(l.count, l.m);
-    let orders = orders_of(l.count, l.fh);
+    let orders = orders_of(l.fh);
     Ok(SaftVRQMiePars {
         count: l.count,
         m,

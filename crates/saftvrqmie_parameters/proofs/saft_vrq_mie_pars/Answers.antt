@@ -32,8 +32,8 @@ pub in_places-m-requires : goal.in_places-m-requires
 in_places-m-requires c = let h = lengths _ (told c.right_lengths.ensures c.if-not-right_lengths.false) in (h.high, h.m)
 
 pub orders_of-orders-requires : goal.orders_of-orders-requires
-orders_of-orders-requires c = let h = lengths _ (told c.right_lengths.ensures c.if-not-right_lengths.false) in (h.high, h.fh)
+orders_of-orders-requires c = let h = lengths _ (told c.right_lengths.ensures c.if-not-right_lengths.false) in rw h.fh h.high
 
 pub returns : goal.returns
 unfolding sheets_of
-returns c = let h = lengths _ (told c.right_lengths.ensures c.if-not-right_lengths.false) in holds _ _ _ _ (told c.right_lengths.ensures c.if-not-right_lengths.false) (told c.within_limits.ensures c.if-not-within_limits.false) (told (rw h.m at c.all_one.ensures) c.if-not-all_one.false) (held_at _ _ _ (rw h.fh at c.order_walk.ensures) c.in_ok-order_walk.was) (held_at _ _ _ c.fill_sheets.ensures c.in_ok-fill_sheets.was) c.in_places-m.ensures c.orders_of-orders.ensures
+returns c = let h = lengths _ (told c.right_lengths.ensures c.if-not-right_lengths.false) in holds _ _ _ _ (told c.right_lengths.ensures c.if-not-right_lengths.false) (told c.within_limits.ensures c.if-not-within_limits.false) (told (rw h.m at c.all_one.ensures) c.if-not-all_one.false) (held_at _ _ _ (rw h.fh at c.order_walk.ensures) c.in_ok-order_walk.was) (held_at _ _ _ c.fill_sheets.ensures c.in_ok-fill_sheets.was) c.in_places-m.ensures (rw h.fh at c.orders_of-orders.ensures)
