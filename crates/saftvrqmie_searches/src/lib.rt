@@ -206,8 +206,7 @@ pub fn diameter_by<D: WithoutEnds>(
 {
     let mut d_hs = r0;
     for k in 0usize..21usize {
-        let next = node(w, temperature, sigma_eff, r0, k, d_hs)?;
-        d_hs = next;
+        d_hs = node(w, temperature, sigma_eff, r0, k, d_hs)?;
     }
     Ok(d_hs)
 }

@@ -9,12 +9,12 @@ use Rattle.saftvrqmie_searches.proofs.diameter_by.Goals as goal
 pub loop-k-init : goal.loop-k-init
 loop-k-init g c = (search rules, λ p h. walk_none _ _)
 
-pub returns-in_err-next : goal.returns-in_err-next
+pub returns-in_err-d_hs : goal.returns-in_err-d_hs
 unfolding diameter_by
-returns-in_err-next g c = λ p h. rw (handed_on _ c.from_residual.ensures) (walk_stop _ _ _ _ _ _ c.loop-k-test.true (c.loop-k.invariant.1 p h) (via (answer_by (g.D.DualNum.of false)) (c.node.ensures p h) c.in_err-next.was))
+returns-in_err-d_hs g c = λ p h. rw (handed_on _ c.from_residual.ensures) (walk_stop _ _ _ _ _ _ c.loop-k-test.true (c.loop-k.invariant.1 p h) (via (answer_by (g.D.DualNum.of false)) (c.node.ensures p h) c.in_err-d_hs.was))
 
 pub loop-k-preserved : goal.loop-k-preserved
-loop-k-preserved g c = (search rules, λ p h. walk_next _ _ _ _ _ (c.loop-k.invariant.1 p h) (via (answer_by (g.D.DualNum.of false)) (c.node.ensures p h) c.in_ok-next.was))
+loop-k-preserved g c = (search rules, λ p h. walk_next _ _ _ _ _ (c.loop-k.invariant.1 p h) (via (answer_by (g.D.DualNum.of false)) (c.node.ensures p h) c.in_ok-d_hs.was))
 
 pub returns : goal.returns
 unfolding diameter_by
