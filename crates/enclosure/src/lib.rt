@@ -33,14 +33,11 @@ pub struct Enclosed {
 pub fn table_entry(t: &[Enclosed], k: usize) -> Enclosed
     ensures { result ≡ get_or t.now k (record { value = zero64; below = zero64; above = zero64 }) }
 {
-    if k < t.len() {
-        return t[k];
-    }
-    Enclosed {
+    t.get(k).copied().unwrap_or(Enclosed {
         value: 0.0,
         below: 0.0,
         above: 0.0,
-    }
+    })
 }
 
 // Document 01's two ends, as a two-ended operation reports them.
