@@ -21,6 +21,7 @@ pub struct Interval {
     pub sound: bool,
 }
 
+// Here and below g, a and b are the flag and the ends before the outward step (in `around` four corners): they are no Interval yet.
 fn outward(g: bool, a: f64, b: f64) -> Interval
     ensures { result ≡ outward g a b }
 {
@@ -86,6 +87,7 @@ fn below(a: f64, b: f64) -> bool
     (-1.7976931348623157e308 < a) & (b < -2.2250738585072014e-308)
 }
 
+// The same below zero, where a pattern grows with the size: the steps change sides, and the clause's premise with them.
 fn falling(g: bool, a: f64, b: f64) -> Interval
     requires { InsideBelow a × InsideBelow b }
     ensures { result ≡ outward g a b }
@@ -113,7 +115,7 @@ fn stepped(g: bool, a: f64, b: f64) -> Option<Interval>
     None
 }
 
-// One of the two ends of a factor or divisor.
+// One of the two ends of a factor or divisor. As a call's answer it has one clause, which the lemmas of the usual way take; of an `if` the proof would join two arms at each of the six uses.
 fn chosen(first: bool, x: f64, y: f64) -> f64
     ensures { result ≡ cond first x y }
 {
@@ -211,6 +213,7 @@ impl Sub for Interval {
 
     ghost sub_gives = { λ x y r. r ≡ sub_i x y };
 
+    // Beside add it differs in the operation, three times, and in which end of y each end takes: one text would take both ends and the closure.
     fn sub(self, y: Interval) -> Interval {
         let g = self.sound & y.sound;
         if !(self.upper < self.lower) & !(y.upper < y.lower) {
@@ -311,7 +314,7 @@ fn third(x: Interval) -> Interval
     Interval::point(1.0) * x * (x * x)
 }
 
-// The whole power n, by its binary digits from the lowest: what is left is halved, no index is counted.
+// The whole power n, by its binary digits from the lowest: what is left is halved, no index is counted. number's pow_up walks so over floats; here a product takes five numbers, as `product` says.
 fn any_power(x: Interval, n: u32) -> Interval
     ensures { result ≡ pow_i x n }
 {
