@@ -1,4 +1,5 @@
 // Document 01's limits of what is taken, shared by both models.
+// In the contracts n ≤ side, i < n and j < n stand plain: each bounds one number, and a name would be longer.
 #![tactic(auto)]
 
 ghost use Rattle.std.specs.Prelude.{true, ◌≡◌, ◌*◌, ◌<◌, ◌≤◌, length};
@@ -74,7 +75,7 @@ fn component_within(c: Component) -> bool
         & ((3.0 < c.la) & (c.la < c.lr) & (c.lr <= 64.0))
 }
 
-// The lists are as long as the count: an operation tests that first, as 1 goes before 2.
+// The count stays beside the four lists: without it the clause would ask that they are equally long, which each caller has only by the count.
 pub fn components_within(n: usize, sigma: &[f64], epsilon_k: &[f64], lr: &[f64], la: &[f64]) -> bool
     requires { (length sigma.now ≡ n) × (length epsilon_k.now ≡ n) × (length lr.now ≡ n) × (length la.now ≡ n) }
     ensures { result ≡ components_within n (components sigma.now epsilon_k.now lr.now la.now) }
@@ -107,7 +108,7 @@ pub fn shares_within(x: &[f64]) -> bool
     all_within(0.0, 1.0, x)
 }
 
-// What energies take beside a set. The count stays beside the two lists: without it the clause would ask that they are equally long, which each caller has only by the count.
+// What energies take beside a set. n is for the clause alone, which says by it that the two lists are equally long: each caller has that only by the count.
 pub fn state_within(n: usize, t: f64, x: &[f64], rho: &[f64]) -> bool
     requires { (length x.now ≡ n) × (length rho.now ≡ n) }
     ensures { result ≡ state_within n t x.now rho.now }

@@ -1,4 +1,5 @@
 // The six sheets of a set, filled pair by pair from component lists.
+// In the contracts e < sheet, i < size and size ≤ side stand plain: each bounds one number, and a name would be longer.
 #![tactic(auto)]
 
 ghost use Rattle.std.specs.Prelude.{◌≡◌, ◌<◌, ◌≤◌, ℕ, List, Float};

@@ -26,7 +26,7 @@ pub fn sloped_lengths(
     limits::count_within(n) & right_lengths(n, fractions) & right_lengths(n, densities)
 }
 
-// 7: a supplied slope. The lists are as long as the count: an operation refuses others with 1 before it asks. The count stays beside them, as in `limits::state_within`.
+// 7: a supplied slope. An operation refuses lists that are not as long as the count with 1 before it asks. n is for the clause alone, as in `limits::state_within`.
 pub fn supplied_finite(
     n: usize,
     temperature: Dual,
