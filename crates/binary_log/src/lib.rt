@@ -10,7 +10,7 @@ ghost use Rattle.binary_log.specs.BinaryLog.{eight_terms, significand_log, log_o
 
 use fixed_point::{high_product, polynomial_at, significand};
 
-// A base with its binary logarithm: the size in units of 2^-61, and whether it is below 0.
+// A base with its binary logarithm: the size in units of 2^-61, and whether it is below 0. The sign is a flag, as a float's: the size means the same with either.
 #[derive(Clone, Copy)]
 pub struct Log {
     pub base: f64,

@@ -43,7 +43,7 @@ pub fn quot(n: u64, d: u64) -> u64
     q1 * 0x1_0000_0000 + r / dh
 }
 
-// y / 2^n, for any n.
+// y / 2^n, for any n. The library's unbounded_shr takes a u32: a caller's n, made of an exponent's field or of leading zeros, is a u64 and would be cast.
 pub fn shift_right(y: u64, n: u64) -> u64
     ensures { result ≡ y / 2 ^ n }
 {

@@ -12,7 +12,7 @@ use exponential::raise_core;
 use fixed_point::{exponent_field, high_product, shift_right, significand};
 use number::Refusal;
 
-// An exponent in fixed point: the size in units of 2^-56, whether it is below 0, and whether it is 1.
+// An exponent in fixed point: the size in units of 2^-56, whether it is below 0, and whether it is 1. Both are flags: the size and the sign of 1 stand as any other's, and `word` takes them without asking for it.
 #[derive(Clone, Copy)]
 pub struct FixedExponent {
     pub size: u64,

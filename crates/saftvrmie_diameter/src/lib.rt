@@ -1,4 +1,5 @@
 // The temperature-dependent diameter of SAFT-VR Mie (saftvrmie/parameters.rs): lower limit by Halley's method, 10-node rule.
+// A pair's numbers come one by one: PairParameters is of SAFT-VR Mie's set, which this crate does not need.
 #![tactic(auto)]
 
 ghost use Rattle.std.specs.Prelude.{◌≡◌, Bool, ◌<◌, ℕ, slice_index_or};
