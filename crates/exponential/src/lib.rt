@@ -14,7 +14,7 @@ ghost use Rattle.exponential.specs.Exp.{binary_of, exponent_at, binary_exponent_
 ghost use Rattle.exponential.specs.ExpM1.{under_of, small_of, below_of, above_of, away_of, exp_m1_of};
 ghost use Rattle.exponential.specs.Tanh.{tanh_ratio_of, tanh_of};
 
-use fixed_point::{exponent_field, high_product, pack, polynomial_at, shift_right};
+use fixed_point::{exponent_field, high_product, is_negative, pack, polynomial_at, shift_right};
 use number::Refusal;
 
 // 2^(63 + j/128), rounded down.
@@ -200,7 +200,7 @@ fn exponent_bits(b: u64) -> u64
     let digits = fixed_point::significand(b) * 2048;
     let size = shift_right(digits, 1032u64.saturating_sub(exponent_field(b)));
     let v = high_product(size, 13306513097844322491);
-    if 0x8000_0000_0000_0000 <= b {
+    if is_negative(b) {
         0x7fe0_0000_0000_0000 - v
     } else {
         0x7fe0_0000_0000_0000 + v
@@ -251,7 +251,7 @@ fn small(x: f64, b: u64) -> f64
     let s = shift_right(digits, 1022u64.saturating_sub(exponent_field(b)));
     let q = high_product(s, s);
     let a = polynomial_at(&OVER_TERMS, q);
-    let d = under(0x8000_0000_0000_0000 <= b, s, q, a);
+    let d = under(is_negative(b), s, q, a);
     let y = (a / 2048) as f64;
     let z = (d / 2048) as f64;
     x * y / z
@@ -285,11 +285,7 @@ fn away(x: f64) -> f64
         return small(x, b);
     }
     let w = exponent(x);
-    if 0x8000_0000_0000_0000 <= b {
-        below(w)
-    } else {
-        above(w)
-    }
+    if is_negative(b) { below(w) } else { above(w) }
 }
 
 // exp x - 1; outside -700 to 700 no value.
@@ -329,7 +325,7 @@ fn tanh_large(b: u64) -> f64
     requires { (4109 ≤ b / 2 ^ 50 % 8192) × (exponent_field b ≤ 1031) }
     ensures { result ≡ tanh_ratio_of (exponent_at (b + 2 ^ 52)) }
 {
-    if b < 0x8000_0000_0000_0000 { 1.0 } else { -1.0 }
+    if is_negative(b) { -1.0 } else { 1.0 }
 }
 
 // tanh x; outside -350 to 350 no value. The exponent's field and two digits are 4109 for 20 and 4024 for 2^-17: one number serves both tests.

@@ -10,3 +10,4 @@ pub mod Decode
 pub mod Table
 pub mod Bernstein
 pub mod Run
+pub mod Sign

@@ -1,7 +1,7 @@
 // Fixed point in u64, for the elementary functions: products, quotients, Horner's rule, and the way back to f64. Each result is rounded down, so an error is at most one unit a step and has one sign.
 #![tactic(auto)]
 
-ghost use Rattle.std.specs.Prelude.{ℕ, drop, ◌≡◌, ◌+◌, ◌*◌, ◌/◌, ◌^◌, ◌≤◌, ◌<◌};
+ghost use Rattle.std.specs.Prelude.{ℕ, drop, ◌≡◌, ◌+◌, ◌*◌, ◌/◌, ◌^◌, ◌≤◌, ◌<◌, leb};
 ghost use Rattle.std.specs.Int.{from_bool};
 ghost use Rattle.std.specs.Int.Count.{count_leading_zeros};
 ghost use Rattle.fixed_point.specs.Fields.{exponent_field, significand};
@@ -56,6 +56,13 @@ pub fn leading_zeros(y: u64) -> u64
     ensures small { result ≤ 64 }
 {
     u64::from(u64::leading_zeros(y))
+}
+
+// Whether the sign's bit is set in an f64's bits.
+pub fn is_negative(b: u64) -> bool
+    ensures { result ≡ leb (2 ^ 63) b }
+{
+    0x8000_0000_0000_0000 <= b
 }
 
 // The exponent's field of an f64's bits.

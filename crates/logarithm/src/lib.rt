@@ -14,7 +14,7 @@ ghost use Rattle.fixed_point.specs.Fields.{exponent_field};
 ghost use Rattle.logarithm.specs.Logarithm.{core, multiple, far, join, signed, reduced, ln_bits, ln_of};
 ghost use Rattle.logarithm.specs.Logarithm.{small1p, moved1p, large1p, bits1p, value1p, ln1p_of};
 
-use fixed_point::{exponent_field, significand};
+use fixed_point::{exponent_field, is_negative, significand};
 use number::Refusal;
 
 // 2^63 / (2i + 1), rounded down.
@@ -169,7 +169,7 @@ fn bits_1p(b: u64) -> f64
     requires { (969 ≤ exponent_field b) × (exponent_field b + 21 * (b / 2 ^ 63) ≤ 1043) }
     ensures { result ≡ bits1p b }
 {
-    let negative = 0x8000_0000_0000_0000 <= b;
+    let negative = is_negative(b);
     let f = exponent_field(b);
     let m = significand(b);
     if f < 1021 {

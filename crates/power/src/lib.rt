@@ -9,7 +9,7 @@ ghost use Rattle.power.specs.Power.{exponent_of, product_of, word_of, power_of, 
 
 use binary_log::{Log, base_inside, log_base};
 use exponential::raise_core;
-use fixed_point::{exponent_field, high_product, shift_right, significand};
+use fixed_point::{exponent_field, high_product, is_negative, shift_right, significand};
 use number::Refusal;
 
 // An exponent in fixed point: the size in units of 2^-56, whether it is below 0, and whether it is 1. Both are flags: the size and the sign of 1 stand as any other's, and `word` takes them without asking for it.
@@ -42,7 +42,7 @@ pub fn exponent(y: f64) -> FixedExponent
     let size = shift_right(significand(b) * 2048, 1030 - exponent_field(b));
     FixedExponent {
         size,
-        negative: 0x8000_0000_0000_0000 <= b,
+        negative: is_negative(b),
         one: b == 0x3ff0_0000_0000_0000,
     }
 }

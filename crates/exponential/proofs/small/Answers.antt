@@ -14,4 +14,4 @@ pub under-d-requires : goal.under-d-requires
 under-d-requires c = (s_le c.args.b c.shift_right-s.result c.high_product-q.result 0 c.requires (size_is c.args.b _ _ _ 1022 _ c.significand-digits.ensures c.exponent_field.ensures c.saturating_sub.ensures c.shift_right-s.ensures) c.high_product-q.ensures.value, q_le c.args.b c.shift_right-s.result c.high_product-q.result 0 c.requires (size_is c.args.b _ _ _ 1022 _ c.significand-digits.ensures c.exponent_field.ensures c.saturating_sub.ensures c.shift_right-s.ensures) c.high_product-q.ensures.value, a_le c.args.b c.shift_right-s.result c.high_product-q.result c.polynomial_at-a.result c.requires (size_is c.args.b _ _ _ 1022 _ c.significand-digits.ensures c.exponent_field.ensures c.saturating_sub.ensures c.shift_right-s.ensures) c.high_product-q.ensures.value c.polynomial_at-a.ensures)
 
 pub returns : goal.returns
-returns c = small_is c.args.b c.shift_right-s.result c.high_product-q.result c.polynomial_at-a.result c.requires (size_is c.args.b _ _ _ 1022 _ c.significand-digits.ensures c.exponent_field.ensures c.saturating_sub.ensures c.shift_right-s.ensures) c.high_product-q.ensures.value c.polynomial_at-a.ensures c.under-d.result c.under-d.ensures _
+returns c = small_is c.args.b c.shift_right-s.result c.high_product-q.result c.polynomial_at-a.result c.requires (size_is c.args.b _ _ _ 1022 _ c.significand-digits.ensures c.exponent_field.ensures c.saturating_sub.ensures c.shift_right-s.ensures) c.high_product-q.ensures.value c.polynomial_at-a.ensures c.under-d.result (rw c.is_negative.ensures at c.under-d.ensures) _

@@ -19,4 +19,4 @@ pub returns-then-not-exponent_inside : goal.returns-then-not-exponent_inside
 returns-then-not-exponent_inside c = outside_is _ _ c.exponent_inside.ensures c.if-not-exponent_inside.true
 
 pub returns : goal.returns
-returns c = value_is _ _ c.exponent_inside.ensures _ c.if-not-exponent_inside.false (size_is (to_bits binary64 c.args.y) _ _ _ 1030 _ c.significand.ensures c.exponent_field.ensures refl c.shift_right-size.ensures)
+returns c = rw c.is_negative.ensures (value_is _ _ c.exponent_inside.ensures _ c.if-not-exponent_inside.false (size_is (to_bits binary64 c.args.y) _ _ _ 1030 _ c.significand.ensures c.exponent_field.ensures refl c.shift_right-size.ensures))
