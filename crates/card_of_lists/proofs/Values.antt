@@ -76,6 +76,16 @@ row_next l l₀ at d a b g p h e =
     let k : at + 2 * (d + 1) ≡ at + 2 * d + 2 = omega arith in
     rw (k, add-one d, ← e) (push_2 l (take at l₀ ++ joined d g) (at + 2 * d) a b p h ∙ append_assoc (take at l₀) (joined d g) (a ∷ b ∷ []))
 
+-- the same of the pairs (i, i + 1) to (i, j - 1), by the pair's second component j
+pub row_begun : (l : List ℕ) (at i : ℕ) (g : ℕ → List ℕ) → take (at + 2 * (i + 1 - i - 1)) l ≡ take at l ++ joined (i + 1 - i - 1) g
+row_begun l at i g = let e : i + 1 - i - 1 ≡ 0 = omega arith in rw e (row_none l at g)
+
+pub row_pair : (l l₀ : List ℕ) (at i j a b : ℕ) (g : ℕ → List ℕ) → i + 1 ≤ j → take (at + 2 * (j - i - 1)) l ≡ take at l₀ ++ joined (j - i - 1) g → at + 2 * (j - i - 1) + 2 ≤ length l → a ∷ b ∷ [] ≡ g (j - i - 1)
+    → take (at + 2 * (j + 1 - i - 1)) (set (set l (at + 2 * (j - i - 1)) a) (at + 2 * (j - i - 1) + 1) b) ≡ take at l₀ ++ joined (j + 1 - i - 1) g
+row_pair l l₀ at i j a b g k p h e =
+    let z : j + 1 - i - 1 ≡ j - i - 1 + 1 = omega arith in
+    rw z (row_next l l₀ at (j - i - 1) a b g p h e)
+
 pub row_end : (l l₀ : List ℕ) (at n d : ℕ) (g : ℕ → List ℕ) → d ≤ n → n ≤ d → take (at + 2 * d) l ≡ take at l₀ ++ joined d g → take (at + 2 * n) l ≡ take at l₀ ++ joined n g
 row_end l l₀ at n d g h k p = let e : d ≡ n = omega arith in rw e at p
 

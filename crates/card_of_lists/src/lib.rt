@@ -54,9 +54,9 @@ fn pair_row(values: &mut [u64], at: usize, n: usize, i: usize, k_ij: &[f64], l_i
         × (length k_ij.now ≡ n * n) × (length l_ij.now ≡ n * n) }
     ensures { take (at + 2 * (n - 1 - i)) values.new ≡ take at values.old ++ pair_row n k_ij.now l_ij.now i }
 {
-    for d in 0usize..n - 1 - i {
-        let e = at + 2 * d;
-        let cell = n * i + (i + 1 + d);
+    for j in i + 1..n {
+        let e = at + 2 * (j - i - 1);
+        let cell = n * i + j;
         values[e] = number::bits_of(k_ij[cell]);
         values[e + 1] = number::bits_of(l_ij[cell]);
     }
