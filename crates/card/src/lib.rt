@@ -198,7 +198,7 @@ impl Heading {
     }
 }
 
-// The numbers behind a heading, whose count is within the card's limits.
+// The numbers behind a heading, whose count is within the card's limits. By index: it places the field and its number both, and of what an adapter of iter_mut writes a proof knows nothing.
 fn read_values(
     card: &[u8],
     at: usize,

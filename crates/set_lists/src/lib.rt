@@ -24,7 +24,7 @@ pub struct QuantumSet<'a> {
     pub orders: &'a [u8],
 }
 
-// A set of SAFT-VR Mie likewise: its component lists are one, one behind the other.
+// A set of SAFT-VR Mie as it crosses the C boundary, whose component lists are one, one behind the other. The count stands beside them for the reason given at `QuantumSet`: each list has as many places for every set, and the C interface hands the count on its own.
 #[derive(Clone, Copy)]
 pub struct MieSet<'a> {
     pub count: usize,
