@@ -163,7 +163,7 @@ pub fn domthelv_vr_dispersion(
     let epsilon_k = set_lists::places(lists, 2 * SIDE);
     let lr = set_lists::places(lists, 3 * SIDE);
     let la = set_lists::places(lists, 4 * SIDE);
-    // Where they lie: a set of references to a copy would keep the copy.
+    // Where they lie: a set of references to a copy would keep the copy. The test stands here and in `quantum::lent_set`: a function for it, with its contract, is longer than both, and a call that gives a number tests that function's answer in as many lines.
     let Ok(flat) = <&[f64; SHEETS]>::try_from(sheets) else {
         return Refusal::Length.code();
     };
