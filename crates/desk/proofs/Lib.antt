@@ -6,5 +6,6 @@ pub mod Entering
 pub mod Promised
 pub mod Promise
 pub mod Ways
+pub mod Round
 pub mod Course
 pub mod Doors

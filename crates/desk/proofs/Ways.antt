@@ -42,34 +42,6 @@ use Rattle.number.proofs.Walk.{then_held}
 
 -- ---- the search
 
-module _ (test : ℕ → Bool) where
-  pub seek_turn : (i k s : ℕ) → i < places → test k ≡ false → seek (places - i) test k ≡ s → seek (places - (i + 1)) test (above k) ≡ s
-  unfolding seek
-  seek_turn i k s h f e =
-      let z : places - i ≡ suc (places - (i + 1)) = omega arith in
-      step (rw z at e)
-    where
-      step : seek (suc (places - (i + 1))) test k ≡ s → seek (places - (i + 1)) test (above k) ≡ s
-      step e = rw f at e
-
-  pub seek_hit : (i k s : ℕ) → i < places → test k ≡ true → seek (places - i) test k ≡ s → k ≡ s
-  unfolding seek
-  seek_hit i k s h f e =
-      let z : places - i ≡ suc (places - (i + 1)) = omega arith in
-      step (rw z at e)
-    where
-      step : seek (suc (places - (i + 1))) test k ≡ s → k ≡ s
-      step e = rw f at e
-
-  pub seek_end : (i k s : ℕ) → i ≤ places → places ≤ i → seek (places - i) test k ≡ s → places ≡ s
-  unfolding seek
-  seek_end i k s a b e =
-      let z : places - i ≡ 0 = omega arith in
-      step (rw z at e)
-    where
-      step : seek 0 test k ≡ s → places ≡ s
-      step e = e
-
 -- its answer, at a place and at none
 pub found_at : (k s : ℕ) → k < places → k ≡ s → Some k ≡ found s
 unfolding found

@@ -64,15 +64,12 @@ fn seek<F: Fn(usize) -> bool>(suits: F, from: usize) -> Option<usize>
     requires suits { (k : ℕ) → k < places → F.pre suits k }
     ensures { (test : ℕ → Bool) → ((k : ℕ) (b : Bool) → k < places → F.post suits k b → b ≡ test k) → result ≡ found (seek places test from) }
 {
-    let mut k = from;
-    for _ in 0usize..PLACES {
-        if suits(k) {
-            return Some(k);
-        }
-        let next = round_robin::above(k);
-        k = next;
-    }
-    None
+    (from..PLACES).chain(0..from).find(
+        |k| -> bool
+            requires { F.pre suits k.now }
+            ensures { F.post suits k.now result }
+        { suits(*k) },
+    )
 }
 
 // A desk with no query, whose first place is served first. 1 for a list of another length.

@@ -1,22 +1,23 @@
 -- `desk::seek` meets its contract. Assumes nothing.
-use Rattle.desk.proofs.Ways.{seek_turn, seek_hit, seek_end, found_at, found_none}
-use mathlib.Core.Path.{refl}
-use Rattle.number.proofs.Walk.{told}
-use borrow.Author.Rules.{rules}
+use Rattle.std.proofs.Common.{rules, refl, arith, true, false, ◌-◌}
+use mathlib.Core.Path.{sym}
+use Rattle.std.proofs.lemmas.Iterator.{YieldsList-from_range, first_from_find}
+use Rattle.std.proofs.lemmas.Iterator.Consumers.{YieldsList-from_chain}
+use Rattle.std.proofs.lemmas.Iterator.Adapters.{serves_from_places}
+use Rattle.round_robin.specs.Desk.{places}
+use Rattle.desk.proofs.Round.{Suits, Fails, found_round, in_round}
 use Rattle.desk.proofs.seek.Goals as goal
 
-pub loop-init : goal.loop-init
-loop-init g c = (search rules, c.requires.start, λ test h. refl)
-
-pub suits-requires : goal.suits-requires
-suits-requires g c = c.requires.suits _ c.loop.invariant.1
-
-pub returns-then-suits : goal.returns-then-suits
-returns-then-suits g c = λ test h. found_at _ _ c.loop.invariant.1 (seek_hit test _ _ _ c.loop-test.true (told (h _ _ c.loop.invariant.1 c.suits.ensures) c.if-suits.true) (c.loop.invariant.2 test h))
-
-pub loop-preserved : goal.loop-preserved
-loop-preserved g c =
-    (search rules, c.above-next.ensures.1, λ test h. rw c.above-next.ensures.0 (seek_turn test _ _ _ c.loop-test.true (told (h _ _ c.loop.invariant.1 c.suits.ensures) c.if-suits.false) (c.loop.invariant.2 test h)))
+pub find-requires-clause-callable : goal.find-requires-clause-callable
+find-requires-clause-callable g c =
+    serves_from_places (YieldsList-from_chain (YieldsList-from_range c.args.from places (places - c.args.from) c.chain.ensures.first refl) (YieldsList-from_range 0 c.args.from c.args.from c.chain.ensures.second (omega arith)) c.chain.ensures.first_done c.chain.ensures.second_done)
+    (λ x q k. search rules)
+    (λ x k low e y d. c.requires.suits y.now (rw d (in_round c.args.from k x c.requires.start low e)))
 
 pub returns : goal.returns
-returns g c = λ test h. found_none _ (seek_end test _ _ _ c.loop.invariant.0 c.loop-test.false (c.loop.invariant.2 test h))
+returns g c = λ test h.
+    found_round test c.args.from _ c.requires.start
+    (first_from_find _ _ _ (Suits test) (Fails test) c.find.ensures.ran
+    (YieldsList-from_chain (YieldsList-from_range c.args.from places (places - c.args.from) c.chain.ensures.first refl) (YieldsList-from_range 0 c.args.from c.args.from c.chain.ensures.second (omega arith)) c.chain.ensures.first_done c.chain.ensures.second_done)
+    (λ x q k. λ s. sym (h x true s (search rules)))
+    (λ x q k. (search rules, λ s. sym (h x false s (search rules)))))
