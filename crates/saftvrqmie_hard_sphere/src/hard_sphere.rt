@@ -1,5 +1,6 @@
 // The hard sphere's contribution (saftvrqmie/eos/hard_sphere.rs): the sums `zeta` and `zeta_23`, and the energy.
-// Here and in the sums above, loops count: `entry` takes a place, since it reads a value alone or with its slope from a second list, and a table's places are computed.
+// All loops of this crate and of the dispersion's sums go by index: `entry` takes a place, since it reads a value alone or with its slope from a second list, and a table's places are computed.
+// Count, list, table and m stay apart: a struct of them would be filled twice, with rho for `zeta` and the non-additive part and with x for `zeta_23`, and `segment_density` would be handed a table that it does not read.
 ghost use Rattle.std.specs.Prelude.{◌≡◌, ◌<◌, Bool, map};
 ghost use Rattle.number.specs.Answer.{answer_by};
 ghost use Rattle.number.specs.Arith.{whole};

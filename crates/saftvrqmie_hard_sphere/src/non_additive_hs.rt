@@ -1,5 +1,5 @@
 // The non-additive hard sphere's contribution (saftvrqmie/eos/non_additive_hs.rs).
-// Loops count, as in hard_sphere.rs, which says why. One sum over the pairs: a walk over a closure, as the dispersion's three orders have it, would have the column's clauses twice.
+// Loops go by index, and count, list, table and m stay apart, as in hard_sphere.rt, which says why. One sum over the pairs: a walk over a closure, as the dispersion's three orders have it, would have the column's clauses twice.
 ghost use Rattle.std.specs.Prelude.{◌≡◌, ◌<◌, ℕ, Bool, cond};
 ghost use Rattle.number.specs.Arith.{whole};
 ghost use Rattle.number.specs.Lists.{nth};
