@@ -21,7 +21,7 @@ fn within(a: f64) -> bool
     ensures { result ≡ within_of a }
 {
     let big = 1267650600228229401496703205376.0;
-    (-big <= a) & (a <= big)
+    number::within(-big, big, a)
 }
 
 fn above_one(a: f64) -> bool
@@ -59,7 +59,7 @@ pub fn is_tame(s: &Shared<Enclosure>) -> bool
     is_tame_term(&s.r) & is_tame_term(&s.a) & small(s.d) & small(s.d2) & small(s.ce)
 }
 
-// u after both derivatives, which are worked where they may be unsound.
+// u after both derivatives, which are worked where they may be unsound. tame is `is_tame` of s, asked once for all radii of a pair; a struct of the two would say this clause of its fields, for one call.
 pub fn u_after(s: &Shared<Enclosure>, tame: bool, r: Enclosure) -> Result<Enclosure, Refusal>
     ensures { (p : PairIn Enclosure) → EnclosureSharing p s.now → tame ≡ tame_of s.now → answer result ≡ u_after (potential enclosures (calls enclosures port) p r) }
 {
