@@ -17,7 +17,7 @@ use saftvrqmie_potential::Pair;
 use saftvrqmie_searches::rule::{abscissa, weight};
 use sizes::SIDE;
 
-// From the searched radii. At each node both derivatives of the potential count, whether worked or not. One text with `diameter_by` would be no shorter: what u_after takes beside u_at, a pair's flag, would be three members of a trait in each run (its type, its test, u by it), for a loop of eight lines. By index, at which the rule is read.
+// From the searched radii. At each node both derivatives of the potential count, whether worked or not. One text with `diameter_by` would be no shorter: what u_after takes beside u_at, a pair's flag, would be three members of a trait in each run (its type, its test, u by it), for a loop of eight lines.
 pub fn hs_diameter(
     p: Pair<Enclosure, Enclosure>,
     sigma_eff: Enclosure,
@@ -31,6 +31,7 @@ pub fn hs_diameter(
     let half = Enclosure::point(0.5);
     let width = (sigma_eff - r0) * half;
     let mut d_hs = r0;
+    // By index: `abscissa` and `weight` are asked at one, of two tables.
     for k in 0usize..21usize {
         let r = width * abscissa::<Enclosure>(k) + width + r0;
         let u = saftvrqmie_alone_ends::u_after(&s, tame, r)?;
