@@ -42,6 +42,7 @@ fn work(
     Ok(())
 }
 
+// Of the first n of the diameters, in the definition's words.
 fn all_finite(n: usize, d: &[f64; SIDE]) -> bool
     requires { n ≤ side }
     ensures { result ≡ diameters_finite n d.now }

@@ -32,7 +32,7 @@ pub fn total<D: PlainNum>(v: &[f64]) -> D
     s
 }
 
-// The hard sphere's segment_density is this sum over a NumberList, of lists with a component: its zero is no D. Of a plain list it would take empty slopes and the length beside it.
+// The hard sphere's segment_density begins at a number taken as a D and reads entries that may have slopes; of a plain list it would take empty slopes and the length beside it.
 pub fn weighted<D: PlainNum>(v: &[f64], m: &[f64; SIDE]) -> D
     requires { length v.now ≤ side }
     ensures { (w : Bool) → D.of w result ≡ weighted (D.beside w) (length v.now) (entries (D.beside w) v.now) (entries (D.beside w) m.now) }

@@ -85,7 +85,7 @@ fn no_sums<D: PlainNum>() -> Sums<D>
     }
 }
 
-// A sum from nothing on, row by row, up to the first that refuses.
+// A sum from nothing on, row by row, up to the first that refuses. The quantum dispersion's rows begins at a plain +0 that is taken as a D, which its clause carries.
 fn rows<D: PlainNum, F: Fn(usize, Sums<D>) -> Result<Sums<D>, Refusal>>(
     n: usize,
     row: F,

@@ -71,7 +71,7 @@ impl PairStore for Room {
     }
 }
 
-// Of a list of the table's length; others are walked whole too.
+// Of a list of the table's length; others are walked whole too. In the words of the definition that the clauses of three crates have: each would unfold it for the limits' test.
 pub fn all_finite(values: &[f64]) -> bool
     ensures { length values.now ≡ 4 * sheet → result ≡ table_finite values.now }
 {

@@ -54,6 +54,7 @@ pub trait PairStore {
         answer_by (pair_properties_by read) a ≡ properties p };
 }
 
+// By index, here and below: a pair's entry is worked from its indexes.
 fn work_row<S: PairStore>(p: &PairsAt<S::Num>, i: usize, into: &mut S) -> Result<(), Refusal>
     requires { (p.now.n ≤ side) × (i < p.now.n) }
     ensures { let at = λ (e : ℕ). S.properties (pair_at_entry p.now.sheets.now p.now.orders p.now.temperature e) in

@@ -14,7 +14,7 @@ use saftvrmie_parameters::SaftVRMiePars;
 use saftvrqmie_energies::QuantumEnergies;
 use sizes::{COUNTS, SIDE, TABLE};
 
-// Quantum: parameters (1 to 6), a table of its own (2, 6, 7), energies (1, 2, 6, 7); the first refusal on the way.
+// Quantum: parameters (1 to 6), a table of its own (2, 6, 7), energies (1, 2, 6, 7); the first refusal on the way. A stage takes no state's lists as one: its table is worked here.
 pub fn quantum_stage(
     lists: &saftvrqmie_parameters::ComponentLists,
     temperature: f64,

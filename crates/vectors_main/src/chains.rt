@@ -25,6 +25,7 @@ pub fn run<C: Chains>(rt: &impl Files, name: &str, chain: C, tally: &mut Tally) 
 
 fn worked<C: Chains>(file: &mut impl Read, mut chain: C, tally: &mut Tally) -> io::Result<()> {
     let mut record = Record::new();
+    // The most records: of a reader of unknown bytes it is not known that it ends.
     for _ in 0..u64::MAX {
         if !record.is_next(file)? {
             break;
