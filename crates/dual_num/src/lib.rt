@@ -1,11 +1,11 @@
 // The numbers that the quantum formulas are written over (the Rust's DualNum beside f64): floats, enclosures, and floats with a slope beside plain ones.
 #![tactic(auto)]
 
-ghost use Rattle.std.specs.Prelude.{List, length, ◌<◌, ◌≡◌, ◌&&◌, Bool, true, false, cond, refl, ℕ, Float};
+ghost use Rattle.std.specs.Prelude.{List, length, map, ◌<◌, ◌≡◌, ◌&&◌, Bool, true, false, cond, refl, ℕ, Float};
 ghost use Rattle.std.proofs.Common.{rules};
 ghost use Rattle.number.specs.Ans.{Ans, held, refused};
 ghost use Rattle.number.specs.Answer.{answer_by};
-ghost use Rattle.number.specs.Lists.{at};
+ghost use Rattle.number.specs.Lists.{at, nth};
 ghost use Rattle.number.specs.Arith.{Arith, Constant, floats, whole, epsilon64};
 ghost use Rattle.number.specs.Functions.{Functions, calls};
 ghost use Rattle.elementary.specs.Port.{port};
@@ -303,6 +303,14 @@ pub trait DualNum: Copy
 
     // EPSILON has a logarithm.
     ghost epsilon_law: { (w : Bool) (n : ℕ) → (functions w).ln ((beside w).lit epsilon64) ≡ refused n → ⊥ };
+}
+
+// Entry i of a run's own list.
+pub fn item<D: DualNum>(l: &[D], i: usize) -> D
+    requires { i < length l.now }
+    ensures { (w : Bool) → D.of w result ≡ nth (D.beside w) (map (D.of w) l.now) i }
+{
+    l[i]
 }
 
 fn float_base(x: f64) -> FloatBase
