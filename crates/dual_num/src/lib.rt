@@ -132,7 +132,10 @@ pub trait DualNum: Copy
         ensures { (w : Bool) → power_at w result ≡ (functions w).powf (of w self) };
 
     fn powf_at(base: Self::Base, e: Self::Plain) -> Result<Self, Refusal>
-        ensures { (w : Bool) → answer_by (of w) result ≡ power_at w base (plain w e) };
+        ensures { (w : Bool) → answer_by (of w) result ≡ power_at w base (plain w e) }
+    {
+        Self::raise(base, Self::exponent(e))
+    }
 
     fn exponent(e: Self::Plain) -> Self::Exponent
         ensures { (w : Bool) (b : Self.Base) → power_by w b result ≡ power_at w b (plain w e) };
@@ -141,7 +144,13 @@ pub trait DualNum: Copy
         ensures { result ≡ exponent_in n };
 
     fn raise(base: Self::Base, n: Self::Exponent) -> Result<Self, Refusal>
-        ensures { (w : Bool) → answer_by (of w) result ≡ power_by w base n };
+        ensures { (w : Bool) → answer_by (of w) result ≡ power_by w base n }
+    {
+        if !(Self::base_inside(base) & Self::exponent_inside(n)) {
+            return Err(Refusal::Domain);
+        }
+        Ok(Self::raise_inside(base, n))
+    }
 
     fn base_inside(b: Self::Base) -> bool
         ensures { result ≡ base_in b };
@@ -332,21 +341,6 @@ fn float_exponent(y: f64) -> FloatExponent
     }
 }
 
-fn float_raise(b: FloatBase, n: FloatExponent) -> Result<f64, Refusal>
-    ensures { answer_by (λ x. x) result ≡ float_power_by b n }
-{
-    if !(b.inside & n.inside) {
-        return Err(Refusal::Domain);
-    }
-    Ok(power::raise(b.log, n.fixed))
-}
-
-fn float_powf_at(b: FloatBase, y: f64) -> Result<f64, Refusal>
-    ensures { answer_by (λ x. x) result ≡ float_power b y }
-{
-    float_raise(b, float_exponent(y))
-}
-
 impl DualNum for f64 {
     type Plain = f64;
 
@@ -386,20 +380,12 @@ impl DualNum for f64 {
         float_base(self)
     }
 
-    fn powf_at(base: FloatBase, e: f64) -> Result<f64, Refusal> {
-        float_powf_at(base, e)
-    }
-
     fn exponent(e: f64) -> FloatExponent {
         float_exponent(e)
     }
 
     fn exponent_inside(n: FloatExponent) -> bool {
         n.inside
-    }
-
-    fn raise(base: FloatBase, n: FloatExponent) -> Result<f64, Refusal> {
-        float_raise(base, n)
     }
 
     fn base_inside(b: FloatBase) -> bool {
@@ -411,7 +397,7 @@ impl DualNum for f64 {
     }
 
     fn plain_powf(a: f64, e: f64) -> Result<f64, Refusal> {
-        float_powf_at(float_base(a), e)
+        f64::powf_at(float_base(a), e)
     }
 
     fn powi(self, n: u16) -> f64 {
@@ -552,19 +538,6 @@ fn enclosure_exponent(y: Enclosure) -> EnclosureExponent
     }
 }
 
-fn enclosure_raise(b: EnclosureBase, n: EnclosureExponent) -> Result<Enclosure, Refusal>
-    ensures { answer_by (λ x. x) result ≡ enclosure_power_by b n }
-{
-    let v = float_raise(b.base, n.at)?;
-    Ok(Enclosure::point(v).after(n.x).after(b.x))
-}
-
-fn enclosure_powf_at(b: EnclosureBase, y: Enclosure) -> Result<Enclosure, Refusal>
-    ensures { answer_by (λ x. x) result ≡ enclosure_power b y }
-{
-    enclosure_raise(b, enclosure_exponent(y))
-}
-
 impl DualNum for Enclosure {
     type Plain = Enclosure;
 
@@ -604,20 +577,12 @@ impl DualNum for Enclosure {
         enclosure_base(self)
     }
 
-    fn powf_at(base: EnclosureBase, e: Enclosure) -> Result<Enclosure, Refusal> {
-        enclosure_powf_at(base, e)
-    }
-
     fn exponent(e: Enclosure) -> EnclosureExponent {
         enclosure_exponent(e)
     }
 
     fn exponent_inside(n: EnclosureExponent) -> bool {
         n.at.inside
-    }
-
-    fn raise(base: EnclosureBase, n: EnclosureExponent) -> Result<Enclosure, Refusal> {
-        enclosure_raise(base, n)
     }
 
     fn base_inside(b: EnclosureBase) -> bool {
@@ -630,7 +595,7 @@ impl DualNum for Enclosure {
     }
 
     fn plain_powf(a: Enclosure, e: Enclosure) -> Result<Enclosure, Refusal> {
-        enclosure_powf_at(enclosure_base(a), e)
+        Enclosure::powf_at(enclosure_base(a), e)
     }
 
     fn powi(self, n: u16) -> Enclosure {
@@ -771,21 +736,6 @@ fn dual_exponent(y: f64) -> DualExponent
     }
 }
 
-fn dual_raise(b: DualBase, n: DualExponent) -> Result<Dual, Refusal>
-    ensures { answer_by (λ x. sloped (dual_of x)) result ≡ dual_power_by b n }
-{
-    if !(b.base.inside & n.inside) {
-        return Err(Refusal::Domain);
-    }
-    Ok(slopes::raise(b.base.log, b.slope, n.fixed))
-}
-
-fn dual_powf_at(b: DualBase, y: f64) -> Result<Dual, Refusal>
-    ensures { answer_by (λ x. sloped (dual_of x)) result ≡ dual_power b (plain y) }
-{
-    dual_raise(b, dual_exponent(y))
-}
-
 impl DualNum for Dual {
     type Plain = f64;
 
@@ -825,20 +775,12 @@ impl DualNum for Dual {
         dual_base(self)
     }
 
-    fn powf_at(base: DualBase, e: f64) -> Result<Dual, Refusal> {
-        dual_powf_at(base, e)
-    }
-
     fn exponent(e: f64) -> DualExponent {
         dual_exponent(e)
     }
 
     fn exponent_inside(n: DualExponent) -> bool {
         n.inside
-    }
-
-    fn raise(base: DualBase, n: DualExponent) -> Result<Dual, Refusal> {
-        dual_raise(base, n)
     }
 
     fn base_inside(b: DualBase) -> bool {
