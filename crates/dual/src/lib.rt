@@ -23,6 +23,17 @@ impl Dual {
         Dual { re: x, eps: 0.0 }
     }
 
+    // The whole power 3, written out.
+    pub fn cube(self) -> Dual
+        ensures { dual_of result ≡ pow_d floats (dual_of self) 3 }
+    {
+        let square = 1.0 * (self.re * self.re);
+        Dual {
+            re: 1.0 * self.re * (self.re * self.re),
+            eps: 3.0 * square * self.eps,
+        }
+    }
+
     // The whole power n. (The formulas' exponents are small; a u16 leaves room for n + 1.)
     pub fn pow_up(self, n: u16) -> Dual
         ensures { dual_of result ≡ pow_d floats (dual_of self) n }

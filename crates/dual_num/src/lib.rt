@@ -811,10 +811,7 @@ impl DualNum for Dual {
     }
 
     fn cube(self) -> Dual {
-        Dual {
-            re: 1.0 * self.re * (self.re * self.re),
-            eps: 3.0 * (1.0 * (self.re * self.re)) * self.eps,
-        }
+        Dual::cube(self)
     }
 
     fn after(self, _u: Dual) -> Dual {

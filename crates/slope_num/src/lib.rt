@@ -153,11 +153,7 @@ impl SlopeNum for Dual {
 
     #[inline(always)]
     fn cube(self) -> Dual {
-        let square = 1.0 * (self.re * self.re);
-        Dual {
-            re: 1.0 * self.re * (self.re * self.re),
-            eps: 3.0 * square * self.eps,
-        }
+        Dual::cube(self)
     }
 
     #[inline(always)]
