@@ -64,7 +64,7 @@ fn corners<F: Fn(f64, f64) -> f64>(worked: F, g: bool, x: Interval, y: Interval)
 fn above(a: f64, b: f64) -> bool
     ensures { result ≡ (lt least_normal a && lt b largest) }
 {
-    (2.2250738585072014e-308 < a) & (b < 1.7976931348623157e308)
+    (f64::MIN_POSITIVE < a) & (b < f64::MAX)
 }
 
 fn rising(g: bool, a: f64, b: f64) -> Interval
@@ -84,7 +84,7 @@ fn rising(g: bool, a: f64, b: f64) -> Interval
 fn below(a: f64, b: f64) -> bool
     ensures { result ≡ (lt (neg largest) a && lt b (neg least_normal)) }
 {
-    (-1.7976931348623157e308 < a) & (b < -2.2250738585072014e-308)
+    (-f64::MAX < a) & (b < -f64::MIN_POSITIVE)
 }
 
 // The same below zero, where a pattern grows with the size: the steps change sides, and the clause's premise with them.
@@ -126,7 +126,7 @@ fn chosen(first: bool, x: f64, y: f64) -> f64
 fn product(g: bool, xl: f64, xu: f64, yl: f64, yu: f64) -> Interval
     ensures { result ≡ around g (mul binary64 xl yl) (mul binary64 xl yu) (mul binary64 xu yl) (mul binary64 xu yu) }
 {
-    if !(xu < xl) & (0.0 < yl) & !(yu < yl) & (yu < 1.7976931348623157e308) {
+    if !(xu < xl) & (0.0 < yl) & !(yu < yl) & (yu < f64::MAX) {
         let a = xl * chosen(xl < 0.0, yu, yl);
         let b = xu * chosen(xu < 0.0, yl, yu);
         if let Some(ends) = stepped(g, a, b) {
@@ -241,7 +241,7 @@ impl Mul for Interval {
         let g = self.sound & y.sound;
         if (0.0 < self.lower)
             & !(self.upper < self.lower)
-            & (self.upper < 1.7976931348623157e308)
+            & (self.upper < f64::MAX)
             & !(y.upper < y.lower)
         {
             let a = chosen(y.lower < 0.0, self.upper, self.lower) * y.lower;
@@ -269,7 +269,7 @@ impl Div for Interval {
         if !(self.upper < self.lower)
             & (0.0 < y.lower)
             & !(y.upper < y.lower)
-            & (y.upper < 1.7976931348623157e308)
+            & (y.upper < f64::MAX)
         {
             let a = self.lower / chosen(self.lower < 0.0, y.lower, y.upper);
             let b = self.upper / chosen(self.upper < 0.0, y.upper, y.lower);

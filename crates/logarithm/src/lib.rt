@@ -121,7 +121,7 @@ fn ln_bits(b: u64) -> f64
 pub fn ln(x: f64) -> Result<f64, Refusal>
     ensures { answer result ≡ ln_of x }
 {
-    if !number::within(2.2250738585072014e-308, 1.7976931348623157e308, x) {
+    if !number::within(f64::MIN_POSITIVE, f64::MAX, x) {
         return Err(Refusal::Domain);
     }
     Ok(ln_bits(f64::to_bits(x)))
