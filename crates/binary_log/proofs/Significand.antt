@@ -1,9 +1,8 @@
 -- The logarithm of a significand is near document 01's sum of 24 terms, at every significand. Assumes nothing.
 use mathlib.Core.Path.{◌≡◌, refl, sym, ap, ◌∙◌, subst}
 use mathlib.Core.Bool.{Bool, true, false}
-use mathlib.Core.List.{List, [], ◌∷◌}
 use Prim.Native.Nat.{ℕ, zero, suc, ◌+◌, ◌-◌, ◌*◌, ◌/◌, ◌%◌, ◌^◌, ◌≤◌, ◌<◌}
-use native.Mathlib.Nat.{div-mul-le_self, not-suc-le-zero, le_refl, le_trans, le_of_eq, le-add_right, add-le-add, mul-add, add-mul, mul_assoc, mul_comm, add_assoc, add_comm, mul-one, one-mul, mul-le-mul_left, mul-le-mul_right, le_of_mul-le-mul_right, eq_of_mul-eq-mul_left, mul-pos, one-le-pow, pow-zero, pow-suc}
+use native.Mathlib.Nat.{div-mul-le_self, not-suc-le-zero, le_trans, le_of_eq, le-add_right, mul-add, add-mul, mul_assoc, mul_comm, add_assoc, add_comm, mul-one, one-mul, mul-le-mul_left, mul-le-mul_right, le_of_mul-le-mul_right, eq_of_mul-eq-mul_left, mul-pos, one-le-pow, pow-zero, pow-suc}
 use native.Mathlib.Decide.{dec_le}
 use native.Mathlib.Omega.{arith}
 use lib.Dec.{T, leb, ltb, eqb, leb→le, ltb→lt, eqb→eq, lit<, lit≤}
@@ -13,13 +12,14 @@ use Rattle.fixed_point.specs.Horner.{horner}
 use Rattle.fixed_point.proofs.Polynomial.{hom}
 use Rattle.fixed_point.proofs.Horner.{ring, ac, half_of}
 use Rattle.fixed_point.proofs.Bernstein.{under, under_le}
-use Rattle.fixed_point.proofs.Table.{at}
+use Rattle.fixed_point.proofs.Run.{total, under_total}
+use Rattle.number.proofs.Table.{at, unless}
 use Rattle.series.proofs.Constants.{mn, md}
 use Rattle.logarithm.proofs.CoreBounds.{common, tops}
 use Rattle.binary_log.specs.Tables.{log_factors, logs, odd_terms, even_terms}
 use Rattle.binary_log.specs.BinaryLog.{eight_terms, place_of, gap_of, significand_log}
 use Rattle.binary_log.proofs.Terms.{ones, scale, terms_lo, terms_hi}
-use Rattle.binary_log.proofs.TableTest.{u_l, v_l, x_l, c_u, c_v, c_x, near0, near1, place0, place1, place, unless, all, rule, rules, small, smalls, lowest, units, sided, sides}
+use Rattle.binary_log.proofs.TableTest.{u_l, v_l, x_l, c_u, c_v, c_x, near0, near1, place0, place1, place, all, rule, rules, small, smalls, lowest, units, sided, sides}
 use Rattle.binary_log.proofs.Additive.{U-is, V-is, X-is, hi0, lo0, hi1, lo1}
 
 -- p / q is document 01's sum of z ^ (2 i + 1) / (2 i + 1) over 24 terms, at z = n / d
@@ -188,22 +188,13 @@ module _ (j s t m : ℕ) (st : s + t ≡ 2 ^ 45) (jb : j < 128) (mb : m ≡ (128
         lin a ct cm h k = omega arith
 
 -- ---- sizes
-abbrev pub total : List ℕ → ℕ
-total [] = 0
-total (c ∷ cs) = c + total cs
-
 pub le_self : (x q : ℕ) → q ≤ 2 ^ 64 → x * q / 2 ^ 64 ≤ x
 le_self x q h = le_trans (le_of_eq (ap (λ (z : ℕ). z / 2 ^ 64) (mul_comm x q))) (half_of q x h)
-
-pub horner_small : (cs : List ℕ) (q : ℕ) → q ≤ 2 ^ 64 → horner cs q ≤ total cs
-unfolding horner
-horner_small [] q h = le_refl 0
-horner_small (c ∷ cs) q h = add-le-add (le_refl c) (le_trans (le_self (horner cs q) q h) (horner_small cs q h))
 
 pub sum_small : (dd : ℕ) → dd ≤ 2 ^ 64 → horner odd_terms (dd * dd / 2 ^ 64) + horner even_terms (dd * dd / 2 ^ 64) * dd / 2 ^ 64 < 2 ^ 64
 sum_small dd h =
     let q : dd * dd / 2 ^ 64 ≤ 2 ^ 64 = le_trans (le_self dd dd h) h in
-    lin (horner_small odd_terms (dd * dd / 2 ^ 64) q) (le_trans (le_self (horner even_terms (dd * dd / 2 ^ 64)) dd h) (horner_small even_terms (dd * dd / 2 ^ 64) q))
+    lin (under_total odd_terms (dd * dd / 2 ^ 64) q) (le_trans (le_self (horner even_terms (dd * dd / 2 ^ 64)) dd h) (under_total even_terms (dd * dd / 2 ^ 64) q))
   where
     lin : {x y : ℕ} → x ≤ total odd_terms → y ≤ total even_terms → x + y < 2 ^ 64
     lin h k = omega arith

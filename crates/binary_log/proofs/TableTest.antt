@@ -1,5 +1,5 @@
 -- The tables of the logarithm: at each place the table's number and the eight terms are near document 01's sum over the whole part of 1 .. 2 that the place stands for. There every number is a linear form in the distances s and t from the part's ends, so the comparison of two polynomials is one of their coefficients, which antt computes. Assumes nothing.
-use mathlib.Core.Bool.{Bool, true, false, ◌&&◌}
+use mathlib.Core.Bool.{Bool, ◌&&◌}
 use mathlib.Core.List.{List, [], ◌∷◌}
 use Prim.Native.Nat.{ℕ, ◌+◌, ◌-◌, ◌*◌, ◌/◌, ◌^◌}
 use lib.Dec.{T, leb, ltb, eqb}
@@ -7,7 +7,7 @@ use Rattle.series.proofs.Constants.{mn, md}
 use Rattle.logarithm.proofs.CoreBounds.{common, tops}
 use Rattle.binary_log.specs.Tables.{log_factors, logs}
 use Rattle.binary_log.proofs.Terms.{ones, scale}
-use Rattle.fixed_point.proofs.Table.{every}
+use Rattle.number.proofs.Table.{every, unless}
 use Rattle.fixed_point.proofs.Bernstein.{times, fma, front, again, once, twice, under}
 
 -- z = (np s + nq t) / (dp s + dq t): document 01's sum, times powers of 2 ^ 64
@@ -42,10 +42,6 @@ place0 j c l = near0 l (u_l j (j + 1) (256 + j) (257 + j)) (v_l (128 * (2 ^ 18 -
 
 abbrev pub place1 : ℕ → ℕ → ℕ → Bool
 place1 j c l = near1 l (u_l (128 - j) (127 - j) (384 + j) (385 + j)) (v_l (128 * (2 ^ 18 - c * (128 + j))) (128 * (2 ^ 18 - c * (129 + j))) (384 + j) (385 + j)) (x_l (384 + j) (385 + j))
-
-abbrev pub unless : Bool → Bool → Bool
-unless true b = true
-unless false b = b
 
 -- the places from 42 to 54, for significands from 4/3 up to a little above the root of 2, are tested both ways
 abbrev pub place : ℕ → ℕ → Bool

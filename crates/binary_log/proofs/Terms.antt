@@ -2,7 +2,7 @@
 use mathlib.Core.Path.{◌≡◌, refl, sym, ap, ◌∙◌}
 use mathlib.Core.List.{List, [], ◌∷◌}
 use Prim.Native.Nat.{ℕ, zero, suc, ◌+◌, ◌-◌, ◌*◌, ◌/◌, ◌^◌, ◌≤◌, ◌<◌}
-use native.Mathlib.Nat.{le_trans, le_of_eq, add-le-add, mul-add, add-mul, mul_assoc, mul-zero, add-zero, mul-le-mul, mul-le-mul_left, mul-le-mul_right, le_of_mul-le-mul_right, mul-pos, pow-zero, pow-suc, div-mul-le_self}
+use native.Mathlib.Nat.{suc_inj, le_trans, le_of_eq, add-le-add, mul-add, add-mul, mul_assoc, mul-zero, add-zero, mul-le-mul, mul-le-mul_left, mul-le-mul_right, le_of_mul-le-mul_right, mul-pos, pow-zero, pow-suc, div-mul-le_self}
 use native.Mathlib.Omega.{arith}
 use lib.Dec.{lit<, lit≤}
 use lib.ListN.{length}
@@ -31,9 +31,6 @@ mix [] os = []
 mix (a ∷ es) [] = []
 mix (a ∷ es) (b ∷ os) = a ∷ b ∷ mix es os
 
-less : (m n : ℕ) → suc m ≡ suc n → m ≡ n
-less m n h = omega arith
-
 mix_pow : (d : ℕ) (es os : List ℕ) → length es ≡ length os → d ^ length (mix es os) ≡ (d * d) ^ length es
 unfolding mix
 mix_pow d [] os h = pow-zero d ∙ sym (pow-zero (d * d))
@@ -41,7 +38,7 @@ mix_pow d (a ∷ es) [] h = impossible (length es) (d ^ 0) ((d * d) ^ suc (lengt
   where
     impossible : (n x y : ℕ) → suc n ≡ 0 → x ≡ y
     impossible n x y h = omega arith
-mix_pow d (a ∷ es) (b ∷ os) h = pow-suc d (suc (length (mix es os))) ∙ ap (λ (z : ℕ). z * d) (pow-suc d (length (mix es os)) ∙ ap (λ (z : ℕ). z * d) (mix_pow d es os (less (length es) (length os) h))) ∙ mul_assoc ((d * d) ^ length es) d d ∙ sym (pow-suc (d * d) (length es))
+mix_pow d (a ∷ es) (b ∷ os) h = pow-suc d (suc (length (mix es os))) ∙ ap (λ (z : ℕ). z * d) (pow-suc d (length (mix es os)) ∙ ap (λ (z : ℕ). z * d) (mix_pow d es os (suc_inj h))) ∙ mul_assoc ((d * d) ^ length es) d d ∙ sym (pow-suc (d * d) (length es))
 
 split : (n d : ℕ) (es os : List ℕ) → length es ≡ length os → hom (mix es os) n d ≡ d * hom es (n * n) (d * d) + n * hom os (n * n) (d * d)
 unfolding mix hom
@@ -58,7 +55,7 @@ split n d (a ∷ es) [] h = impossible (length es) 0 (d * hom (a ∷ es) (n * n)
     impossible : (n x y : ℕ) → suc n ≡ 0 → x ≡ y
     impossible n x y h = omega arith
 split n d (a ∷ es) (b ∷ os) h =
-    let e : length es ≡ length os = less (length es) (length os) h in
+    let e : length es ≡ length os = suc_inj h in
     ap (λ (z : ℕ). a * z + n * (b * d ^ length (mix es os) + n * hom (mix es os) n d)) (pow-suc d (length (mix es os)))
     ∙ ap (λ (z : ℕ). a * (z * d) + n * (b * z + n * hom (mix es os) n d)) (mix_pow d es os e)
     ∙ ap (λ (z : ℕ). a * ((d * d) ^ length es * d) + n * (b * (d * d) ^ length es + n * z)) (split n d es os e)

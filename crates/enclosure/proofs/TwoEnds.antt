@@ -74,10 +74,6 @@ pub alone_is : {float : Ans Float} {enclosure : Ans Enclosure} → Both Value en
 unfolding ends_alone
 alone_is K = rw (float_is K)
 
-pub alone_6 : refused 6 ≡ ends_alone (refused 6)
-unfolding ends_alone ends_of ◌>>=◌
-alone_6 = refl
-
 module _ (b : Enclosure) where
   pub alone_7 : finite b.value ≡ false → refused 7 ≡ ends_alone (held b)
   unfolding ends_alone ends_of ◌>>=◌ or_not_finite

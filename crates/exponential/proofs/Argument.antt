@@ -39,7 +39,7 @@ units_le n m e u h k = le_of_mul-le-mul_right {k = down e} (le_trans (le_of_eq (
     turn : (a b c : ℕ) → a * b * c ≡ a * c * b
     turn a b c = simp (mul_assoc, mul_comm, mul_left_comm)
 
-digits_lt : (b : ℕ) → b % 4503599627370496 < 4503599627370496
+pub digits_lt : (b : ℕ) → b % 4503599627370496 < 4503599627370496
 digits_lt b = omega arith
 
 -- ---- what the code needs

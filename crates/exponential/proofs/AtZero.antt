@@ -11,7 +11,8 @@ use Rattle.series.specs.Sums.{nat_f, over_f, abs_f, eq_f, pow_f, factorial, scal
 use Rattle.series.specs.Exact.{ExpValue, exp_sum, exp_tail, middle, rest}
 use Rattle.series.proofs.Constants.{mn, md}
 use Rattle.exponential.proofs.Literal.{factorial_pos}
-use Rattle.exponential.proofs.Bounds.{Bound, bound_eq, bound_up, exp_moves, sum_pos, pow_f_pos, over_pos}
+use Rattle.exponential.proofs.Bounds.{Bound, bound_eq, bound_up, exp_moves, sum_pos, pow_f_pos}
+use Rattle.series.proofs.Fractions.{over_pos}
 use Rattle.exponential.proofs.Position.{range_low, range_high}
 use Rattle.exponential.proofs.Value.{sum_low, sum_high}
 

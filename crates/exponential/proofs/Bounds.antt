@@ -1,7 +1,7 @@
 -- Sizes of fractions, |x| ≤ a, through sums, products and powers; and that exp's sum moves by at most 36/25 of its argument's move, for arguments of at most 9/25. Assumes nothing.
 use mathlib.Core.Path.{◌≡◌, ap, ◌∙◌, subst}
 use Prim.Native.Nat.{ℕ, zero, suc, ◌+◌, ◌*◌, ◌≤◌, ◌<◌}
-use native.Mathlib.Nat.{mul-zero, zero-mul, one-mul, add-zero, le_dest, mul-pos, mul-le-mul_right}
+use native.Mathlib.Nat.{mul-zero, zero-mul, one-mul, add-zero, le_dest, mul-le-mul_right}
 use native.Mathlib.Omega.{arith}
 use lib.Dec.{lit<, lit≤}
 use Rattle.number.specs.Frac.{Frac, frac, Pos, le_f, neg_f, add_f, sub_f, mul_f, zero_f}
@@ -9,6 +9,7 @@ use Rattle.number.proofs.Frac.{ring, le_trans_f, add_mono_f, neg_anti_f, add_f_p
 use Rattle.series.specs.Sums.{nat_f, over_f, eq_f, pow_f, sum_f, factorial}
 use Rattle.series.specs.Exact.{exp_term, exp_sum}
 use Rattle.series.proofs.Constants.{leb→le_f}
+use Rattle.series.proofs.Fractions.{over_pos}
 use Rattle.exponential.proofs.Literal.{factorial_pos}
 
 -- |x| ≤ a
@@ -105,9 +106,6 @@ first_moves x y (frac r s f) = (simp (mul-zero, add-zero) (omega arith), simp (m
 
 pub sub_pos : (u v : Frac) → Pos u → Pos v → Pos (sub_f u v)
 sub_pos u v U W = add_f_pos u (neg_f v) U (neg_f_pos v W)
-
-pub over_pos : (x : Frac) (k : ℕ) → Pos x → 0 < k → Pos (over_f x k)
-over_pos (frac p n d) k X P = mul-pos X P
 
 pub term_pos : (x : Frac) → Pos x → (k : ℕ) → Pos (exp_term x k)
 term_pos x X k = over_pos (pow_f x k) (factorial k) (pow_f_pos x X k) (factorial_pos k)

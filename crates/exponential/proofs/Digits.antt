@@ -1,17 +1,17 @@
 -- The significand that the core works lies from 2 ^ 63 to 2 ^ 64, and what it is made of. Assumes nothing.
 use mathlib.Core.Path.{◌≡◌, sym, subst}
 use mathlib.Core.Bool.{Bool, false, ◌&&◌, not}
-use mathlib.Core.List.{List, [], ◌∷◌}
 use Prim.Native.Nat.{ℕ, ◌+◌, ◌-◌, ◌*◌, ◌/◌, ◌%◌, ◌^◌, ◌≤◌, ◌<◌}
-use native.Mathlib.Nat.{le_trans, le_of_eq, le_refl, add-le-add, mul_comm, mul-le-mul, div-le_of_le-mul, zero-add}
+use native.Mathlib.Nat.{le_trans, mul-le-mul, div-le_of_le-mul, zero-add}
 use native.Mathlib.Omega.{arith}
 use lib.Dec.{T, leb, leb→le, lit≤}
 use lib.ListN.{get_or}
 use lib.Ieee.{binary64, nan_bits}
 use lib.Ieee.Fits.{and_l, and_r}
 use Rattle.fixed_point.specs.Horner.{horner}
-use Rattle.fixed_point.proofs.Table.{every, at}
+use Rattle.number.proofs.Table.{every, at}
 use Rattle.fixed_point.proofs.Patterns64.{near_lo, near_hi, pack_no_nan}
+use Rattle.fixed_point.proofs.Run.{under_total}
 use Rattle.exponential.specs.Powers.{powers, terms}
 use Rattle.exponential.specs.Raise.{significand_of}
 
@@ -47,17 +47,8 @@ pub place : (w : ℕ) → w / 2 ^ 46 % 128 < 128
 place w = omega arith
 
 -- ---- Horner's rule stays below the sum of the coefficients
-abbrev total : List ℕ → ℕ
-total [] = 0
-total (c ∷ cs) = c + total cs
-
-pub horner_le : (cs : List ℕ) (q : ℕ) → q ≤ 2 ^ 64 → horner cs q ≤ total cs
-unfolding horner
-horner_le [] q h = lit≤ tt
-horner_le (c ∷ cs) q h = add-le-add (le_refl c) (div-le_of_le-mul (2 ^ 64) (le_trans (mul-le-mul (horner_le cs q h) h) (le_of_eq (mul_comm (total cs) (2 ^ 64)))))
-
 pub series_le : (q : ℕ) → q ≤ 2 ^ 64 → horner terms q ≤ 12820991510198240000
-series_le q h = le_trans (horner_le terms q h) (lit≤ tt)
+series_le q h = le_trans (under_total terms q h) (lit≤ tt)
 
 pub scaled_le : (d h : ℕ) → d ≤ 2 ^ 64 → h ≤ 12820991510198240000 → d * h / 2 ^ 64 ≤ 12820991510198240000
 scaled_le d h D H = div-le_of_le-mul (2 ^ 64) (mul-le-mul D H)

@@ -17,7 +17,8 @@ use Rattle.exponential.specs.Powers.{powers, terms}
 use Rattle.exponential.specs.Raise.{significand_of}
 use Rattle.exponential.proofs.Digits.{place, entry_hi}
 use Rattle.exponential.proofs.Terms.{K, turn, sum, all_terms, both_terms, up_is, turn_is}
-use Rattle.exponential.proofs.PowerTest.{denominator, up_l, turn_l, core_l, units_l, scale, near0, near1, unless, at_place}
+use Rattle.exponential.proofs.PowerTest.{denominator, up_l, turn_l, core_l, units_l, scale, near0, near1, at_place}
+use Rattle.number.proofs.Table.{unless}
 use Rattle.exponential.proofs.Near.{result_lo, result_hi}
 
 -- ---- on plain numbers: c is `scale`, P T ^ 24, p T ^ 5, H the core's polynomial, w 2 ^ 71; A - B is the sum of the terms over Z

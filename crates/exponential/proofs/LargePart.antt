@@ -5,7 +5,8 @@ use Prim.Native.Nat.{ℕ, zero, suc, ◌+◌, ◌-◌, ◌*◌, ◌/◌, ◌%◌
 use native.Mathlib.Nat.{le_trans, lt_of_lt_of_le, not-le_of_lt, mul-le-mul_left, mul-le-mul_right, div-le_of_le-mul, div-lt_iff_lt-mul, le-div_iff_mul-le}
 use native.Mathlib.Decide.{dec_le}
 use native.Mathlib.Omega.{arith}
-use lib.Dec.{T, leb, ltb, leb→le, le→leb, ltb→lt, lt→ltb, not_T, lit≤, lit<}
+use lib.Dec.{T, leb, ltb, leb→le, le→leb, ltb→lt, not_T, lit≤, lit<}
+use borrow.Author.Tests.{lt-ltb, le-ltb}
 use lib.Pow.{pow_mono, pow_pos}
 use lib.ListN.{get_or}
 use lib.Ieee.{Float, binary64, to_bits, fits}
@@ -13,7 +14,7 @@ use lib.Ieee.Bits.{is_true, is_false}
 use Rattle.number.specs.Ans.{held, refused}
 use Rattle.number.specs.Domain.{exp_inside}
 use Rattle.fixed_point.specs.Pack.{packed}
-use Rattle.fixed_point.proofs.Table.{every, at}
+use Rattle.number.proofs.Table.{every, at}
 use Rattle.exponential.specs.Powers.{powers}
 use Rattle.exponential.specs.Raise.{significand_of}
 use Rattle.exponential.specs.Exp.{binary_of, binary_exponent_of}
@@ -113,28 +114,21 @@ module _ (x : Float) (fit : T (fits binary64 x)) (inside : T (exp_inside x)) (fa
       more : (v : ℕ) → 2 ^ 51 ≤ v → 1023 * 2 ^ 53 + 2 ^ 46 ≤ 1023 * 2 ^ 53 + v
       more v h = omega arith
 
--- a test that holds, and one that does not
-pub holds : (a b : ℕ) → a < b → ltb a b ≡ true
-holds a b h = is_true (ltb a b) (lt→ltb a b h)
-
-pub fails : (a b : ℕ) → b ≤ a → ltb a b ≡ false
-fails a b h = is_false (ltb a b) (not_T (ltb a b) (λ (u : T (ltb a b)). not-le_of_lt (ltb→lt a b u) h))
-
 module _ (x : Float) where
   abbrev b : ℕ
   b = to_bits binary64 x
 
   pub away_small : (v : Float) → exponent_field b < 1021 → v ≡ small_of x b → v ≡ away_of x
   unfolding away_of
-  away_small v h e = rw (holds (exponent_field b) 1021 h, e)
+  away_small v h e = rw (lt-ltb (exponent_field b) 1021 h, e)
 
   pub away_below : (w : ℕ) (v : Float) → 1021 ≤ exponent_field b → 2 ^ 63 ≤ b → w ≡ binary_exponent_of x → v ≡ below_of w → v ≡ away_of x
   unfolding away_of
-  away_below w v h k e f = rw (fails (exponent_field b) 1021 h, is_true (leb (2 ^ 63) b) (le→leb (2 ^ 63) b k), f, e)
+  away_below w v h k e f = rw (le-ltb (exponent_field b) 1021 h, is_true (leb (2 ^ 63) b) (le→leb (2 ^ 63) b k), f, e)
 
   pub away_above : (w : ℕ) (v : Float) → 1021 ≤ exponent_field b → b < 2 ^ 63 → w ≡ binary_exponent_of x → v ≡ above_of w → v ≡ away_of x
   unfolding away_of
-  away_above w v h k e f = rw (fails (exponent_field b) 1021 h, is_false (leb (2 ^ 63) b) (not_T (leb (2 ^ 63) b) (λ (u : T (leb (2 ^ 63) b)). not-le_of_lt k (leb→le (2 ^ 63) b u))), f, e)
+  away_above w v h k e f = rw (le-ltb (exponent_field b) 1021 h, is_false (leb (2 ^ 63) b) (not_T (leb (2 ^ 63) b) (λ (u : T (leb (2 ^ 63) b)). not-le_of_lt k (leb→le (2 ^ 63) b u))), f, e)
 
   module _ (t : Bool) (is : t ≡ exp_inside x) where
     pub m1_outside : t ≡ false → refused 6 ≡ exp_m1_of x
@@ -143,8 +137,8 @@ module _ (x : Float) where
 
     pub m1_tiny : t ≡ true → exponent_field b < 969 → held x ≡ exp_m1_of x
     unfolding exp_m1_of
-    m1_tiny h k = rw (← is, h, holds (exponent_field b) 969 k)
+    m1_tiny h k = rw (← is, h, lt-ltb (exponent_field b) 969 k)
 
     pub m1_away : (v : Float) → t ≡ true → 969 ≤ exponent_field b → v ≡ away_of x → held v ≡ exp_m1_of x
     unfolding exp_m1_of
-    m1_away v h k e = rw (← is, h, fails (exponent_field b) 969 k, e)
+    m1_away v h k e = rw (← is, h, le-ltb (exponent_field b) 969 k, e)

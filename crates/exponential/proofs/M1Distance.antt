@@ -7,6 +7,7 @@ use native.Mathlib.Decide.{dec_le}
 use native.Mathlib.Omega.{arith}
 use lib.IntN.{ℤ}
 use lib.Dec.{T, leb, ltb, leb→le, le→leb, lit<, lit≤}
+use borrow.Author.Tests.{lt-ltb, le-ltb}
 use lib.Pow.{pow_mono, pow_pos}
 use lib.Ieee.{Float, fin, up, down, binary64, fits, to_bits}
 use lib.Ieee.Fits.{down_pos}
@@ -24,7 +25,6 @@ use Rattle.exponential.proofs.Decode.{units_of, decoded}
 use Rattle.exponential.proofs.Argument.{exp_inside_is, negative_at, positive_at}
 use Rattle.exponential.proofs.ExpNear.{argument_near}
 use Rattle.exponential.proofs.RaiseNear.{Bracket, raise_bracket}
-use Rattle.exponential.proofs.LargePart.{holds, fails}
 use Rattle.exponential.proofs.M1Near.{above_near, below_near}
 use Rattle.exponential.proofs.M1Small.{plus_near, minus_near}
 use Rattle.exponential.proofs.TinyNear.{tiny_near}
@@ -138,15 +138,15 @@ module _ (s : Bool) (m : ℕ) (e : ℤ) (fit : T (fits binary64 (fin s m e))) (b
       by_sign h true p = rw (sym sign_is ∙ p) (near_below h p)
 
       by_field : Dec (1021 ≤ exponent_field b) → Close (within (2 ^ 48)) (away_of (fin s m e)) x
-      by_field (yes h) = rw (fails (exponent_field b) 1021 h) (by_sign h s refl)
-      by_field (no h) = rw (holds (exponent_field b) 1021 (lt_of_not-le h)) (near_small l (lt_of_not-le h))
+      by_field (yes h) = rw (le-ltb (exponent_field b) 1021 h) (by_sign h s refl)
+      by_field (no h) = rw (lt-ltb (exponent_field b) 1021 (lt_of_not-le h)) (near_small l (lt_of_not-le h))
 
   pub near_any : Close (within (2 ^ 48)) (cond (ltb (exponent_field b) 969) (fin s m e) (away_of (fin s m e))) x
   near_any = go (dec_le 969 (exponent_field b))
     where
       go : Dec (969 ≤ exponent_field b) → Close (within (2 ^ 48)) (cond (ltb (exponent_field b) 969) (fin s m e) (away_of (fin s m e))) x
-      go (yes h) = rw (fails (exponent_field b) 969 h) (near_away h)
-      go (no h) = rw (holds (exponent_field b) 969 (lt_of_not-le h)) (near_tiny (lt_of_not-le h))
+      go (yes h) = rw (le-ltb (exponent_field b) 969 h) (near_away h)
+      go (no h) = rw (lt-ltb (exponent_field b) 969 (lt_of_not-le h)) (near_tiny (lt_of_not-le h))
 
 -- 'The distance holds from every value in the bracket': whatever value exp_m1 holds, at each f64 x; and it is finite
 pub exp_m1_distance : (x v : Float) (t : Frac) → T (fits binary64 x) → exp_m1_of x ≡ held v → ExpM1Value (val_f x) t → Close (within (2 ^ 48)) v t

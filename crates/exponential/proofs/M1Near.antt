@@ -6,6 +6,7 @@ use native.Mathlib.Nat.{add-mul, mul_assoc, zero-mul, one-mul, mul-one, add-zero
 use native.Mathlib.Decide.{dec_le}
 use native.Mathlib.Omega.{arith}
 use lib.Dec.{T, leb, ltb, leb→le, lit<, lit≤}
+use borrow.Author.Tests.{le-ltb}
 use lib.ListN.{get_or}
 use lib.Pow.{pow_pos, pow-add, pow_mono}
 use lib.Ieee.Fits.{and_l, and_r}
@@ -15,13 +16,11 @@ use Rattle.series.specs.Sums.{nat_f, eq_f}
 use Rattle.series.specs.Distance.{within}
 use Rattle.series.proofs.Close.{Close}
 use Rattle.fixed_point.specs.Horner.{horner}
-use Rattle.fixed_point.proofs.Table.{every, at}
+use Rattle.number.proofs.Table.{every, at, unless}
 use Rattle.exponential.specs.Powers.{powers, terms}
 use Rattle.exponential.specs.Raise.{significand_of}
 use Rattle.exponential.specs.ExpM1.{below_of, above_of}
 use Rattle.exponential.proofs.Digits.{place, significand_lo, significand_hi, scaled_le, series_le, low_le}
-use Rattle.exponential.proofs.PowerTest.{unless}
-use Rattle.exponential.proofs.LargePart.{fails}
 use Rattle.exponential.proofs.RaiseNear.{Bracket}
 use Rattle.exponential.proofs.PackedNear.{Sized, packed_plus, packed_minus}
 
@@ -120,13 +119,13 @@ all_ranged : T (every ranged 0 powers)
 all_ranged = tt
 
 powers_ge : (j : ℕ) → j < 128 → 42 ≤ j → 2 ^ 63 + 2 ^ 61 ≤ get_or powers j 0
-powers_ge j h k = leb→le (2 ^ 63 + 2 ^ 61) (get_or powers j 0) (given (ltb j 42) (leb (2 ^ 63 + 2 ^ 61) (get_or powers j 0)) (fails j 42 k) (and_l (unless (ltb j 42) (leb (2 ^ 63 + 2 ^ 61) (get_or powers j 0))) (unless (ltb 100 j) (leb (get_or powers j 0) 15851465176301844309)) (at ranged powers all_ranged j h)))
+powers_ge j h k = leb→le (2 ^ 63 + 2 ^ 61) (get_or powers j 0) (given (ltb j 42) (leb (2 ^ 63 + 2 ^ 61) (get_or powers j 0)) (le-ltb j 42 k) (and_l (unless (ltb j 42) (leb (2 ^ 63 + 2 ^ 61) (get_or powers j 0))) (unless (ltb 100 j) (leb (get_or powers j 0) 15851465176301844309)) (at ranged powers all_ranged j h)))
   where
     given : (b c : Bool) → b ≡ false → T (unless b c) → T c
     given b c e t = subst (λ (b : Bool). T (unless b c)) e t
 
 powers_le : (j : ℕ) → j < 128 → j ≤ 100 → get_or powers j 0 ≤ 15851465176301844309
-powers_le j h k = leb→le (get_or powers j 0) 15851465176301844309 (given (ltb 100 j) (leb (get_or powers j 0) 15851465176301844309) (fails 100 j k) (and_r (unless (ltb j 42) (leb (2 ^ 63 + 2 ^ 61) (get_or powers j 0))) (unless (ltb 100 j) (leb (get_or powers j 0) 15851465176301844309)) (at ranged powers all_ranged j h)))
+powers_le j h k = leb→le (get_or powers j 0) 15851465176301844309 (given (ltb 100 j) (leb (get_or powers j 0) 15851465176301844309) (le-ltb 100 j k) (and_r (unless (ltb j 42) (leb (2 ^ 63 + 2 ^ 61) (get_or powers j 0))) (unless (ltb 100 j) (leb (get_or powers j 0) 15851465176301844309)) (at ranged powers all_ranged j h)))
   where
     given : (b c : Bool) → b ≡ false → T (unless b c) → T c
     given b c e t = subst (λ (b : Bool). T (unless b c)) e t

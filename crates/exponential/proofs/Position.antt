@@ -11,6 +11,7 @@ use Rattle.number.proofs.Frac.{ring, le_trans_f, le_refl_f, add_mono_f, neg_anti
 use Rattle.series.specs.Sums.{over_f, eq_f, pow_f, sum_f}
 use Rattle.series.specs.Exact.{middle, ln2_low, ln2_high, twice_odds, odd_tail}
 use Rattle.series.proofs.Constants.{mn, md, middle_is}
+use Rattle.series.proofs.Fractions.{over_mono, over_pos}
 use Rattle.exponential.proofs.Bounds.{Bound}
 
 -- ---- M by its short name
@@ -28,18 +29,9 @@ mul_eq_f (frac x y z) (frac p n d) (frac q m c) h = go x y z p n d q m c (mul-le
         let v = simp ring at k in
         simp ring (omega arith)
 
-pub over_mono : (x y : Frac) (k : ℕ) → le_f x y → le_f (over_f x k) (over_f y k)
-over_mono (frac p n d) (frac q m c) k h = go p n d q m c k (mul-le-mul_right k h)
-  where
-    go : (p n d q m c k : ℕ) → (p * c + m * d) * k ≤ (q * d + n * c) * k → p * (c * k) + m * (d * k) ≤ q * (d * k) + n * (c * k)
-    go p n d q m c k h = let u = simp ring at h in simp ring (omega arith)
-
 middle_pos : Pos middle
 unfolding middle ln2_low ln2_high twice_odds odd_tail sum_f pow_f
 middle_pos = lit< tt
-
-over_pos : (x : Frac) → Pos x → Pos (over_f x 2)
-over_pos (frac p n d) X = mul-pos X (lit< tt)
 
 module _ (v k : Frac) (P : Pos v) (K : Pos k) where
   rest_pos : Pos (sub_f v (mul_f k middle))
@@ -47,13 +39,13 @@ module _ (v k : Frac) (P : Pos v) (K : Pos k) where
 
   pub range_low : le_f (neg_f (over_f middle 2)) (sub_f v (mul_f k middle)) → le_f (neg_f (over_f M 2)) (sub_f v (mul_f k M))
   range_low h =
-      le_trans_f (neg_f (over_f M 2)) (neg_f (over_f middle 2)) (sub_f v (mul_f k M)) (neg_f_pos (over_f middle 2) (over_pos middle middle_pos)) (neg_anti_f (over_f middle 2) (over_f M 2) (over_mono middle M 2 middle_is.0))
+      le_trans_f (neg_f (over_f M 2)) (neg_f (over_f middle 2)) (sub_f v (mul_f k M)) (neg_f_pos (over_f middle 2) (over_pos middle 2 middle_pos (lit< tt))) (neg_anti_f (over_f middle 2) (over_f M 2) (over_mono middle M 2 middle_is.0))
       (le_trans_f (neg_f (over_f middle 2)) (sub_f v (mul_f k middle)) (sub_f v (mul_f k M)) rest_pos h (add_mono_f v v (neg_f (mul_f k middle)) (neg_f (mul_f k M)) (le_refl_f v) (neg_anti_f (mul_f k M) (mul_f k middle) (mul_eq_f k M middle (middle_is.1, middle_is.0)))))
 
   pub range_high : le_f (sub_f v (mul_f k middle)) (over_f middle 2) → le_f (sub_f v (mul_f k M)) (over_f M 2)
   range_high h =
       le_trans_f (sub_f v (mul_f k M)) (sub_f v (mul_f k middle)) (over_f M 2) rest_pos (add_mono_f v v (neg_f (mul_f k M)) (neg_f (mul_f k middle)) (le_refl_f v) (neg_anti_f (mul_f k middle) (mul_f k M) (mul_eq_f k middle M middle_is)))
-      (le_trans_f (sub_f v (mul_f k middle)) (over_f middle 2) (over_f M 2) (over_pos middle middle_pos) h (over_mono middle M 2 middle_is.0))
+      (le_trans_f (sub_f v (mul_f k middle)) (over_f middle 2) (over_f M 2) (over_pos middle 2 middle_pos (lit< tt)) h (over_mono middle M 2 middle_is.0))
 
 -- ---- the cut a - b against the exponent (w - x) / T, ln 2 being m / q and v within c / U of its multiple
 module _ (p n d m q a b w x T₁ c U : ℕ) (D : 0 < d) (Q : 0 < q) (M₁ : 0 < m) (half : q ≤ 2 * m) where

@@ -1,7 +1,7 @@
 -- The table of powers, tested by computation: at each of its places the core's polynomial is near document 01's thirty terms, coefficient by coefficient. Assumes nothing.
 -- At the place j the exponent's fraction is f = (j s + (j + 1) t) / (128 (s + t)). exp's argument is f ln 2, and below zero (f - 1) ln 2 from a half on; both are tested at 63 and 64.
 use mathlib.Core.Path.{◌≡◌, ◌∙◌, subst}
-use mathlib.Core.Bool.{Bool, true, false, ◌&&◌}
+use mathlib.Core.Bool.{Bool, ◌&&◌}
 use mathlib.Core.List.{List, [], ◌∷◌}
 use Prim.Native.Nat.{ℕ, zero, suc, ◌+◌, ◌-◌, ◌*◌, ◌/◌, ◌%◌, ◌^◌, ◌<◌}
 use native.Mathlib.Omega.{arith}
@@ -10,7 +10,7 @@ use lib.ListN.{length, get_or, take, drop, length-take, length-drop}
 use lib.Seq.{get_or-take, get_or-drop}
 use Rattle.series.specs.Sums.{factorial}
 use Rattle.series.proofs.Constants.{mn, md}
-use Rattle.fixed_point.proofs.Table.{every, at}
+use Rattle.number.proofs.Table.{every, at, unless}
 use Rattle.fixed_point.proofs.Bernstein.{times, fma, front, again, once, under}
 use Rattle.exponential.specs.Powers.{powers, terms}
 use Rattle.exponential.proofs.Terms.{K, up, turn}
@@ -43,10 +43,6 @@ near0 e us = under 0 0 (e * scale) (2 ^ 134) 0 0 us us core_l && under (2 ^ 134)
 -- the same for 2 exp, its odd terms having a minus
 abbrev pub near1 : ℕ → List ℕ × List ℕ → Bool
 near1 e (vs, us) = under 0 (2 ^ 135) (e * scale) (2 ^ 135) 0 0 us vs core_l && under (2 ^ 135) 0 0 0 (2 ^ 135) scale us vs (fma e core_l units_l)
-
-abbrev pub unless : Bool → Bool → Bool
-unless true b = true
-unless false b = b
 
 abbrev pub place : ℕ → ℕ → Bool
 place j e = unless (ltb 64 j) (near0 e (up_l j)) && unless (ltb j 63) (near1 e (turn_l j))

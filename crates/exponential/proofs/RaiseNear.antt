@@ -22,7 +22,8 @@ use Rattle.exponential.proofs.Digits.{significand_lo, significand_hi}
 use Rattle.exponential.proofs.Terms.{K, all_terms, both_terms}
 use Rattle.exponential.proofs.Literal.{sum_up, sum_down, factorial_pos}
 use Rattle.exponential.proofs.Joined as joined
-use Rattle.exponential.proofs.Bounds.{Bound, bound_eq, bound_up, bound_add, exp_moves, sum_pos, pow_f_pos, over_pos}
+use Rattle.exponential.proofs.Bounds.{Bound, bound_eq, bound_up, bound_add, exp_moves, sum_pos, pow_f_pos}
+use Rattle.series.proofs.Fractions.{over_pos}
 use Rattle.exponential.proofs.Position.{M, Same, Next, cut}
 use Rattle.exponential.proofs.Moved.{moved_near}
 use Rattle.exponential.proofs.Value.{Within, Factor, tail_le, sum_low, sum_high, scale_low, scale_high, distance, within_of}

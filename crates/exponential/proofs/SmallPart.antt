@@ -11,7 +11,7 @@ use lib.Ieee.{Float, binary64, of_int, in_float, mul, div}
 use Rattle.fixed_point.specs.Horner.{horner}
 use Rattle.fixed_point.specs.Fields.{exponent_field}
 use Rattle.exponential.specs.ExpM1.{over_terms, under_terms, under_of, digits_of, small_of}
-use Rattle.exponential.proofs.Digits.{horner_le}
+use Rattle.fixed_point.proofs.Run.{under_total}
 
 pub square_le : (s : ℕ) → s ≤ 2 ^ 62 → s * s / 2 ^ 64 ≤ 2 ^ 60
 square_le s h = div-le_of_le-mul (2 ^ 64) (le_trans (mul-le-mul h h) (lit≤ tt))
@@ -20,7 +20,7 @@ wide : (q : ℕ) → q ≤ 2 ^ 60 → q ≤ 2 ^ 64
 wide q h = omega arith
 
 pub over_top : (q : ℕ) → q ≤ 2 ^ 60 → horner over_terms q ≤ 31 * 2 ^ 58
-over_top q h = le_trans (horner_le over_terms q (wide q h)) (lit≤ tt)
+over_top q h = le_trans (under_total over_terms q (wide q h)) (lit≤ tt)
 
 pub over_most : (q : ℕ) → q ≤ 2 ^ 60 → horner over_terms q ≤ 2 ^ 63
 over_most q h = le_trans (over_top q h) (lit≤ tt)
@@ -33,7 +33,7 @@ over_least q = more _
     more y = omega arith
 
 under_most : (q : ℕ) → q ≤ 2 ^ 60 → horner under_terms q ≤ 33 * 2 ^ 58
-under_most q h = le_trans (horner_le under_terms q (wide q h)) (lit≤ tt)
+under_most q h = le_trans (under_total under_terms q (wide q h)) (lit≤ tt)
 
 under_least : (q : ℕ) → 15120 * 2 ^ 49 ≤ horner under_terms q
 unfolding horner

@@ -7,6 +7,7 @@ use native.Mathlib.Decide.{dec_le}
 use native.Mathlib.Omega.{arith}
 use lib.IntN.{ℤ}
 use lib.Dec.{T, leb, ltb, leb→le, le→leb, not_T, lit≤, lit<}
+use borrow.Author.Tests.{lt-ltb, le-ltb}
 use lib.Pow.{pow_mono, pow_pos}
 use lib.Ieee.{Float, fin, up, down, binary64, fits, to_bits}
 use lib.Ieee.Bits.{is_true, is_false}
@@ -28,7 +29,6 @@ use Rattle.exponential.proofs.Bounds.{Bound, bound_eq, sub_pos}
 use Rattle.exponential.proofs.Position.{M}
 use Rattle.exponential.proofs.ExpNear.{bits_near}
 use Rattle.exponential.proofs.RaiseNear.{Bracket, raise_bracket}
-use Rattle.exponential.proofs.LargePart.{holds, fails}
 use Rattle.exponential.proofs.TanhPart.{tanh_inside_is, twice_low, twice_size, twice_units}
 use Rattle.exponential.proofs.TanhNear.{tanh_near}
 use Rattle.exponential.proofs.TanhTiny.{tiny_near}
@@ -147,8 +147,8 @@ module _ (s : Bool) (m : ℕ) (e : ℤ) (fit : T (fits binary64 (fin s m e))) (b
   near_any = go (dec_le 1006 (exponent_field b))
     where
       go : Dec (1006 ≤ exponent_field b) → Close (near (2 ^ 48)) (cond (ltb (exponent_field b) 1006) (fin s m e) (tanh_ratio_of (exponent_at (b + 2 ^ 52)))) x
-      go (yes h) = rw (fails (exponent_field b) 1006 h) (near_away h)
-      go (no h) = rw (holds (exponent_field b) 1006 (lt_of_not-le h)) (near_tiny (lt_of_not-le h))
+      go (yes h) = rw (le-ltb (exponent_field b) 1006 h) (near_away h)
+      go (no h) = rw (lt-ltb (exponent_field b) 1006 (lt_of_not-le h)) (near_tiny (lt_of_not-le h))
 
 -- 'The distance holds from every value in the bracket': whatever value tanh holds, at each f64 x; and it is finite
 pub tanh_distance : (x v : Float) (t : Frac) → T (fits binary64 x) → tanh_of x ≡ held v → TanhValue (val_f x) t → Close (near (2 ^ 48)) v t

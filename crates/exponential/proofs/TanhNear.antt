@@ -6,6 +6,7 @@ use native.Mathlib.Nat.{add_comm, add-mul, mul_assoc, mul_comm, mul-zero, zero-m
 use native.Mathlib.Decide.{dec_le}
 use native.Mathlib.Omega.{arith}
 use lib.Dec.{lit<, lit≤}
+use borrow.Author.Tests.{lt-ltb, le-ltb}
 use lib.Pow.{pow_pos, pow-add, pow_mono}
 use lib.Ieee.{Float, nan, inf, fin, up, down, binary64, add, sub, sum, div, round, neg}
 use lib.Ieee.Back.{round_whole}
@@ -18,13 +19,13 @@ use Rattle.number.proofs.Hull.{inv_above}
 use Rattle.series.specs.Sums.{nat_f, abs_f, eq_f}
 use Rattle.series.specs.Distance.{near}
 use Rattle.series.proofs.Close.{Close, value_finite}
+use Rattle.series.proofs.Fractions.{eq_trans_f}
 use Rattle.exponential.specs.Raise.{significand_of}
 use Rattle.exponential.specs.Tanh.{exp_part, one_part, tanh_ratio_of}
 use Rattle.exponential.proofs.Digits.{significand_lo, significand_hi}
 use Rattle.exponential.proofs.Bounds.{Bound, bound_eq, sub_pos, scaled}
 use Rattle.exponential.proofs.Value.{abs_le}
 use Rattle.exponential.proofs.RaiseNear.{Bracket, value_of}
-use Rattle.exponential.proofs.LargePart.{holds, fails}
 use Rattle.exponential.proofs.TanhPart.{small_part}
 use Rattle.exponential.proofs.Rounded.{whole, whole_is, quotient_is, rounded_value, rounded_lo, rounded_hi}
 
@@ -76,7 +77,7 @@ plus_is (fin true m e) y t b h k = absurd (true≢false h.0)
 plus_is (fin false m e) nan t b h k = absurd k
 plus_is (fin false m e) (inf s) t b h k = absurd k
 plus_is (fin false m e) (fin true n d) t b h k = absurd (true≢false k.0)
-plus_is (fin false m e) (fin false n d) t b h k = rw (in_units (m * up e) (down e) (b + t) (down d) h.1, in_units_too (n * up d) (down d) b (down e) k.1, fails ((b + t) * (down e * down d)) (b * (down e * down d)) (mul-le-mul_right (down e * down d) (more b t))) (round_same binary64 false ((b + t) * (down e * down d) - b * (down e * down d)) (down e * down d) t 1 (mul-pos (down_pos e) (down_pos d)) (lit< tt) (go (down e * down d)))
+plus_is (fin false m e) (fin false n d) t b h k = rw (in_units (m * up e) (down e) (b + t) (down d) h.1, in_units_too (n * up d) (down d) b (down e) k.1, le-ltb ((b + t) * (down e * down d)) (b * (down e * down d)) (mul-le-mul_right (down e * down d) (more b t))) (round_same binary64 false ((b + t) * (down e * down d) - b * (down e * down d)) (down e * down d) t 1 (mul-pos (down_pos e) (down_pos d)) (lit< tt) (go (down e * down d)))
   where
     more : (b t : ℕ) → b ≤ b + t
     more b t = omega arith
@@ -96,7 +97,7 @@ minus_is (fin true m e) y t a T₁ h k = absurd (true≢false h.0)
 minus_is (fin false m e) nan t a T₁ h k = absurd k
 minus_is (fin false m e) (inf s) t a T₁ h k = absurd k
 minus_is (fin false m e) (fin true n d) t a T₁ h k = absurd (true≢false k.0)
-minus_is (fin false m e) (fin false n d) t a T₁ h k = rw (in_units (m * up e) (down e) a (down d) h.1, in_units_too (n * up d) (down d) (a + t) (down e) k.1, holds (a * (down e * down d)) ((a + t) * (down e * down d)) (mul-lt-mul_of_pos_right {k = down e * down d} (more a t T₁) (mul-pos (down_pos e) (down_pos d)))) (round_same binary64 true ((a + t) * (down e * down d) - a * (down e * down d)) (down e * down d) t 1 (mul-pos (down_pos e) (down_pos d)) (lit< tt) (go (down e * down d)))
+minus_is (fin false m e) (fin false n d) t a T₁ h k = rw (in_units (m * up e) (down e) a (down d) h.1, in_units_too (n * up d) (down d) (a + t) (down e) k.1, lt-ltb (a * (down e * down d)) ((a + t) * (down e * down d)) (mul-lt-mul_of_pos_right {k = down e * down d} (more a t T₁) (mul-pos (down_pos e) (down_pos d)))) (round_same binary64 true ((a + t) * (down e * down d) - a * (down e * down d)) (down e * down d) t 1 (mul-pos (down_pos e) (down_pos d)) (lit< tt) (go (down e * down d)))
   where
     more : (a t : ℕ) → 0 < t → a < a + t
     more a t h = omega arith
@@ -242,15 +243,12 @@ some_of P d h = omega arith
 quotient_pos : (n P d : ℕ) → 0 < d → Pos (div_f (sub_f (frac (n + P) n d) (nat_f 1)) (add_f (frac (n + P) n d) (nat_f 1)))
 quotient_pos n P d D = subst (λ (i : Frac). Pos (mul_f (sub_f (frac (n + P) n d) (nat_f 1)) i)) (sym (inverse_is n P d D)) (mul-pos (mul-pos D (lit< tt)) (some_of P d D))
 
-eq_trans : (x y z : Frac) → Pos y → eq_f x y → eq_f y z → eq_f x z
-eq_trans x y z Y p q = (le_trans_f x y z Y p.0 q.0, le_trans_f z y x Y q.1 p.1)
-
 -- every value of tanh for this e, and with both parts C times
 pub value_is : (n P d : ℕ) (x : Frac) → 0 < d → eq_f x (div_f (sub_f (frac (n + P) n d) (nat_f 1)) (add_f (frac (n + P) n d) (nat_f 1))) → eq_f x (frac P d (P + d))
-value_is n P d x D s = eq_trans x (div_f (sub_f (frac (n + P) n d) (nat_f 1)) (add_f (frac (n + P) n d) (nat_f 1))) (frac P d (P + d)) (quotient_pos n P d D) s (ratio_is n P d D)
+value_is n P d x D s = eq_trans_f x (div_f (sub_f (frac (n + P) n d) (nat_f 1)) (add_f (frac (n + P) n d) (nat_f 1))) (frac P d (P + d)) (quotient_pos n P d D) s (ratio_is n P d D)
 
 value_scaled : (n P d C : ℕ) (x : Frac) → 0 < d → eq_f x (div_f (sub_f (frac (n + P) n d) (nat_f 1)) (add_f (frac (n + P) n d) (nat_f 1))) → eq_f x (frac (P * C) (d * C) (P * C + d * C))
-value_scaled n P d C x D s = eq_trans x (frac P d (P + d)) (frac (P * C) (d * C) (P * C + d * C)) (some_of P d D) (value_is n P d x D s) (scale_is P d C)
+value_scaled n P d C x D s = eq_trans_f x (frac P d (P + d)) (frac (P * C) (d * C) (P * C + d * C)) (some_of P d D) (value_is n P d x D s) (scale_is P d C)
 
 -- ---- the core's numbers: X Y / C is near e, C being 2 ^ 1086
 module _ (X Y C n P d : ℕ) (l : le_f (frac (X * Y) (5856 * Y) C) (frac (n + P) n d)) (u : le_f (frac (n + P) n d) (frac ((X + 652 + 5856) * Y) 0 C)) where

@@ -7,6 +7,7 @@ use native.Mathlib.Decide.{dec_le}
 use native.Mathlib.Omega.{arith}
 use lib.IntN.{ℤ, pos}
 use lib.Dec.{T, le→leb, lit≤, lit<}
+use borrow.Author.Tests.{lt-ltb, le-ltb}
 use lib.Pow.{pow_pos, pow-add}
 use lib.Ieee.{Float, fin, up, down, binary64, fits, is_nan, to_bits, of_bits, of_fields, odd, of_int, in_float, add, sub, div, le, neg}
 use Rattle.number.specs.Ans.{held, refused}
@@ -17,8 +18,7 @@ use Rattle.fixed_point.specs.Fields.{exponent_field}
 use Rattle.exponential.specs.Tanh.{tanh_ratio_of, tanh_of}
 use Rattle.exponential.proofs.Digits.{significand_hi}
 use Rattle.exponential.proofs.Decode.{units_of, decoded, inside_is, field_lt, size_le_of}
-use Rattle.exponential.proofs.Argument.{units_le}
-use Rattle.exponential.proofs.LargePart.{holds, fails}
+use Rattle.exponential.proofs.Argument.{digits_lt, units_le}
 
 -- ---- the quotient's numbers
 pub small_part : (y n : ℕ) → y < 2 ^ 64 → y / 2 ^ n / 4096 ≤ 2 ^ 52
@@ -66,9 +66,6 @@ tanh_bits_le x f h = go (tanh_inside_is x h)
   where
     go : (s : Bool) × (m : ℕ) × (e : ℤ) × (x ≡ fin s m e) × (m * up e ≤ 350 * down e) → units_of (exponent_field (to_bits binary64 x)) (to_bits binary64 x % 4503599627370496) ≤ 350 * 2 ^ 1074
     go (s, m, e, p, k) = units_le 350 m e (units_of (exponent_field (to_bits binary64 x)) (to_bits binary64 x % 4503599627370496)) (decoded s m e (subst (λ (y : Float). T (fits binary64 y)) p f) (to_bits binary64 x) (subst (λ (y : Float). to_bits binary64 x ≡ to_bits binary64 y) p refl)).0.1 k
-
-digits_lt : (b : ℕ) → b % 4503599627370496 < 4503599627370496
-digits_lt b = omega arith
 
 -- one more in the exponent's field is twice the size
 units_twice : (f t : ℕ) → 1 ≤ f → units_of (f + 1) t ≡ 2 * units_of f t
@@ -150,8 +147,8 @@ module _ (x : Float) where
 
     pub tanh_tiny : t ≡ true → exponent_field (to_bits binary64 x) < 1006 → held x ≡ tanh_of x
     unfolding tanh_of
-    tanh_tiny h k = rw (← is, h, holds (exponent_field (to_bits binary64 x)) 1006 k)
+    tanh_tiny h k = rw (← is, h, lt-ltb (exponent_field (to_bits binary64 x)) 1006 k)
 
     pub tanh_away : (w : ℕ) (v : Float) → t ≡ true → 1006 ≤ exponent_field (to_bits binary64 x) → w ≡ exponent_at (to_bits binary64 x + 2 ^ 52) → v ≡ tanh_ratio_of w → held v ≡ tanh_of x
     unfolding tanh_of
-    tanh_away w v h k i e = rw (← is, h, fails (exponent_field (to_bits binary64 x)) 1006 k, e, i)
+    tanh_away w v h k i e = rw (← is, h, le-ltb (exponent_field (to_bits binary64 x)) 1006 k, e, i)

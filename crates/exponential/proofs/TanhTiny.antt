@@ -12,7 +12,7 @@ use Rattle.series.specs.Exact.{ExpValue, TanhValue, exp_term, exp_sum, exp_tail}
 use Rattle.series.specs.Distance.{near}
 use Rattle.series.proofs.Constants.{leb→le_f}
 use Rattle.exponential.proofs.Bounds.{Bound, bound_eq, bound_up, bound_add, bound_power, sub_pos, term_pos, sum_pos}
-use Rattle.exponential.proofs.Position.{over_mono}
+use Rattle.series.proofs.Fractions.{over_mono}
 use Rattle.exponential.proofs.Value.{tail_le}
 use Rattle.exponential.proofs.AtZero.{at_zero, same_size, rest_pos}
 use Rattle.exponential.proofs.Tiny.{split}

@@ -10,8 +10,8 @@ use Rattle.series.specs.Sums.{nat_f, over_f, abs_f, eq_f, pow_f, sum_f, factoria
 use Rattle.series.specs.Exact.{exp_term, exp_sum, exp_tail}
 use Rattle.series.proofs.Constants.{leb→le_f}
 use Rattle.exponential.proofs.Literal.{factorial_pos}
-use Rattle.exponential.proofs.Bounds.{Bound, bound_eq, bound_up, bound_add, bound_mul, bound_power, pow_f_pos, over_pos, sub_pos, term_pos, sum_pos, together, scaled}
-use Rattle.exponential.proofs.Position.{over_mono}
+use Rattle.exponential.proofs.Bounds.{Bound, bound_eq, bound_up, bound_add, bound_mul, bound_power, pow_f_pos, sub_pos, term_pos, sum_pos, together, scaled}
+use Rattle.series.proofs.Fractions.{over_mono, over_pos}
 use Rattle.exponential.proofs.Value.{abs_bound}
 
 -- ---- the terms from v ^ 2 / 2 on, |v| at most a and at most m: at most a (m ^ 1 / 1! + m ^ 2 / 2! + ..)

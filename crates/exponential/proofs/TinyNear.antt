@@ -11,7 +11,8 @@ use Rattle.series.specs.Sums.{nat_f, over_f, eq_f, sum_f, scale_f, abs_f, pow_f,
 use Rattle.series.specs.Exact.{ExpValue, exp_term, exp_sum, exp_tail, middle, rest}
 use Rattle.series.specs.Distance.{within}
 use Rattle.exponential.proofs.Literal.{factorial_pos}
-use Rattle.exponential.proofs.Bounds.{Bound, bound_up, exp_moves, sum_pos, pow_f_pos, over_pos}
+use Rattle.exponential.proofs.Bounds.{Bound, bound_up, exp_moves, sum_pos, pow_f_pos}
+use Rattle.series.proofs.Fractions.{over_pos}
 use Rattle.exponential.proofs.AtZero.{no_cut, unscaled, scale_pos, same_size, rest_pos}
 use Rattle.exponential.proofs.Tiny.{tail_part, sum_near, first_two}
 use Rattle.exponential.proofs.Value.{within_of}

@@ -14,7 +14,7 @@ use Rattle.series.specs.Exact.{exp_tail}
 use Rattle.series.proofs.Constants.{leb→le_f}
 use Rattle.exponential.proofs.Bounds.{Bound, bound_power, pow_f_pos, scaled}
 use Rattle.exponential.proofs.Literal.{factorial_pos}
-use Rattle.exponential.proofs.Position.{over_mono}
+use Rattle.series.proofs.Fractions.{over_mono}
 
 -- ---- sizes
 apart_is : (p n : ℕ) → n ≤ p → n + ((p - n) + (n - p)) ≡ p

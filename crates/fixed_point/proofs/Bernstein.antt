@@ -3,7 +3,7 @@ use mathlib.Core.Path.{◌≡◌, refl, sym, ap, ◌∙◌}
 use mathlib.Core.List.{List, [], ◌∷◌}
 use mathlib.Core.Bool.{Bool, true, false, ◌&&◌}
 use Prim.Native.Nat.{ℕ, zero, suc, ◌+◌, ◌*◌, ◌^◌, ◌≤◌}
-use native.Mathlib.Nat.{le_trans, le_of_eq, add-le-add, mul_assoc, mul_comm, mul-zero, zero-mul, one-mul, mul-one, add-zero, zero-add, mul-le-mul_left, mul-le-mul_right, pow-suc, pow-zero}
+use native.Mathlib.Nat.{suc_inj, le_trans, le_of_eq, add-le-add, mul_assoc, mul_comm, mul-zero, zero-mul, one-mul, mul-one, add-zero, zero-add, mul-le-mul_left, mul-le-mul_right, pow-suc, pow-zero}
 use native.Mathlib.Omega.{arith}
 use lib.Dec.{T, leb, leb→le}
 use lib.ListN.{length}
@@ -40,9 +40,6 @@ fma k [] qs = []
 fma k (a ∷ ps) [] = []
 fma k (a ∷ ps) (b ∷ qs) = (k * a + b) ∷ fma k ps qs
 
-less : (m n : ℕ) → suc m ≡ suc n → m ≡ n
-less m n h = omega arith
-
 pub fma_length : (k : ℕ) (ps qs : List ℕ) → length ps ≡ length qs → length (fma k ps qs) ≡ length ps
 unfolding fma
 fma_length k [] qs h = refl
@@ -50,7 +47,7 @@ fma_length k (a ∷ ps) [] h = impossible (length ps) h
   where
     impossible : (n : ℕ) → suc n ≡ 0 → 0 ≡ suc n
     impossible n h = omega arith
-fma_length k (a ∷ ps) (b ∷ qs) h = ap suc (fma_length k ps qs (less (length ps) (length qs) h))
+fma_length k (a ∷ ps) (b ∷ qs) h = ap suc (fma_length k ps qs (suc_inj h))
 
 pub fma_is : (k s t : ℕ) (ps qs : List ℕ) → length ps ≡ length qs → hom (fma k ps qs) t s ≡ k * hom ps t s + hom qs t s
 unfolding fma hom
@@ -64,7 +61,7 @@ fma_is k s t (a ∷ ps) [] h = impossible (length ps) (k * hom (a ∷ ps) t s + 
     impossible : (n x : ℕ) → suc n ≡ 0 → 0 ≡ x
     impossible n x h = omega arith
 fma_is k s t (a ∷ ps) (b ∷ qs) h =
-    let e : length ps ≡ length qs = less (length ps) (length qs) h in
+    let e : length ps ≡ length qs = suc_inj h in
     ap (λ (l : ℕ). (k * a + b) * s ^ l + t * hom (fma k ps qs) t s) (fma_length k ps qs e ∙ e)
     ∙ ap (λ (z : ℕ). (k * a + b) * s ^ length qs + t * z) (fma_is k s t ps qs e)
     ∙ go k a b t (s ^ length qs) (hom ps t s) (hom qs t s)

@@ -1,5 +1,4 @@
 pub mod Polynomial
-pub mod Powers
 pub mod Horner
 pub mod HornerTwo
 pub mod Mean
@@ -7,7 +6,6 @@ pub mod TwoDigits
 pub mod Patterns64
 pub mod Packed
 pub mod Decode
-pub mod Table
 pub mod Bernstein
 pub mod Run
 pub mod Sign

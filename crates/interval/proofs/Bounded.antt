@@ -15,7 +15,7 @@ use Rattle.number.specs.Neighbour.{step_up, step_down, next_up, next_down, least
 use Rattle.number.proofs.Frac.{val_f_pos, le_trans_f, lt_le_f, le_lt_trans_f, lt_le_trans_f, mul_f_pos, add_f_pos, neg_f_pos, add_mono_f, neg_anti_f}
 use Rattle.number.proofs.Hull.{mul_lower, mul_upper, inv_above, inv_anti_above, inv_f_pos_above}
 use Rattle.number.proofs.Order.{lt_from}
-use Rattle.number.proofs.Bits.{plain}
+use Rattle.std.proofs.lemmas.Float.{not_nan_f64_bits}
 use Rattle.number.proofs.Round.{Rounds, rounds_above, rounds_below, rounds_fits}
 use Rattle.number.proofs.Finite.{rounds_finite}
 use Rattle.number.proofs.Ops.{add_rounds, sub_rounds, mul_rounds, div_rounds, neg_val, neg_finite}
@@ -51,7 +51,7 @@ read_finite t v h = go (of_bits binary64 b) refl
     small false = omega arith
 
     number : T (not (is_nan (of_bits binary64 b)))
-    number = subst (λ (z : Bool). T (not z)) (nan_bits_is binary64 b) (plain b (rest t))
+    number = subst (λ (z : Bool). T (not z)) (nan_bits_is binary64 b) (not_nan_f64_bits b (rest t))
 
     back : to_bits binary64 (of_bits binary64 b) ≡ b
     back = to_bits-of_bits binary64 b (small t) number

@@ -2,24 +2,16 @@
 use mathlib.Core.Path.{◌≡◌, refl, sym, ap, ap₂, ◌∙◌, subst}
 use mathlib.Core.Bool.{Bool, true, false}
 use Prim.Native.Nat.{ℕ, zero, suc, ◌+◌, ◌-◌, ◌*◌, ◌^◌, ◌≤◌, ◌<◌}
-use native.Mathlib.Nat.{le_antisymm, mul-le-mul_right, mul-zero, zero-mul, add-zero, add_comm, le_of_mul-le-mul_right, add-sub_of_le, pow-suc}
+use native.Mathlib.Nat.{le_antisymm, mul-zero, zero-mul, add-zero, add_comm, le_of_mul-le-mul_right, add-sub_of_le, pow-suc}
 use native.Mathlib.Nat as Nat
 use native.Mathlib.Omega.{arith}
 use lib.Ieee.{Float, nan, inf, fin, up, down}
 use lib.Ieee.Exact.{HasValue}
 use Rattle.number.specs.Frac.{Frac, frac, Pos, le_f, lt_f, zero_f, neg_f, add_f, mul_f, inv_f, sgn, val_f}
-use Rattle.number.proofs.Frac.{ring, le_refl_f, le_trans_f, add_mono_f, neg_anti_f, mul_f_pos, lt_le_trans_f}
+use Rattle.number.proofs.Frac.{ring, add_mono_f, neg_anti_f, mul_f_pos, lt_le_trans_f}
 use Rattle.number.proofs.Hull.{inv_anti_above}
 use Rattle.series.specs.Sums.{nat_f, over_f, abs_f, eq_f, pow_f, sum_f}
-
-pub eq_refl_f : (x : Frac) → eq_f x x
-eq_refl_f x = (le_refl_f x, le_refl_f x)
-
-pub eq_sym_f : (x y : Frac) → eq_f x y → eq_f y x
-eq_sym_f x y e = (e.1, e.0)
-
-pub eq_trans_f : (x y z : Frac) → Pos y → eq_f x y → eq_f y z → eq_f x z
-eq_trans_f x y z p e f = (le_trans_f x y z p e.0 f.0, le_trans_f z y x p f.1 e.1)
+pub use Rattle.series.proofs.Fractions.{eq_refl_f, eq_sym_f, eq_trans_f, over_mono, abs_pos}
 
 cross : (p n d q m c : ℕ) → eq_f (frac p n d) (frac q m c) → p * c + m * d ≡ q * d + n * c
 cross p n d q m c e = le_antisymm e.0 e.1
@@ -42,11 +34,6 @@ mul_half (frac p n d) (frac p' n' d') (frac q m c) (frac q' m' c') e f =
 
 pub mul_cong : (x x' y y' : Frac) → eq_f x x' → eq_f y y' → eq_f (mul_f x y) (mul_f x' y')
 mul_cong x x' y y' e f = (mul_half x x' y y' e f, mul_half x' x y' y (eq_sym_f x x' e) (eq_sym_f y y' f))
-
-pub over_mono : (x y : Frac) (k : ℕ) → le_f x y → le_f (over_f x k) (over_f y k)
-over_mono (frac p n d) (frac q m c) k h =
-    let a = simp ring at (mul-le-mul_right k h) in
-    simp ring (omega arith)
 
 pub over_cong : (x y : Frac) (k : ℕ) → eq_f x y → eq_f (over_f x k) (over_f y k)
 over_cong x y k e = (over_mono x y k e.0, over_mono y x k e.1)
@@ -115,9 +102,6 @@ abs_is true (frac p q e) n d h k =
   where
     lin : (x y z : ℕ) → y + z ≡ 0 * e + x → x ≡ z + y
     lin x y z h = omega arith
-
-pub abs_pos : (x : Frac) → Pos x → Pos (abs_f x)
-abs_pos (frac p n d) h = h
 
 -- ---- without a minus part
 pub mul_plain : (a b c d : ℕ) → mul_f (frac a 0 b) (frac c 0 d) ≡ frac (a * c) 0 (b * d)

@@ -15,7 +15,8 @@ use Rattle.fixed_point.proofs.Polynomial.{hom}
 use Rattle.fixed_point.proofs.Horner.{ring, ac}
 use Rattle.logarithm.proofs.CoreBounds.{common, tops}
 use Rattle.number.proofs.Frac as F
-use Rattle.number.proofs.Frac.{le_trans_f, add_f_pos, mul_f_pos, neg_f_pos}
+use Rattle.number.proofs.Frac.{le_trans_f, add_f_pos, mul_f_pos, neg_f_pos, neg_right}
+use Rattle.series.proofs.Fractions.{over_pos}
 use Rattle.number.proofs.Hull.{inv_above, inv_f_pos_above}
 use Rattle.logarithm.proofs.Fractions.{eq_refl_f, eq_sym_f, eq_trans_f, add_cong, neg_cong, mul_cong, over_cong, inv_cong, pow_pos, pow_cong, sum_cong, above_cong, abs_is, abs_pos, mul_plain, add_plain, pow_plain, mul_neg_neg, add_neg}
 
@@ -115,9 +116,6 @@ sum_is (suc k) n d h t =
         ∙ ap (λ (x : ℕ). hom (tops 0 k) n d * d + common / (2 * k + 1) * n ^ x) (tops_length 0 k)
 
 -- ---- the negative
-neg_right : (x y : Frac) → mul_f x (neg_f y) ≡ neg_f (mul_f x y)
-neg_right (frac p n d) (frac q m c) = refl
-
 neg_over : (x : Frac) (k : ℕ) → over_f (neg_f x) k ≡ neg_f (over_f x k)
 neg_over (frac p n d) k = refl
 
@@ -266,9 +264,6 @@ pub sum_pos : (k : ℕ) (f : ℕ → Frac) → ((i : ℕ) → Pos (f i)) → Pos
 unfolding sum_f
 sum_pos zero f h = lit< tt
 sum_pos (suc k) f h = add_f_pos (sum_f k f) (f k) (sum_pos k f h) (h k)
-
-over_pos : (x : Frac) (k : ℕ) → Pos x → 0 < k → Pos (over_f x k)
-over_pos (frac p n d) k h l = mul-pos h l
 
 pub twice_pos : (x : Frac) → Pos x → Pos (twice_odds 24 x)
 unfolding twice_odds

@@ -1,7 +1,6 @@
 -- Patterns of floats, a NaN's among them. Assumes nothing.
-use Rattle.std.proofs.Common.{◌≡◌, ℕ, ◌*◌, ◌%◌, ◌<◌, ◌≤◌, Bool, true, false, not, T, eqb, ltb, sym, refl, ◌∙◌, subst, true≢false, not-le_of_lt, ltb→lt, lt→ltb}
-use lib.Dec.{not_T}
-use lib.Ieee.{Float, nan, inf, fin, binary64, is_nan, eq, level, up, down, of_bits, to_bits, nan_bits}
+use Rattle.std.proofs.Common.{◌≡◌, ℕ, ◌*◌, ◌%◌, ◌<◌, Bool, true, false, not, eqb, ltb, sym, refl, ◌∙◌, true≢false, lt→ltb}
+use lib.Ieee.{Float, nan, inf, fin, binary64, is_nan, eq, level, up, down, of_bits, to_bits}
 use lib.Ieee.Fits.{eq→eqb}
 use lib.Ieee.Bits.{is_true, nan_bits_is, nan_bits_above}
 
@@ -14,11 +13,6 @@ the_nan (fin s m e) h = absurd (true≢false (sym h))
 
 pub nan_read : (n : ℕ) → 0x7ff0_0000_0000_0000 < n % 0x8000_0000_0000_0000 → nan ≡ of_bits binary64 n
 nan_read n h = the_nan (of_bits binary64 n) (sym (nan_bits_is binary64 n) ∙ nan_bits_above binary64 n ∙ is_true (ltb 0x7ff0_0000_0000_0000 (n % 0x8000_0000_0000_0000)) (lt→ltb _ _ h))
-
-pub plain : (n : ℕ) → n % 0x8000_0000_0000_0000 ≤ 0x7ff0_0000_0000_0000 → T (not (nan_bits binary64 n))
-plain n h =
-    subst (λ (b : Bool). T (not b)) (sym (nan_bits_above binary64 n))
-    (not_T (ltb 0x7ff0_0000_0000_0000 (n % 0x8000_0000_0000_0000)) (λ t. not-le_of_lt (ltb→lt 0x7ff0_0000_0000_0000 (n % 0x8000_0000_0000_0000) t) h))
 
 self : (s : Bool) (a : ℕ) → level s a s a ≡ true
 self true a = let e : eqb a a ≡ true = is_true (eqb a a) (eq→eqb {a = a} refl) in rw e

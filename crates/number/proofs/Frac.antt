@@ -1,5 +1,5 @@
 -- The order of fractions, and what keeps it. Assumes nothing.
-use Rattle.std.proofs.Common.{ℕ, ◌+◌, ◌-◌, ◌*◌, ◌<◌, ◌≤◌, Bool, true, false, ◌⊎◌, subst, inl, inr, mul-le-mul_right, zero-lt-suc, mul_assoc, mul_comm, add-mul, add-sub_of_le, lt_of_mul-lt-mul_right, mul-lt-mul_of_pos_right, mul-pos, lt_of_not-le, mul-add, le_of_mul-le-mul_right, mul_left_comm, arith}
+use Rattle.std.proofs.Common.{◌≡◌, refl, ℕ, ◌+◌, ◌-◌, ◌*◌, ◌<◌, ◌≤◌, Bool, true, false, ◌⊎◌, subst, inl, inr, mul-le-mul_right, zero-lt-suc, mul_assoc, mul_comm, add-mul, add-sub_of_le, lt_of_mul-lt-mul_right, mul-lt-mul_of_pos_right, mul-pos, lt_of_not-le, mul-add, le_of_mul-le-mul_right, mul_left_comm, arith}
 use native.Mathlib.Decide.{dec_le}
 use lib.Ieee.{Float, nan, inf, fin, up, down}
 use lib.Ieee.Fits.{down_pos}
@@ -61,6 +61,9 @@ mul_f_pos (frac p n d) (frac q m c) D C = mul-pos D C
 
 pub neg_f_pos : (x : Frac) → Pos x → Pos (neg_f x)
 neg_f_pos (frac p n d) D = D
+
+pub neg_right : (x y : Frac) → mul_f x (neg_f y) ≡ neg_f (mul_f x y)
+neg_right (frac p n d) (frac q m c) = refl
 
 -- ---- monotonicity
 pub add_mono_f : (x x' y y' : Frac) → le_f x x' → le_f y y' → le_f (add_f x y) (add_f x' y')

@@ -8,7 +8,7 @@ use Rattle.number.specs.Frac.{le_f, val_f}
 use Rattle.number.specs.Neighbour.{step_up, step_down, next_up, next_down}
 use Rattle.number.specs.Inside.{least_normal, largest, InsideAbove, InsideBelow}
 use Rattle.number.proofs.Frac.{lt_irrefl_f}
-use Rattle.number.proofs.Bits.{plain}
+use Rattle.std.proofs.lemmas.Float.{not_nan_f64_bits}
 use Rattle.number.proofs.Rank.{mag, place, rank, mag_inf, bits64, rank_lt, lt_rank, rank_read}
 use Rattle.number.proofs.Order.{lt_yes}
 use Rattle.number.proofs.Neighbour.{up_below, up_zero, up_above, down_above, down_zero, down_minus_zero, down_below, up_finite, down_finite}
@@ -19,7 +19,7 @@ unfolding is_nan to_bits
 finite_read n h k = go (of_bits binary64 n) no_nan back
   where
     no_nan : T (not (is_nan (of_bits binary64 n)))
-    no_nan = subst (λ (b : Bool). T (not b)) (nan_bits_is binary64 n) (plain n (omega arith))
+    no_nan = subst (λ (b : Bool). T (not b)) (nan_bits_is binary64 n) (not_nan_f64_bits n (omega arith))
 
     back : to_bits binary64 (of_bits binary64 n) ≡ n
     back = to_bits-of_bits binary64 n h no_nan

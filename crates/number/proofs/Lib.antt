@@ -17,4 +17,4 @@ pub mod Absolute
 pub mod Order
 pub mod Extended
 pub mod Inside
-pub mod Entries
+pub mod Table

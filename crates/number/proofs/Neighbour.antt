@@ -1,25 +1,18 @@
 -- The neighbour above is the least f64 above, the one below the greatest below: a step changes the rank by one. Assumes nothing.
-use Rattle.std.proofs.Common.{◌≡◌, ℕ, zero, suc, ◌+◌, ◌-◌, ◌%◌, ◌<◌, ◌≤◌, Bool, true, false, cond, not, T, ltb, ℤ, sym, refl, ap, ◌∙◌, subst, true≢false, le_trans, le_of_eq, not-le_of_lt, arith, ltb→lt, lt→ltb, ne_eqb}
-use lib.Dec.{not_T}
+use Rattle.std.proofs.Common.{◌≡◌, ℕ, zero, suc, ◌+◌, ◌-◌, ◌%◌, ◌<◌, ◌≤◌, Bool, true, false, cond, not, T, ℤ, sym, refl, ap, ◌∙◌, subst, true≢false, le_trans, le_of_eq, arith, lt-ltb, le-ltb, ne_eqb}
 use lib.Ieee.{Float, nan, inf, fin, binary64, fits, nan_bits, to_bits, of_bits}
-use lib.Ieee.Bits.{of_bits-fits, is_true, is_false}
+use lib.Ieee.Bits.{of_bits-fits}
 use lib.Ieee.Fits.{nan-fits, inf-fits}
 use lib.Ieee.Scale.{finite}
 use Rattle.number.specs.Frac.{le_f, lt_f, val_f}
 use Rattle.number.specs.Neighbour.{step_up, step_down, next_up, next_down}
-use Rattle.number.proofs.Bits.{plain}
+use Rattle.std.proofs.lemmas.Float.{not_nan_f64_bits}
 use Rattle.number.proofs.Rank.{mag, place, rank, mag_inf, bits64, rank_lt, lt_rank, le_rank, rank_read}
 
 -- ---- the cases of the two steps
-pub is_lt : (a b : ℕ) → a < b → ltb a b ≡ true
-is_lt a b h = is_true (ltb a b) (lt→ltb a b h)
-
-is_ge : (a b : ℕ) → b ≤ a → ltb a b ≡ false
-is_ge a b h = is_false (ltb a b) (not_T (ltb a b) (λ t. not-le_of_lt (ltb→lt a b t) h))
-
 pub up_below : (b : ℕ) → b < 0x8000_0000_0000_0000 → step_up b ≡ b + 1
 unfolding step_up
-up_below b h = rw (is_lt b 0x8000_0000_0000_0000 h)
+up_below b h = rw (lt-ltb b 0x8000_0000_0000_0000 h)
 
 pub up_zero : step_up 0x8000_0000_0000_0000 ≡ 1
 unfolding step_up
@@ -31,11 +24,11 @@ up_onto_zero = refl
 
 pub up_above : (b : ℕ) → 0x8000_0000_0000_0001 < b → step_up b ≡ b - 1
 unfolding step_up
-up_above b h = rw (is_ge b 0x8000_0000_0000_0000 (omega arith), ne_eqb b 0x8000_0000_0000_0000 (λ e. omega arith), ne_eqb b 0x8000_0000_0000_0001 (λ e. omega arith))
+up_above b h = rw (le-ltb b 0x8000_0000_0000_0000 (omega arith), ne_eqb b 0x8000_0000_0000_0000 (λ e. omega arith), ne_eqb b 0x8000_0000_0000_0001 (λ e. omega arith))
 
 pub down_above : (b : ℕ) → 0x8000_0000_0000_0000 < b → step_down b ≡ b + 1
 unfolding step_down
-down_above b h = rw (is_lt 0x8000_0000_0000_0000 b h)
+down_above b h = rw (lt-ltb 0x8000_0000_0000_0000 b h)
 
 pub down_zero : step_down 0 ≡ 0x8000_0000_0000_0001
 unfolding step_down
@@ -47,7 +40,7 @@ down_minus_zero = refl
 
 pub down_below : (b : ℕ) → 0 < b → b < 0x8000_0000_0000_0000 → step_down b ≡ b - 1
 unfolding step_down
-down_below b g h = rw (is_ge 0x8000_0000_0000_0000 b (omega arith), ne_eqb b 0x8000_0000_0000_0000 (λ e. omega arith), ne_eqb b 0 (λ e. omega arith))
+down_below b g h = rw (le-ltb 0x8000_0000_0000_0000 b (omega arith), ne_eqb b 0x8000_0000_0000_0000 (λ e. omega arith), ne_eqb b 0 (λ e. omega arith))
 
 -- ---- what a step leaves: a pattern that is no NaN's, at rank r
 record Stepped (b r : ℕ) : Type 0 where
@@ -80,7 +73,7 @@ stepped_rank b r k w =
     lift h = omega arith
 
 no_nan : (t : Bool) (v : ℕ) → v ≤ 0x7ff0_0000_0000_0000 → T (not (nan_bits binary64 (cond t 0x8000_0000_0000_0000 0 + v)))
-no_nan t v h = plain (cond t 0x8000_0000_0000_0000 0 + v) (rest t)
+no_nan t v h = not_nan_f64_bits (cond t 0x8000_0000_0000_0000 0 + v) (rest t)
   where
     rest : (t : Bool) → (cond t 0x8000_0000_0000_0000 0 + v) % 0x8000_0000_0000_0000 ≤ 0x7ff0_0000_0000_0000
     rest true = omega arith

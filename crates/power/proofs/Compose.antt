@@ -62,9 +62,6 @@ onto c [] ms = ms
 onto c (a ∷ ls) [] = []
 onto c (a ∷ ls) (b ∷ ms) = (c * a + b) ∷ onto c ls ms
 
-less : (m n : ℕ) → suc m ≡ suc n → m ≡ n
-less m n h = omega arith
-
 onto_length : (c k : ℕ) (ls ms : List ℕ) → length ms ≡ length ls + k → length (onto c ls ms) ≡ length ms
 unfolding onto
 onto_length c k [] ms h = refl

@@ -4,7 +4,7 @@ use mathlib.Core.Bool.{Bool, true, false, cond, beq}
 use Prim.Native.Nat.{ℕ, ◌+◌, ◌-◌, ◌*◌, ◌/◌, ◌^◌}
 use native.Mathlib.Nat.{zero-mul, mul-zero}
 use lib.Dec.{T, leb}
-use lib.Ieee.{Float, binary64, of_bits, of_fields, odd, to_bits, le, lt, eq, neg, sub, mul, div}
+use lib.Ieee.{Float, binary64, of_bits, of_fields, odd, to_bits, le, lt, eq, neg}
 use lib.Ieee.Bits.{is_true}
 use Rattle.number.specs.Ans.{held, refused, ◌>>=◌, demand}
 use Rattle.number.specs.Domain.{base_inside, exponent_inside}
@@ -113,25 +113,3 @@ outside_32 = refl
 pub base_above_32 : (y : Float) → powf_of (of_bits binary64 0x4040_0000_0000_0001) y ≡ refused 6
 unfolding powf_of ◌>>=◌ demand
 base_above_32 y = rw outside_32
-
--- ---- the Mie prefactor lr / (lr - la) (lr / la) ^ (la / (lr - la)) at 12 and 6 is 4
-abbrev twelve : Float
-twelve = of_bits binary64 0x4028_0000_0000_0000
-
-abbrev six : Float
-six = of_bits binary64 0x4018_0000_0000_0000
-
-abbrev two : Float
-two = of_bits binary64 0x4000_0000_0000_0000
-
-numbers : (div binary64 twelve six ≡ two) × (div binary64 six (sub binary64 twelve six) ≡ one) × (div binary64 twelve (sub binary64 twelve six) ≡ two) × (mul binary64 two two ≡ of_bits binary64 0x4010_0000_0000_0000)
-unfolding sub div mul of_bits
-numbers = (refl, refl, refl, refl)
-
-inside_two : T (base_inside two)
-unfolding base_inside of_bits le lt eq
-inside_two = tt
-
-pub prefactor_12_6 : (powf_of (div binary64 twelve six) (div binary64 six (sub binary64 twelve six)) >>= λ p. held (mul binary64 (div binary64 twelve (sub binary64 twelve six)) p)) ≡ held (of_bits binary64 0x4010_0000_0000_0000)
-unfolding ◌>>=◌
-prefactor_12_6 = rw (numbers.0, numbers.1, exponent_one two inside_two, numbers.2, numbers.3)

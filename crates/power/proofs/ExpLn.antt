@@ -14,7 +14,7 @@ use Rattle.series.specs.Exact.{ExpValue, exp_sum, exp_tail, middle, rest, ln2_lo
 use Rattle.series.proofs.Constants.{mn, md, middle_is, leb→le_f}
 use Rattle.logarithm.proofs.Fractions.{pow_plain, add_cong, neg_cong, eq_refl_f, eq_trans_f}
 use Rattle.exponential.proofs.Bounds.{Bound, bound_eq, bound_up, bound_add, bound_mul, exp_moves, sum_pos, scaled}
-use Rattle.exponential.proofs.Position.{over_mono}
+use Rattle.series.proofs.Fractions.{over_mono}
 use Rattle.exponential.proofs.Literal.{factorial_pos}
 
 -- ---- ln 2's middle

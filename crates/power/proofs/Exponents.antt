@@ -10,7 +10,7 @@ use lib.Pow.{pow_pos, pow-add}
 use lib.Ieee.{Float, fin, up, down, binary64, fits, is_nan, to_bits, of_bits, of_fields, odd, le, neg}
 use Rattle.number.specs.Domain.{exponent_inside}
 use Rattle.exponential.proofs.Decode.{units_of, size_by, decoded, inside_is, field_lt, size_le_of, size_lo, size_hi}
-use Rattle.exponential.proofs.Argument.{units_le}
+use Rattle.exponential.proofs.Argument.{digits_lt, units_le}
 use Rattle.power.specs.Power.{exponent_size, exponent_of}
 use Rattle.power.specs.declared.FixedExponent.{FixedExponent}
 
@@ -40,9 +40,6 @@ field_of b = b / 4503599627370496 % 2048
 
 abbrev digits_of : ℕ → ℕ
 digits_of b = b % 4503599627370496
-
-digits_lt : (b : ℕ) → b % 4503599627370496 < 4503599627370496
-digits_lt b = omega arith
 
 four_times : (i t : ℕ) → units_of (suc (suc (suc i))) t ≡ 4 * units_of (suc i) t
 four_times i t = ap (λ (x : ℕ). (4503599627370496 + t) * x) (pow-suc 2 (suc i) ∙ ap (λ (x : ℕ). x * 2) (pow-suc 2 i)) ∙ go (4503599627370496 + t) (2 ^ i) 2

@@ -6,14 +6,15 @@ use native.Mathlib.Nat.{one-mul, zero-mul, add-zero, mul-le-mul_right, mul-pos}
 use native.Mathlib.Omega.{arith}
 use lib.Dec.{lit<}
 use Rattle.number.specs.Frac.{Frac, frac, Pos, le_f, neg_f, add_f, sub_f, mul_f, sgn}
-use Rattle.number.proofs.Frac.{ring, le_trans_f, add_mono_f, neg_anti_f, add_f_pos, neg_f_pos, mul_f_pos}
-use Rattle.series.specs.Sums.{eq_f, pow_f, sum_f}
+use Rattle.number.proofs.Frac.{ring, le_trans_f, add_mono_f, neg_anti_f, add_f_pos, neg_f_pos}
+use Rattle.series.specs.Sums.{eq_f}
 use Rattle.series.specs.Exact.{LnValue, twice_odds, odd_tail, ln2_low, ln2_high, times_low, times_high, z_of}
 use Rattle.series.proofs.Constants.{mn, md, ln2_low_is, ln2_high_is}
 use Rattle.logarithm.proofs.Fractions.{mul_neg_left}
 use Rattle.logarithm.proofs.OddSeries.{whole, twice_is, tail_small, tail_pos, twice_cong, twice_pos}
 use Rattle.logarithm.proofs.Split.{Exponent, split, Part, z_is, z_pos}
 use Rattle.logarithm.proofs.Bracket.{sum_below, sum_above}
+use Rattle.logarithm.proofs.Joined.{times_pos}
 use Rattle.exponential.proofs.Bounds.{scaled}
 
 -- ln 2 is mn / md; numbers stand over md 2 ^ 159, where `unit` is 2 ^ -66 ln 2
@@ -27,14 +28,6 @@ unit = mn * 2 ^ 93
 abbrev Whole : Bool → ℕ → ℕ → ℕ → Type 0
 Whole false k a b = (a ≡ k) × (b ≡ 0)
 Whole true k a b = (a ≡ 0) × (b ≡ k)
-
-ln2_pos : Pos ln2_low × Pos ln2_high
-unfolding ln2_low ln2_high twice_odds odd_tail sum_f pow_f
-ln2_pos = (lit< tt, lit< tt)
-
-times_pos : (neg : Bool) (k : ℕ) → Pos (times_low neg k) × Pos (times_high neg k)
-times_pos false k = (mul_f_pos (frac k 0 1) ln2_low (lit< tt) ln2_pos.0, mul_f_pos (frac k 0 1) ln2_high (lit< tt) ln2_pos.1)
-times_pos true k = (mul_f_pos (frac 0 k 1) ln2_high (lit< tt) ln2_pos.1, mul_f_pos (frac 0 k 1) ln2_low (lit< tt) ln2_pos.0)
 
 -- m / q less 1 / (v W), and more
 low_numbers : (m q W v k z : ℕ) → k * q ≤ z → le_f (frac (m * W * k * v) z (q * (v * W))) (mul_f (frac k 0 1) (frac (m * (v * W)) q (q * (v * W))))

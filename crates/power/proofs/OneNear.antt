@@ -9,6 +9,7 @@ use Rattle.number.proofs.Frac.{ring, le_trans_f, le_refl_f, add_mono_f, add_f_po
 use Rattle.fixed_point.proofs.Horner.{ring as sums}
 use Rattle.series.specs.Sums.{nat_f, abs_f, eq_f}
 use Rattle.series.specs.Distance.{within}
+use Rattle.series.proofs.Fractions.{abs_pos}
 use Rattle.exponential.proofs.Bounds.{Bound, bound_eq, bound_up, bound_add, scaled}
 use Rattle.exponential.proofs.Value.{Within, abs_le, le_abs}
 
@@ -21,9 +22,6 @@ abs_neg (frac p n d) = go p n d (more p n)
 
     go : (p n d : ℕ) → n ≤ (p - n) + (n - p) + p → n * d + 0 * d ≤ ((p - n) + (n - p)) * d + p * d
     go p n d h = le_trans (le_of_eq (ap (λ (y : ℕ). n * d + y) (zero-mul d) ∙ add-zero (n * d))) (le_trans (mul-le-mul_right d h) (le_of_eq (add-mul ((p - n) + (n - p)) p d)))
-
-abs_pos : (x : Frac) → Pos x → Pos (abs_f x)
-abs_pos (frac p n d) h = h
 
 pub turned : (x a : Frac) → Bound x a → Bound (neg_f x) a
 turned (frac p n d) a h = (h.1, h.0)

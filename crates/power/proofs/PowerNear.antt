@@ -11,7 +11,7 @@ use lib.Ieee.Bits.{is_true}
 use borrow.Author.Tests.{lt-ltb}
 use Rattle.number.specs.Ans.{held, refused, ◌>>=◌, demand}
 use Rattle.number.specs.Frac.{Frac, frac, Pos, le_f, neg_f, add_f, sub_f, mul_f, sgn, val_f}
-use Rattle.number.proofs.Frac.{ring, val_f_pos, sgn_pos, add_f_pos, mul_f_pos, neg_f_pos, le_refl_f}
+use Rattle.number.proofs.Frac.{ring, val_f_pos, sgn_pos, add_f_pos, mul_f_pos, neg_f_pos, neg_right, le_refl_f}
 use Rattle.number.specs.Domain.{base_inside, exponent_inside}
 use Rattle.series.specs.Sums.{eq_f}
 use Rattle.series.specs.Exact.{PowerValue}
@@ -77,9 +77,6 @@ module _ (a D v T₁ : ℕ) (lo : v * 256 * D ≤ a) (hi : a ≤ (8 * v + 13) * 
 
       two : (a D v T₁ w : ℕ) → a ≤ (8 * v + 13) * 32 * D → le_f (neg_f (sub_f (frac 0 a (D * (256 * T₁))) (frac w (w + v) T₁))) (frac 13 0 (8 * T₁))
       two a D v T₁ w h = let z = simp ring at (mul-le-mul_right (T₁ * T₁ * 8) h) in simp (ring, zero-mul, add-zero, zero-add) (omega arith)
-
-neg_right : (x y : Frac) → mul_f x (neg_f y) ≡ neg_f (mul_f x y)
-neg_right (frac p n d) (frac q m c) = refl
 
 -- y log2 x against the word
 word_near : (s t : Bool) (A D L v : ℕ) → v ≤ 1022 * 2 ^ 53 → v * 256 * D ≤ A * L → A * L ≤ (8 * v + 13) * 32 * D

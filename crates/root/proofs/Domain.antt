@@ -8,7 +8,7 @@ use native.Mathlib.Decide.{dec_le}
 use borrow.Author.Tests.{not-false}
 use lib.Dec.{T, leb, ltb, eqb, leb→le, le→leb, lt→ltb, eqb→eq, not_T}
 use lib.IntN.{ℤ}
-use lib.Ieee.{Float, nan, inf, fin, fits, is_nan, binary64, odd, of_fields, of_bits, to_bits, up, down, lt, eq}
+use lib.Ieee.{Float, nan, inf, fin, fits, binary64, odd, of_fields, of_bits, to_bits, up, down, lt, eq}
 use lib.Ieee.Bits.{is_true, is_false, of_bits-to_bits, to_bits-lt}
 use lib.Ieee.Fits.{up_pos, down_pos, and_l}
 use lib.Ieee.Exact.{HasValue, odd_sign}
@@ -71,12 +71,6 @@ inside_positive (inf false) h k = absurd (subst T k tt)
 inside_positive (fin s zero e) h k = absurd (not_above s e (not-false _ h))
 inside_positive (fin true (suc m) e) h k = absurd (subst T h tt)
 inside_positive (fin false (suc m) e) h k = lt→ltb 0 (suc m) (zero-lt-suc m)
-
-pub positive_no_nan : (x : Float) → T (positive x) → T (not (is_nan x))
-unfolding is_nan
-positive_no_nan nan p = absurd p
-positive_no_nan (inf s) p = absurd p
-positive_no_nan (fin s m e) p = tt
 
 -- the root of a positive float that is n units of 2 ^ -1074
 pub root_of : (x : Float) (n : ℕ) → T (positive x) → HasValue x false n (2 ^ 1074) → root x ≡ held (positive_root n)

@@ -8,7 +8,6 @@ pub mod Rounded
 pub mod Rows
 pub mod Square
 pub mod Start
-pub mod Table
 pub mod Taken
 pub mod TwoSteps
 pub mod Units

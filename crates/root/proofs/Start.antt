@@ -9,7 +9,7 @@ use lib.Dec.{T, leb, leb→le}
 use lib.ListN.{get_or}
 use lib.Ieee.Fits.{and_l, and_r}
 use Rattle.root.specs.Reciprocals.{reciprocals}
-use Rattle.root.proofs.Table.{every, at}
+use Rattle.number.proofs.Table.{every, at}
 
 -- what Newton's steps ask of the entry y for the first eight digits j: of each pair that the left one is at most the right one
 abbrev entry : ℕ → ℕ → List (ℕ × ℕ)

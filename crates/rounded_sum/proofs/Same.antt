@@ -3,13 +3,13 @@ use mathlib.Core.Path.{◌≡◌, ap, ◌∙◌, subst}
 use mathlib.Core.Logic.{◌⊎◌, inl, inr}
 use mathlib.Core.Bool.{true, false, ◌&&◌, cond}
 use Prim.Native.Nat.{ℕ, ◌+◌, ◌-◌, ◌*◌, ◌≤◌, ◌<◌}
-use native.Mathlib.Nat.{le_antisymm, eq-zero-or-pos, mul-pos, not-le_of_lt, lt_of_not-le}
+use native.Mathlib.Nat.{le_antisymm, eq-zero-or-pos, mul-pos, lt_of_not-le}
 use native.Mathlib.Decide.{dec_le}
 use native.Mathlib.Omega.{arith}
 use lib.IntN.{pos}
-use lib.Dec.{T, ltb, ltb→lt, lt→ltb, not_T}
+use lib.Dec.{T, ltb}
 use lib.Ieee.{Float, nan, inf, fin, binary64, round, add, sum, up, down}
-use lib.Ieee.Bits.{is_true, is_false}
+use borrow.Author.Tests.{lt-ltb, le-ltb}
 use lib.Ieee.Scale.{finite, round_same}
 use Rattle.number.specs.Frac.{Frac, frac, Pos, add_f, sub_f, neg_f, val_f}
 use Rattle.number.proofs.Frac.{ring, le_refl_f, le_trans_f, add_mono_f, neg_anti_f}
@@ -41,12 +41,6 @@ pub put_back : (q s : Frac) → Same (add_f s (sub_f q s)) q
 put_back (frac p n d) (frac r m c) = (simp ring (omega arith), simp ring (omega arith))
 
 -- ---- the same fraction has one nearest float
-is_lt : (a b : ℕ) → a < b → ltb a b ≡ true
-is_lt a b h = is_true (ltb a b) (lt→ltb a b h)
-
-is_ge : (a b : ℕ) → b ≤ a → ltb a b ≡ false
-is_ge a b h = is_false (ltb a b) (not_T (ltb a b) (λ t. not-le_of_lt (ltb→lt a b t) h))
-
 pub nearest_same : (x y : Frac) → Pos x → Pos y → Same x y → nearest_to x ≡ nearest_to y
 unfolding nearest_to
 nearest_same (frac p n d) (frac q m c) D C h = go (dec_le n p) (dec_le m q)
@@ -98,13 +92,13 @@ nearest_same (frac p n d) (frac q m c) D C h = go (dec_le n p) (dec_le m q)
     less a b h = omega arith
 
     go : Dec (n ≤ p) → Dec (m ≤ q) → cond (ltb p n) (round binary64 true (n - p) d) (round binary64 false (p - n) d) ≡ cond (ltb q m) (round binary64 true (m - q) c) (round binary64 false (q - m) c)
-    go (yes g) (yes k) = rw (is_ge p n g, is_ge q m k) (round_same binary64 false (p - n) d (q - m) c D C (above (p - n) (q - m) (whole p n g) (whole q m k)))
+    go (yes g) (yes k) = rw (le-ltb p n g, le-ltb q m k) (round_same binary64 false (p - n) d (q - m) c D C (above (p - n) (q - m) (whole p n g) (whole q m k)))
     go (yes g) (no k) = let l = lt_of_not-le k in absurd (mixed (p - n) (m - q) (whole p n g) (whole m q (less q m l)) (gap q m l))
     go (no g) (yes k) = let l = lt_of_not-le g in absurd (mixed' (n - p) (q - m) (whole n p (less p n l)) (whole q m k) (gap p n l))
     go (no g) (no k) =
         let l = lt_of_not-le g in
         let r = lt_of_not-le k in
-        rw (is_lt p n l, is_lt q m r) (round_same binary64 true (n - p) d (m - q) c D C (below (n - p) (m - q) (whole n p (less p n l)) (whole m q (less q m r))))
+        rw (lt-ltb p n l, lt-ltb q m r) (round_same binary64 true (n - p) d (m - q) c D C (below (n - p) (m - q) (whole n p (less p n l)) (whole m q (less q m r))))
 
 -- ---- a finite float, +0 added: the nearest to its own fraction, -0 becoming +0
 pub plus_zero : (x : Float) → T (finite x) → add binary64 x (fin false 0 (pos 0)) ≡ nearest_to (val_f x)
@@ -123,7 +117,7 @@ plus_zero (fin false m e) t = go (m * up e) (down e)
     bottom d = omega arith
 
     go : (x d : ℕ) → round binary64 false (x * 1 + 0 * 1 * d) (d * 1) ≡ cond (ltb x 0) (round binary64 true (0 - x) d) (round binary64 false (x - 0) d)
-    go x d = rw (is_ge x 0 (zero_le x)) (ap (λ (z : ℕ). round binary64 false z (d * 1)) (top x d) ∙ ap (λ (z : ℕ). round binary64 false (x - 0) z) (bottom d))
+    go x d = rw (le-ltb x 0 (zero_le x)) (ap (λ (z : ℕ). round binary64 false z (d * 1)) (top x d) ∙ ap (λ (z : ℕ). round binary64 false (x - 0) z) (bottom d))
 plus_zero (fin true m e) t = go (m * up e) (down e) (eq-zero-or-pos (m * up e))
   where
     none : (x d : ℕ) → 0 * 1 * d ≤ x
@@ -136,7 +130,7 @@ plus_zero (fin true m e) t = go (m * up e) (down e) (eq-zero-or-pos (m * up e))
         → cond (ltb (x * 1) (0 * 1 * d)) (round binary64 false (0 * 1 * d - x * 1) (d * 1)) (round binary64 (true && ltb (0 * 1 * d) (x * 1)) (x * 1 - 0 * 1 * d) (d * 1))
         ≡ cond (ltb 0 x) (round binary64 true (x - 0) d) (round binary64 false (0 - x) d)
     go x d (inl z) =
-        rw (is_ge (x * 1) (0 * 1 * d) (none (x * 1) d), is_ge (0 * 1 * d) (x * 1) (empty x d z), is_ge 0 x (empty' x z))
+        rw (le-ltb (x * 1) (0 * 1 * d) (none (x * 1) d), le-ltb (0 * 1 * d) (x * 1) (empty x d z), le-ltb 0 x (empty' x z))
         (ap (λ (y : ℕ). round binary64 false y (d * 1)) (zeros x d z) ∙ ap (λ (y : ℕ). round binary64 false (0 - x) y) (bottom d))
       where
         empty : (x d : ℕ) → x ≡ 0 → x * 1 ≤ 0 * 1 * d
@@ -148,7 +142,7 @@ plus_zero (fin true m e) t = go (m * up e) (down e) (eq-zero-or-pos (m * up e))
         zeros : (x d : ℕ) → x ≡ 0 → x * 1 - 0 * 1 * d ≡ 0 - x
         zeros x d z = omega arith
     go x d (inr h) =
-        rw (is_ge (x * 1) (0 * 1 * d) (none (x * 1) d), is_lt (0 * 1 * d) (x * 1) (some x d h), is_lt 0 x h)
+        rw (le-ltb (x * 1) (0 * 1 * d) (none (x * 1) d), lt-ltb (0 * 1 * d) (x * 1) (some x d h), lt-ltb 0 x h)
         (ap (λ (y : ℕ). round binary64 true y (d * 1)) (all x d) ∙ ap (λ (y : ℕ). round binary64 true (x - 0) y) (bottom d))
       where
         some : (x d : ℕ) → 0 < x → 0 * 1 * d < x * 1

@@ -1,3 +1,4 @@
 pub mod Constants
 pub mod Close
+pub mod Fractions
 pub mod BracketEnds

@@ -20,6 +20,11 @@ both_right : (a b : Bool) → T (both a b) → T b
 both_right true b t = t
 both_right false b t = absurd t
 
+-- a test that is asked for only where the first does not hold
+abbrev pub unless : Bool → Bool → Bool
+unless true b = true
+unless false b = b
+
 -- the test f passes at each entry of the list and its place, counted from i
 abbrev pub every : (ℕ → ℕ → Bool) → ℕ → List ℕ → Bool
 every f i [] = true
