@@ -1,6 +1,7 @@
 // exp, exp_m1 and tanh in u64 fixed point, on one exponential in base 2: the exponent's whole part is the answer's field, 7 bits of its fraction choose a power from a table, five terms do the rest.
 // Budget of exp, in units of 2^-60 and as a part of the value: the argument over ln 2 is cut three times (242, twice that in the answer at most), five terms 81, floors 1, the f64 128; below 2^-50, 2^-48 is asked.
 // exp_m1 takes 1 away from it, from 1/4 on; nearer to 0 it is the argument times a quotient of two short polynomials (Padé's), so that the answer keeps all its digits. In units of 2^-53 and as a part of the value: the fraction 1, the cuts 5, product and quotient 7; below 2^-49, 2^-48 is asked.
+// Casts from u64: usize and f64 have no From<u64>, and the numbers that become f64s have 53 bits at most.
 // tanh is a quotient of f64s from the same numbers, exact but for the division; in units of 2^-52: core and cuts 12.4, the division 1; 16 is asked. Below 2^-17 it is x, off by a third of its cube. From 20 on in size the quotient is 1 or -1, and is not worked.
 #![tactic(auto)]
 

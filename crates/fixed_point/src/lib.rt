@@ -9,7 +9,7 @@ ghost use Rattle.fixed_point.specs.Horner.{horner};
 ghost use Rattle.fixed_point.specs.Quotient.{quotient};
 ghost use Rattle.fixed_point.specs.Pack.{packed};
 
-// The upper 64 bits of u * v.
+// The upper 64 bits of u * v. The cast is proved to lose no digit: u64::try_from would answer an error that cannot come.
 pub fn high_product(u: u64, v: u64) -> u64
     ensures value { result ≡ u * v / 2 ^ 64 }
     ensures small { result ≤ v }

@@ -54,7 +54,7 @@ pub fn pair_asked(n: usize, i: usize, j: usize, t: f64) -> Result<(), Refusal>
     Ok(())
 }
 
-// Component i of lists that reach that far: for loops over the count, which the lists' lengths were tested against.
+// Component i of lists that reach that far: for loops over the count, which the lists' lengths were tested against. Four lists, not a struct: both models' structs have them among others, as the C call lends them.
 pub fn component_at(sigma: &[f64], epsilon_k: &[f64], lr: &[f64], la: &[f64], i: usize) -> Component
     requires { (i < length sigma.now) × (i < length epsilon_k.now) × (i < length lr.now) × (i < length la.now) }
     ensures { result ≡ components sigma.now epsilon_k.now lr.now la.now i }

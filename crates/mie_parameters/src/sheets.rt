@@ -40,6 +40,7 @@ pub trait PairLists {
         ensures { result ≡ row_of p };
 }
 
+// Written out: inlined, each number is stored as it is worked.
 #[inline(always)]
 fn store_row(s: &mut [f64; SHEETS], e: usize, p: [f64; 6])
     requires { e < sheet }
@@ -53,7 +54,7 @@ fn store_row(s: &mut [f64; SHEETS], e: usize, p: [f64; 6])
     s[5 * SHEET + e] = p[5];
 }
 
-// Row i of the six sheets. By index: a pair is asked for by its indexes, and its entry is worked from them.
+// Row i of the six sheets. By index, here and below: a pair is asked for by its indexes, and its entry is worked from them.
 fn sheets_row<L: PairLists>(l: &L, i: usize, s: &mut [f64; SHEETS]) -> Result<(), Refusal>
     requires { (i < L.size l.now) × (L.size l.now ≤ side) × L.fits l.now }
     ensures { outcome result s.new ≡ sheets_row L.row_of (L.size l.now) (L.pair_at l.now) i s.old }

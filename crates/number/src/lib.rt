@@ -38,7 +38,7 @@ pub fn bits_of(x: f64) -> u64
     }
 }
 
-// Neither an infinity nor a NaN. By the library's test, x - x == 0, two ends take 1.02 times the instructions.
+// Neither an infinity nor a NaN. By the library's test, x - x == 0, two ends take 1.02 times the instructions. The infinity by its bits: the library's is a quotient, 1.0 / 0.0.
 pub fn is_finite(x: f64) -> bool
     ensures { result ≡ finite x }
 {
@@ -71,7 +71,7 @@ fn step_up(b: u64) -> u64
     }
 }
 
-// The pattern of the next float down; a finite float's is never the last of all.
+// The pattern of the next float down; a finite float's is never the last of all. Beside step_up: a step onto zero gives +0 from either side, so the cases at zero differ.
 fn step_down(b: u64) -> u64
     requires { b < 0xffff_ffff_ffff_ffff }
     ensures { result ≡ step_down b }
@@ -99,7 +99,7 @@ pub fn next_up(x: f64) -> f64
     }
 }
 
-// The greatest float below x; what is not finite is given back.
+// The greatest float below x; what is not finite is given back. Beside next_up the step's name alone differs: a function over the step would be called in as many lines.
 pub fn next_down(x: f64) -> f64
     ensures { result ≡ next_down x }
 {
@@ -131,6 +131,7 @@ pub fn within(low: f64, high: f64, x: f64) -> bool
     (low <= x) & (x <= high)
 }
 
+// x.abs() with the definition's word: the library's clause has another.
 pub fn abs(x: f64) -> f64
     ensures { result ≡ absolute x }
 {

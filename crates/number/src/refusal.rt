@@ -39,7 +39,7 @@ pub enum Refusal {
 }
 
 impl Refusal {
-    // The number at the C boundary.
+    // The number at the C boundary. An enum's number is read by as; it has no From.
     pub fn code(self) -> u8
         ensures { result ≡ code self }
     {

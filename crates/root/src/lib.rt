@@ -99,6 +99,7 @@ pub fn sqrt(x: f64) -> Result<f64, Refusal>
     if !(x < infinity) {
         return Err(Refusal::Domain);
     }
+    // A positive number's: its sign bit is 0, so the quotient is the exponent's field.
     let b = f64::to_bits(x);
     let f = b / TWO_52;
     let m = b % TWO_52;
@@ -130,6 +131,7 @@ static RECIPROCALS: [u64; 192] = [
     65600,
 ];
 
+// usize has no From<u64>.
 fn reciprocal(j: u64) -> u64
     requires { j < 192 }
     ensures { result ≡ get_or reciprocals j 0 }

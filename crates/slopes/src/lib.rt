@@ -44,7 +44,7 @@ pub fn exponent(e: f64) -> SlopeExponent
     ensures { result ≡ slope_exponent_of e }
 {
     SlopeExponent {
-        e: e,
+        e,
         at: power::exponent(e),
         below: power::exponent(e - 1.0),
     }
