@@ -221,28 +221,12 @@ impl Arithmetic for Enclosure {
         Enclosure::point(x)
     }
 
-    fn val(self) -> f64 {
-        self.value
-    }
-
-    fn pow_up(self, n: u16) -> Enclosure {
-        self.pow_up(u32::from(n))
-    }
-
-    fn pow_down(self, n: u16) -> Enclosure {
-        self.pow_down(u32::from(n))
-    }
-
     fn square(self) -> Enclosure {
         self.pow_up(2u32)
     }
 
     fn cube(self) -> Enclosure {
         self.pow_up(3u32)
-    }
-
-    fn after(self, u: Enclosure) -> Enclosure {
-        self.after(u)
     }
 
     ghost can_add_law = { Prim.search rules };

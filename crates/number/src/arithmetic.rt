@@ -3,7 +3,6 @@ ghost use Rattle.std.specs.Prelude.{◌≡◌};
 ghost use Rattle.std.proofs.Common.{rules};
 ghost use Rattle.number.specs.Arith.{Arith, floats};
 
-use crate::{pow_down, pow_up};
 use std::ops::{Add, Div, Mul, Neg, Sub};
 
 pub trait Arithmetic: Copy
@@ -22,27 +21,12 @@ pub trait Arithmetic: Copy
     fn lit(x: f64) -> Self
         ensures { of result ≡ arith.lit x };
 
-    // The float run's value: what branches and elementary calls look at.
-    fn val(self) -> f64
-        ensures { result ≡ arith.val (of self) };
-
-    // The whole power n, and minus n.
-    fn pow_up(self, n: u16) -> Self
-        ensures { of result ≡ arith.pow (of self) n };
-
-    fn pow_down(self, n: u16) -> Self
-        ensures { of result ≡ arith.pow_down (of self) n };
-
     // The whole powers 2 and 3, written out.
     fn square(self) -> Self
         ensures { of result ≡ arith.pow (of self) 2 };
 
     fn cube(self) -> Self
         ensures { of result ≡ arith.pow (of self) 3 };
-
-    // The number, where u was worked on the way.
-    fn after(self, u: Self) -> Self
-        ensures { of result ≡ arith.after (of u) (of self) };
 
     ghost can_add_law: { (x y : Self) → Self.can_add x y };
 
@@ -74,28 +58,12 @@ impl Arithmetic for f64 {
         x
     }
 
-    fn val(self) -> f64 {
-        self
-    }
-
-    fn pow_up(self, n: u16) -> f64 {
-        pow_up(self, u32::from(n))
-    }
-
-    fn pow_down(self, n: u16) -> f64 {
-        pow_down(self, u32::from(n))
-    }
-
     fn square(self) -> f64 {
         1.0 * (self * self)
     }
 
     fn cube(self) -> f64 {
         1.0 * self * (self * self)
-    }
-
-    fn after(self, _u: f64) -> f64 {
-        self
     }
 
     ghost can_add_law = { Prim.search rules };
