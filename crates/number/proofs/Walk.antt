@@ -1,8 +1,8 @@
 -- Laws of walks, one for each place of a loop; of answers; and of what a call gave. Assumes nothing.
-use Rattle.std.proofs.Common.{◌≡◌, ℕ, zero, suc, ◌+◌, ◌-◌, ◌<◌, ◌≤◌, Bool, true, ◌&&◌, sym, refl, ap, ◌∙◌, subst, add-one, arith}
+use Rattle.std.proofs.Common.{◌≡◌, ℕ, zero, suc, ◌+◌, ◌-◌, ◌<◌, ◌≤◌, Bool, true, false, sym, refl, ap, ◌∙◌, subst, add-one, arith}
 use Rattle.std.specs.Prelude.{Result, Ok, Err, IsErr, IsErrAnd}
-use Rattle.number.specs.Ans.{Ans, held, refused, ◌>>=◌}
-use Rattle.number.specs.Walk.{turns, every, walk}
+use Rattle.number.specs.Ans.{Ans, held, refused, ◌>>=◌, demand}
+use Rattle.number.specs.Walk.{turns, walk}
 
 -- what a call ensures, at the variant that it gave
 pub via : {E S : Type 0} (f : E → S) {e x : E} {a : S} → f e ≡ a → e ≡ x → a ≡ f x
@@ -22,17 +22,6 @@ turns_next n f s x y p q = rw add-one (q ∙ ap (f n) p)
 
 pub turns_end : {S : Type 0} (n j : ℕ) (f : ℕ → S → S) (s x : S) → j ≤ n → n ≤ j → x ≡ turns j f s → x ≡ turns n f s
 turns_end n j f s x p q e = let h : j ≡ n = omega arith in rw h at e
-
-pub every_none : (p : ℕ → Bool) → true ≡ every 0 p
-unfolding every turns
-every_none p = refl
-
-pub every_next : (n : ℕ) (p : ℕ → Bool) (b t : Bool) → b ≡ every n p → t ≡ p n → (b && t) ≡ every (n + 1) p
-unfolding every turns
-every_next n p b t h q = rw (add-one, h, q)
-
-pub every_end : (n j : ℕ) (p : ℕ → Bool) (b : Bool) → j ≤ n → n ≤ j → b ≡ every j p → b ≡ every n p
-every_end n j p b h q e = let d : j ≡ n = omega arith in rw d at e
 
 module _ {S : Type 0} (f : ℕ → S → Ans S) (s : S) where
   pub walk_none : held s ≡ walk 0 f s
@@ -75,6 +64,27 @@ then_held (refused n) f y p = absurd (never n p)
   where
     never : (n : ℕ) → refused n ≡ held y → ⊥
     never n p = let z : ◌≡◌ {A = ℕ} 0 1 = cc in omega arith
+
+pub demanded : (n : ℕ) (t x : Bool) → demand n t ≡ held x → t ≡ true
+unfolding demand
+demanded n true x p = refl
+demanded n false x p = let z : ◌≡◌ {A = ℕ} 0 1 = cc in absurd (omega arith)
+
+-- ---- answers that go on alike
+pub then_same : {S T : Type 0} (a : Ans S) (f g : S → Ans T) → ((x : S) → f x ≡ g x) → (a >>= f) ≡ (a >>= g)
+unfolding ◌>>=◌
+then_same (held x) f g h = h x
+then_same (refused n) f g h = refl
+
+pub then_then : {S T U : Type 0} (a : Ans S) (f : S → Ans T) (g : T → Ans U) → ((a >>= f) >>= g) ≡ (a >>= λ x. f x >>= g)
+unfolding ◌>>=◌
+then_then (held x) f g = refl
+then_then (refused n) f g = refl
+
+pub walk_same : {S : Type 0} (n : ℕ) (f g : ℕ → S → Ans S) (s : S) → ((i : ℕ) (x : S) → f i x ≡ g i x) → walk n f s ≡ walk n g s
+unfolding walk
+walk_same zero f g s h = refl
+walk_same (suc n) f g s h = ap (λ a. a >>= f n) (walk_same n f g s h) ∙ then_same (walk n g s) (f n) (g n) (h n)
 
 -- what each turn keeps, the walk keeps
 pub walk_keeps : {S : Type 0} (P : S → Type 0) (n : ℕ) (f : ℕ → S → Ans S) (s y : S)

@@ -10,25 +10,16 @@ use lib.ListN.{get_or, length}
 use borrow.Author.Tests.{lt-leb}
 use Rattle.number.specs.Ans.{Ans, held, refused, ◌>>=◌, demand}
 use Rattle.number.specs.Walk.{walk}
+use Rattle.number.proofs.Walk.{then_same, then_then, walk_same}
 use Rattle.saftvrqmie_parameters.specs.Parameters.{pair_orders, order_row, order_walk}
 use Rattle.saftvrqmie_parameters.proofs.Laws.{above}
 
 -- ---- answers that go on
 
-then_same : {S T : Type 0} (a : Ans S) (f g : S → Ans T) → ((x : S) → f x ≡ g x) → (a >>= f) ≡ (a >>= g)
-unfolding ◌>>=◌
-then_same (held x) f g h = h x
-then_same (refused n) f g h = refl
-
 then_held : {S : Type 0} (a : Ans S) → (a >>= λ x. held x) ≡ a
 unfolding ◌>>=◌
 then_held (held x) = refl
 then_held (refused n) = refl
-
-then_then : {S T U : Type 0} (a : Ans S) (f : S → Ans T) (g : T → Ans U) → ((a >>= f) >>= g) ≡ (a >>= λ x. f x >>= g)
-unfolding ◌>>=◌
-then_then (held x) f g = refl
-then_then (refused n) f g = refl
 
 -- a walk begins with its first turn
 walk_first : {S : Type 0} (n : ℕ) (f : ℕ → S → Ans S) (s : S) → walk (suc n) f s ≡ (f 0 s >>= λ x. walk n (λ i. f (suc i)) x)
@@ -56,11 +47,6 @@ rows_is : (t l : List ℕ) (s : Bool) → walk (length t) (λ i _. scan (get_or 
 unfolding rows walk
 rows_is [] l s = refl
 rows_is (x ∷ xs) l s = walk_first (length xs) (λ i _. scan (get_or (x ∷ xs) i 0) l true) s ∙ then_same (scan x l true) _ _ (rows_is xs l)
-
-walk_same : {S : Type 0} (n : ℕ) (f g : ℕ → S → Ans S) (s : S) → ((i : ℕ) (x : S) → f i x ≡ g i x) → walk n f s ≡ walk n g s
-unfolding walk
-walk_same zero f g s h = refl
-walk_same (suc n) f g s h = ap (λ a. a >>= f n) (walk_same n f g s h) ∙ then_same (walk n g s) (f n) (g n) (h n)
 
 pub walk_is : (l : List ℕ) → order_walk (length l) l ≡ rows l l true
 unfolding order_walk order_row

@@ -36,6 +36,7 @@ pub fn order_counts(count: usize) -> Result<OrderCounts, Refusal>
     if !limits::count_within(count) {
         return Err(Refusal::Length);
     }
+    // Narrows, and is proved to lose no digit: try_from would answer a refusal that cannot come.
     let rest = (count - 1) as u32;
     let two = 2u64.pow(rest);
     let three = 3u64.pow(rest);
