@@ -58,10 +58,6 @@ pub trait SlopeNum: Copy
     fn plain_mul(c: Self::Re, x: Self) -> Self
         ensures { (w : Bool) → slope_by parts (Self.Re.of w) result ≡ mul_d (Self.Re.beside w) (plain_d (Self.Re.beside w) (Self.Re.of w c)) (slope_by parts (Self.Re.of w) x) };
 
-    // The whole power n.
-    fn powi(self, n: u16) -> Self
-        ensures { (w : Bool) → slope_by parts (Self.Re.of w) result ≡ pow_d (Self.Re.beside w) (slope_by parts (Self.Re.of w) self) n };
-
     // The whole power minus n.
     fn powi_down(self, n: u16) -> Self
         ensures { (w : Bool) → slope_by parts (Self.Re.of w) result ≡ down_d (Self.Re.beside w) (slope_by parts (Self.Re.of w) self) n };
@@ -141,10 +137,6 @@ impl SlopeNum for Dual {
     #[inline(always)]
     fn plain_mul(c: f64, x: Dual) -> Dual {
         Dual::plain(c) * x
-    }
-
-    fn powi(self, n: u16) -> Dual {
-        self.pow_up(n)
     }
 
     fn powi_down(self, n: u16) -> Dual {
@@ -247,10 +239,6 @@ impl SlopeNum for EnclosureDual {
     #[inline(always)]
     fn plain_mul(c: Enclosure, x: EnclosureDual) -> EnclosureDual {
         enclosure_dual::plain_mul(c, x)
-    }
-
-    fn powi(self, n: u16) -> EnclosureDual {
-        self.pow_up(n)
     }
 
     fn powi_down(self, n: u16) -> EnclosureDual {

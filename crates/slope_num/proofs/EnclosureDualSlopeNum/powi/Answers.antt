@@ -1,7 +1,0 @@
--- `slope_num::EnclosureDualSlopeNum::powi` meets its contract. Assumes nothing.
-use Rattle.enclosure_dual.specs.Value.{dual_of}
-use Rattle.slope_num.specs.Laws.{as_it_is}
-use Rattle.slope_num.proofs.EnclosureDualSlopeNum.powi.Goals as goal
-
-pub returns : goal.returns
-returns c w = rw (as_it_is dual_of c.args.self, as_it_is dual_of, c.pow_up.ensures)
