@@ -77,6 +77,7 @@ fn placed(b: u8, s: usize, n: usize, v: u64) -> u8
     let high = byte - lowest(byte, 8 - s);
     let middle = lowest(v, n) << behind;
     let low = lowest(byte, behind);
+    // Below 256, as is proved: try_from would answer a refusal that cannot come.
     (high + middle + low) as u8
 }
 

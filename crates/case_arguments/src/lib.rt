@@ -7,6 +7,7 @@ pub fn number_at(f: &[f64], at: usize) -> f64 {
     f.get(at).copied().unwrap_or(0.0)
 }
 
+// usize has no From<u64>.
 pub fn whole_at(f: &[f64], at: usize) -> usize {
     number::bits_of(number_at(f, at)) as usize
 }
@@ -19,7 +20,7 @@ pub fn list(f: &[f64], at: usize) -> &[f64] {
     part(f, whole_at(f, at + 32), whole_at(f, at))
 }
 
-// A whole number: below 2^31 itself, from there on -1, -2 and so on.
+// A whole number: below 2^31 itself. Not a cast: from 2^31 on the file counts -1, -2 and so on.
 pub fn signed(n: u64) -> i32 {
     i32::try_from(n).unwrap_or_else(|_| match i32::try_from(n.saturating_sub(0x8000_0000)) {
         Ok(k) => !k,
