@@ -1,6 +1,7 @@
 -- The potential, and u alone: refused where the base or an exponent of its order is outside, else worked from powers that are not tested. Assumes nothing.
 use mathlib.Core.Path.{◌≡◌, refl, sym, ap, ◌∙◌}
 use mathlib.Core.Bool.{Bool, true, false, ◌&&◌, cond}
+use Rattle.std.proofs.lemmas.Bool.{and_parts}
 use Rattle.number.specs.Ans.{Ans, held, refused, ◌>>=◌}
 use Rattle.number.specs.Arith.{Arith}
 use Rattle.number.specs.Functions.{Functions}
@@ -31,14 +32,6 @@ then_value false x y a f p q = tested false y _ (rw p.is)
 choice_tested : {S : Type 0} (b t : Bool) (x y : S) (a : Ans S) → Tested t y a → Tested (cond b t true) (cond b y x) (cond b a (held x))
 choice_tested true t x y a p = p
 choice_tested false t x y a p = tested true x _ refl
-
-and_left : (a b : Bool) → (a && b) ≡ true → a ≡ true
-and_left true b p = refl
-and_left false b p = p
-
-and_right : (a b : Bool) → (a && b) ≡ true → b ≡ true
-and_right true b p = p
-and_right false b p = absurd (mathlib.Core.Bool.false≢true p)
 
 -- ---- two powers of one base
 module _ {N : Type 0} (v w : N) where
@@ -130,7 +123,7 @@ module _ {A : Arith} {F : Functions A.Num} {D P B E : Type 0} {plain : P → A.N
   -- ---- both inside: the potential from the powers of its lines, by orders
   module _ (in-all : (base_in b && s.inside) ≡ true) where
     in-b : base_in b ≡ true
-    in-b = and_left _ _ in-all
+    in-b = (and_parts _ _ in-all).0
 
     abbrev Powers : E → E → LinePowers D → Type 0
     Powers n m l = powers_by of l ≡ (raised b n, raised b m)
@@ -142,7 +135,7 @@ module _ {A : Arith} {F : Functions A.Num} {D P B E : Type 0} {plain : P → A.N
     ra q = ap (λ (z : A.Num × A.Num). z.1) q
 
     potential_held : potential A F p r ≡ held (after_shared A F p (scaled A (A.mul p.c p.epsilon_k) (v₂ in-b)))
-    potential_held = potential_tested in-b true (and_right _ _ in-all)
+    potential_held = potential_tested in-b true (and_parts _ _ in-all).1
 
     alone_is : held (after_shared A F p (scaled A (A.mul p.c p.epsilon_k) (v₂ in-b))).u ≡ alone (potential A F p r)
     unfolding ◌>>=◌

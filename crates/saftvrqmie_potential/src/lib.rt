@@ -2,7 +2,7 @@
 // What all radii of a pair share is worked once (`Shared`): powers of sigma, exponents, factors. At a radius its logarithm is taken once, and each power of it once.
 #![tactic(auto)]
 
-ghost use Rattle.std.specs.Prelude.{◌≡◌, ◌<◌, true, false, cond, Bool};
+ghost use Rattle.std.specs.Prelude.{◌≡◌, ◌<◌, false, Bool};
 ghost use Rattle.number.specs.Answer.{answer_by};
 ghost use Rattle.sizes.specs.Sizes.{sheet};
 ghost use Rattle.saftvrqmie_potential.specs.Potential.{PairIn, prefactor, pair_by, pair_at_entry, potential_by, first_order, second_order, quantum_d, q1, q2, u_mie, u_quantum, potential};
@@ -37,7 +37,7 @@ pub struct QMiePotential<D> {
     pub u_rr: D,
 }
 
-// One of the two terms: its exponent, its factors, sigma to its exponent, and the exponents of its lines. Fields, not an array: a generic function cannot own an array of its numbers.
+// One of the two terms: its exponent, its factors, sigma to its exponent, and the exponents of its lines. Fields, not an array: each is worked by a text of its own and read by its name.
 #[derive(Drop)]
 pub struct Term<D: DualNum> {
     pub lambda: D::Plain,
@@ -53,7 +53,7 @@ pub struct Term<D: DualNum> {
     pub e6: D::Exponent,
 }
 
-// What all radii of a pair share, and whether the exponents of its order lie within the power's domain. A flag: an Option of the exponents would say too much, as those that the order leaves out may lie outside.
+// What all radii of a pair share, and whether the exponents of its order lie within the power's domain. A flag: an Option of the exponents would say too much, as those that the order leaves out may lie outside. Sharing stands in the clause of each function that reads one: a ghost field cannot keep it, since numbers of any run need not have one proof of an equation.
 #[derive(Drop)]
 pub struct Shared<D: DualNum> {
     pub r: Term<D>,
@@ -111,6 +111,19 @@ pub fn points<D: DualNum>(p: Pair<D, f64>) -> Pair<D, D::Plain>
         order,
         temperature: p.temperature,
     }
+}
+
+// The pair at entry e in any run.
+pub fn pair_of<D: DualNum>(
+    s: &[f64; SHEETS],
+    orders: [OrderRecord; SHEET],
+    t: D,
+    e: usize,
+) -> Pair<D, D::Plain>
+    requires { e < sheet }
+    ensures { (w : Bool) → pair_by (D.plain w) (D.of w) result ≡ pair_by (D.beside w).lit (D.of w) (pair_at_entry s.now orders t e) }
+{
+    points(pair_at(s, orders, t, e))
 }
 
 // Whether the potential has a first-order correction. Arm by arm, as the second: read off the order's number, or by `matches!`, the sources compiled as Rust take 1.056 times the instructions for a table of four components of order 2.
@@ -194,13 +207,6 @@ fn both_inside<D: DualNum>(er: D::Exponent, ea: D::Exponent) -> bool
     D::exponent_inside(er) & D::exponent_inside(ea)
 }
 
-// A test that counts only where it is wanted.
-fn if_wanted(wanted: bool, test: bool) -> bool
-    ensures { result ≡ cond wanted test true }
-{
-    if wanted { test } else { true }
-}
-
 // Those of the lines that the order has.
 fn exponents_inside<D: DualNum>(order: FeynmanHibbsOrder, r: &Term<D>, a: &Term<D>) -> bool
     ensures { result ≡ exponents_inside D.exponent_in order r.now a.now }
@@ -210,7 +216,7 @@ fn exponents_inside<D: DualNum>(order: FeynmanHibbsOrder, r: &Term<D>, a: &Term<
     let mie = both_inside::<D>(r.e0, a.e0) & (both_inside::<D>(r.e1, a.e1) & at2);
     let one = at2 & (both_inside::<D>(r.e3, a.e3) & at4);
     let two = at4 & (both_inside::<D>(r.e5, a.e5) & both_inside::<D>(r.e6, a.e6));
-    mie & (if_wanted(first_order(order), one) & if_wanted(second_order(order), two))
+    mie & ((!first_order(order) | one) & (!second_order(order) | two))
 }
 
 // Refuses with 6 where sigma has no power: then no radius has a potential.
@@ -252,6 +258,7 @@ fn u_mie<D: DualNum>(s: &Shared<D>, l: LinePowers<D>) -> D
     l.rr.recip() * sr - l.ra.recip() * sa
 }
 
+// u_mie is not this at factors of 1: each product is an operation, which counts.
 fn u_quantum<D: DualNum>(s: &Shared<D>, qr: D::Plain, qa: D::Plain, l: LinePowers<D>) -> D
     ensures { (w : Bool) → D.of w result ≡ u_quantum (D.beside w) (D.plain w qr) (D.plain w qa) (D.of w l.rr) (D.plain w s.now.r.power) (D.of w l.ra) (D.plain w s.now.a.power) }
 {
@@ -410,7 +417,7 @@ pub fn u_at<D: DualNum>(s: &Shared<D>, r: D) -> Result<D, Refusal>
     Ok(after_shared(s, u2 * s.ce))
 }
 
-// `qmie_potential_ij`.
+// `qmie_potential_ij`. Called by no code here: the Rust's function, whose promise docs/WRONG-ANSWERS.md lists.
 pub fn qmie_potential<D: DualNum>(p: &Pair<D, D::Plain>, r: D) -> Result<QMiePotential<D>, Refusal>
     ensures { answer_by (potential_by (D.of false)) result ≡ potential (D.beside false) (D.functions false) (pair_by (D.plain false) (D.of false) p.now) (D.of false r) }
 {
