@@ -1,4 +1,5 @@
 // Operations of SAFT-VRQ Mie on a set: the temperature table (saftvrqmie/eos/mod.rs), and a pair's searches and diameter.
+// Operations on a pair take its indexes and the temperature one by one, as the Rust's: pair_asked and pair_at read them once.
 #![tactic(auto)]
 
 mod walk;
@@ -88,7 +89,7 @@ fn write_sheet<T: Copy>(part: &mut [T], values: &[T], from: usize)
 
 // Each sheet through its own part of the lent list.
 fn write_table(table: &mut [f64], values: &[f64; TABLE])
-    requires { (length table.old ≡ 4 * sheet) × (length values.now ≡ 4 * sheet) }
+    requires { length table.old ≡ 4 * sheet }
     ensures { table.new ≡ values.now }
 {
     write_sheet(&mut table[SIGMA_EFF..HS_DIAMETER], values, SIGMA_EFF);
@@ -98,7 +99,7 @@ fn write_table(table: &mut [f64], values: &[f64; TABLE])
 }
 
 fn write_numbers(counts: &mut [u8], numbers: &[u8; COUNTS])
-    requires { (length counts.old ≡ 3 * sheet) × (length numbers.now ≡ 3 * sheet) }
+    requires { length counts.old ≡ 3 * sheet }
     ensures { counts.new ≡ numbers.now }
 {
     write_sheet(&mut counts[SIGMA..ZERO], numbers, SIGMA);

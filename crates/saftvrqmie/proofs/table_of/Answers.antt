@@ -23,12 +23,10 @@ unfolding work_pairs work_row work_turn
 returns-then-not-all_finite c = refused_done _ _ _ (refuses_7 _ _ _ (told c.right_lists.ensures c.if-not-right_lists.false) (told c.temperature_within.ensures c.if-not-temperature_within.false) _ (held_at _ _ _ c.work_pairs.ensures c.in_ok-work_pairs.was) (told (c.all_finite.ensures (pairs_whole _ _ _ _ _ (held_at _ _ _ c.work_pairs.ensures c.in_ok-work_pairs.was)).0) c.if-not-all_finite.true))
 
 pub write_table-requires : goal.write_table-requires
-unfolding work_pairs work_row work_turn
-write_table-requires c = ((lengths _ _ _ (told c.right_lists.ensures c.if-not-right_lists.false)).first, (pairs_whole _ _ _ _ _ (held_at _ _ _ c.work_pairs.ensures c.in_ok-work_pairs.was)).0)
+write_table-requires c = (lengths _ _ _ (told c.right_lists.ensures c.if-not-right_lists.false)).first
 
 pub write_numbers-requires : goal.write_numbers-requires
-unfolding work_pairs work_row work_turn
-write_numbers-requires c = ((lengths _ _ _ (told c.right_lists.ensures c.if-not-right_lists.false)).second, (pairs_whole _ _ _ _ _ (held_at _ _ _ c.work_pairs.ensures c.in_ok-work_pairs.was)).1)
+write_numbers-requires c = (lengths _ _ _ (told c.right_lists.ensures c.if-not-right_lists.false)).second
 
 pub returns : goal.returns
 unfolding work_pairs work_row work_turn
