@@ -1,12 +1,12 @@
 // Operations of SAFT-VR Mie on a set: the components' diameters, and a pair's lower limit and diameter.
+// Operations on a pair take its indexes and the temperature one by one, as the Rust's: pair_asked and pair_at read them once.
 // n ≤ side and i < side stand plain: each bounds an index into an array of that length, and a name for one comparison would be longer.
 #![tactic(auto)]
 
-ghost use Rattle.std.specs.Prelude.{true, ◌≡◌, ◌<◌, ◌≤◌, length, Bool};
+ghost use Rattle.std.specs.Prelude.{true, ◌≡◌, ◌<◌, ◌≤◌, Bool};
 ghost use Rattle.number.specs.Answer.{answer};
-ghost use Rattle.number.specs.Lists.{at};
 ghost use Rattle.sizes.specs.Sizes.{side};
-ghost use Rattle.number.specs.Walk.{filled, walk};
+ghost use Rattle.number.specs.Walk.{walk};
 ghost use Rattle.mie_parameters.specs.Answer.{outcome, verdict, stored};
 ghost use Rattle.saftvrmie_diameter.specs.Diameter.{c_eps_t};
 ghost use Rattle.saftvrmie.specs.Diameters.{diameter_at, diameter_turn, diameters_finite, right_length, diameters};
@@ -36,8 +36,7 @@ fn work(
     ensures { outcome result d.new ≡ walk n (diameter_turn sheets.now temperature) d.old }
 {
     for i in 0usize..n {
-        let v = diameter_at(sheets, temperature, i)?;
-        d[i] = v;
+        d[i] = diameter_at(sheets, temperature, i)?;
     }
     Ok(())
 }
@@ -48,13 +47,6 @@ fn all_finite(n: usize, d: &[f64; SIDE]) -> bool
     ensures { result ≡ diameters_finite n d.now }
 {
     limits::all_finite(&d[..n])
-}
-
-fn write(n: usize, d: &[f64; SIDE], out: &mut [f64])
-    requires { (n ≤ side) × (length out.old ≡ n) }
-    ensures { out.new ≡ filled n (at d.now) out.old }
-{
-    out.copy_from_slice(&d[..n]);
 }
 
 fn right_length(n: usize, len: usize) -> bool
@@ -84,7 +76,7 @@ pub fn diameters_of(
     if !all_finite(n, &d) {
         return Err(Refusal::NotFinite);
     }
-    write(n, &d, out);
+    out.copy_from_slice(&d[..n]);
     Ok(())
 }
 

@@ -1,4 +1,5 @@
 // The diameter of a pair from its two searched radii (saftvrqmie/eos/hard_sphere.rs, `hs_diameter_ij`) in the two-ended run, and as a two-ended operation.
+// Operations on a pair take its indexes and the temperature one by one, as the Rust's: pair_asked and pair_at read them once.
 #![tactic(auto)]
 
 ghost use Rattle.std.specs.Prelude.{◌≡◌};
