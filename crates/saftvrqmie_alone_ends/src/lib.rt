@@ -16,6 +16,14 @@ use enclosure::Enclosure;
 use number::Refusal;
 use saftvrqmie_potential::{Shared, Term};
 
+// What a pair's radii share, and whether the pair is tame: asked once for all radii.
+#[derive(Drop)]
+pub struct Asked<'a> {
+    pub shared: &'a Shared<Enclosure>,
+    pub tame: bool,
+    pub ghost told: { tame ≡ tame_of shared.now },
+}
+
 // No further from zero than 2^100.
 fn within(a: f64) -> bool
     ensures { result ≡ within_of a }
@@ -52,18 +60,26 @@ fn is_tame_term(t: &Term<Enclosure>) -> bool
     factors & upto3 & plain(t.e4) & plain(t.e5) & plain(t.e6)
 }
 
-// Exponents, powers of sigma and factors so small that no derivative leaves the floats. Once a pair.
-pub fn is_tame(s: &Shared<Enclosure>) -> bool
+// Exponents, powers of sigma and factors so small that no derivative leaves the floats.
+fn is_tame(s: &Shared<Enclosure>) -> bool
     ensures { result ≡ tame_of s.now }
 {
     is_tame_term(&s.r) & is_tame_term(&s.a) & small(s.d) & small(s.d2) & small(s.ce)
 }
 
-// u after both derivatives, which are worked where they may be unsound. tame is `is_tame` of s, asked once for all radii of a pair; a struct of the two would say this clause of its fields, for one call.
-pub fn u_after(s: &Shared<Enclosure>, tame: bool, r: Enclosure) -> Result<Enclosure, Refusal>
-    ensures { (p : PairIn Enclosure) → EnclosureSharing p s.now → tame ≡ tame_of s.now → answer result ≡ u_after (potential enclosures (calls enclosures port) p r) }
+pub fn ask<'a>(s: &'a Shared<Enclosure>) -> Asked<'a>
+    ensures { result.shared.now ≡ s.now }
 {
-    if tame & above_one(r.value) {
+    let tame = is_tame(s);
+    Asked { shared: s, tame }
+}
+
+// u after both derivatives, which are worked where they may be unsound.
+pub fn u_after(a: &Asked, r: Enclosure) -> Result<Enclosure, Refusal>
+    ensures { (p : PairIn Enclosure) → EnclosureSharing p a.now.shared.now → answer result ≡ u_after (potential enclosures (calls enclosures port) p r) }
+{
+    let s = a.shared;
+    if a.tame & above_one(r.value) {
         return saftvrqmie_potential::u_at(s, r);
     }
     let v = saftvrqmie_potential::potential_at(s, r)?;

@@ -18,7 +18,7 @@ use saftvrqmie_potential::Pair;
 use saftvrqmie_searches::rule::{abscissa, weight};
 use sizes::SIDE;
 
-// From the searched radii. At each node both derivatives of the potential count, whether worked or not. One text with `diameter_by` would be no shorter: what u_after takes beside u_at, a pair's flag, would be three members of a trait in each run (its type, its test, u by it), for a loop of eight lines.
+// From the searched radii. At each node both derivatives of the potential count, whether worked or not. One text with `diameter_by` would be no shorter: what u_after takes where u_at takes a Shared would be three members of a trait in each run (its type, how it is asked, u by it), for a loop of eight lines.
 pub fn hs_diameter(
     p: Pair<Enclosure, Enclosure>,
     sigma_eff: Enclosure,
@@ -27,7 +27,7 @@ pub fn hs_diameter(
     ensures { answer result ≡ diameter enclosures (calls enclosures port) (pair_of p) sigma_eff r0 }
 {
     let s = saftvrqmie_potential::share(&p)?;
-    let tame = saftvrqmie_alone_ends::is_tame(&s);
+    let asked = saftvrqmie_alone_ends::ask(&s);
     let one = Enclosure::point(1.0);
     let half = Enclosure::point(0.5);
     let width = (sigma_eff - r0) * half;
@@ -35,7 +35,7 @@ pub fn hs_diameter(
     // By index: `abscissa` and `weight` are asked at one, of two tables.
     for k in 0usize..21usize {
         let r = width * abscissa::<Enclosure>(k) + width + r0;
-        let u = saftvrqmie_alone_ends::u_after(&s, tame, r)?;
+        let u = saftvrqmie_alone_ends::u_after(&asked, r)?;
         let e = elementary_ends::exp(-u / p.temperature)?;
         let f_u = -e + one;
         let part = width * f_u * weight::<Enclosure>(k);
