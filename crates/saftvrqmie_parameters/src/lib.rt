@@ -208,19 +208,16 @@ impl From<u8> for FeynmanHibbsOrder {
 }
 
 // By index: an entry is of a pair, and rows of the sheet are longer than the list.
-fn orders_row(s: [OrderRecord; SHEET], fh: &[u8], i: usize) -> [OrderRecord; SHEET]
+fn orders_row(orders: &mut [OrderRecord; SHEET], fh: &[u8], i: usize)
     requires { (length fh.now ≤ side) × (i < length fh.now) }
-    ensures { result ≡ orders_row (length fh.now) fh.now i s }
+    ensures { orders.new ≡ orders_row (length fh.now) fh.now i orders.old }
 {
-    let mut orders = s;
     for j in 0usize..fh.len() {
         let order = FeynmanHibbsOrder::from(fh[i].max(fh[j]));
         orders[SIDE * i + j] = OrderRecord { order };
     }
-    orders
 }
 
-// `next`, as the check covers no call whose result is laid in a local that holds an array.
 fn orders_of(fh: &[u8]) -> [OrderRecord; SHEET]
     requires { length fh.now ≤ side }
     ensures { result ≡ orders_of (length fh.now) fh.now }
@@ -229,8 +226,7 @@ fn orders_of(fh: &[u8]) -> [OrderRecord; SHEET]
         order: FeynmanHibbsOrder::FH0,
     }; SHEET];
     for i in 0usize..fh.len() {
-        let next = orders_row(orders, fh, i);
-        orders = next;
+        orders_row(&mut orders, fh, i);
     }
     orders
 }

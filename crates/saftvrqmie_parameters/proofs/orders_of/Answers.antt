@@ -8,7 +8,7 @@ pub loop-i-init : goal.loop-i-init
 loop-i-init c = (search rules, turns_none _ _)
 
 pub loop-i-preserved : goal.loop-i-preserved
-loop-i-preserved c = (search rules, turns_next _ _ _ _ _ c.loop-i.invariant.1 c.orders_row-next.ensures)
+loop-i-preserved c = (search rules, turns_next _ _ _ _ _ c.loop-i.invariant.1 c.orders_row.ensures)
 
 pub returns : goal.returns
 unfolding orders_of
