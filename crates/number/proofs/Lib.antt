@@ -11,6 +11,7 @@ pub mod Neighbour
 pub mod Between
 pub mod Power
 pub mod Walk
+pub mod Turns
 pub mod Every
 pub mod Rel
 pub mod Absolute
