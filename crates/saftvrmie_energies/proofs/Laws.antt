@@ -1,5 +1,5 @@
 -- Laws of the operation, test by test. Assumes nothing.
-use Prim.Native.Nat.{ℕ, ◌≤◌, ◌+◌, ◌-◌}
+use Prim.Native.Nat.{ℕ, ◌≤◌}
 use native.Mathlib.Omega.{arith}
 use lib.Dec.{eqb}
 use lib.Ieee.{Float}
@@ -20,16 +20,6 @@ use Rattle.limits.specs.Limits.{count_within, state_within}
 use Rattle.mie_parameters.proofs.Laws.{and_left, and_right, count_high}
 use Rattle.saftvrmie_parameters.specs.declared.SaftVRMiePars.{SaftVRMiePars}
 use Rattle.saftvrmie_energies.specs.Energies.{state_lengths, energy_run, energy_by, energy}
-
--- ---- a turn of a loop that begins at i, counted from 0
-pub of_none : (i : ℕ) → i - i ≡ 0
-of_none i = omega arith
-
-pub from_start : (i j : ℕ) → i ≤ j → j ≡ i + (j - i)
-from_start i j p = omega (arith, p)
-
-pub from_next : (i j : ℕ) → i ≤ j → j + 1 - i ≡ (j - i) + 1
-from_next i j p = omega (arith, p)
 
 -- ---- 1 at last: the lists are as long as the count
 module _ (n x rho d : ℕ) (p : state_lengths n x rho d ≡ true) where

@@ -83,7 +83,7 @@ fn helmholtz_energy_density_disp_chain<S: ChainNum>(
 
 // ---- the operation
 
-// With or without chain, in any run; xs is room: a run of any numbers has no array of its own.
+// With or without chain, in any run; xs is room: a run of any numbers cannot lend an array of its own, whose size below 2^63 bytes is known only where it is among the parameters or is the result.
 pub fn energy_run<S: ChainNum>(
     s: &State,
     chain: bool,

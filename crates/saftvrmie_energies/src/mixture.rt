@@ -6,7 +6,7 @@ ghost use Rattle.saftvrmie_energies.specs.Reads.{Right};
 use crate::set::State;
 use saftvrmie_dispersion::Fluid;
 
-// A state that was tested, its segment fractions and its fluid. xs is a slice, since a generic struct has no array of its numbers; what the sums read of zeta_x_bar stands beside it, since the chain has it with what its components share.
+// A state that was tested, its segment fractions and its fluid. xs is a slice: of a field `&[D; SIDE]` that is lent on it is not proved that 8 times the size of a D is below 2^63 (goal `shared_whole_as_slice`). What the sums read of zeta_x_bar stands beside it: the chain has it with what its components share, and `returns` of chain_row would want that the two are one.
 #[derive(Drop)]
 pub struct Mixture<'a, D> {
     pub state: &'a State<'a, 'a>,

@@ -9,6 +9,7 @@ ghost use Rattle.saftvrmie_energies.specs.Properties.{total, xs_of, d_ij, d3_ij,
 ghost use Rattle.saftvrmie_energies.specs.Reads.{entries, pairs, read, Cubes, properties_by, state_of, Right};
 
 use crate::set::State;
+use dual_num::item;
 use number::{Arithmetic, Refusal};
 use plain_num::PlainNum;
 use saftvrmie_dispersion::KValues;
@@ -32,7 +33,7 @@ pub fn total<D: PlainNum>(v: &[f64]) -> D
     s
 }
 
-// The hard sphere's segment_density begins at a number taken as a D and reads entries that may have slopes; of a plain list it would take empty slopes and the length beside it.
+// The hard sphere's segment_density begins at a number taken as a D and reads entries that may have slopes; of a plain list it would take empty slopes and the length beside it, and PlainNum would need two laws more: that such a list has its entries, and what `entry` reads there.
 pub fn weighted<D: PlainNum>(v: &[f64], m: &[f64; SIDE]) -> D
     requires { length v.now ≤ side }
     ensures { (w : Bool) → D.of w result ≡ weighted (D.beside w) (length v.now) (entries (D.beside w) v.now) (entries (D.beside w) m.now) }
@@ -55,14 +56,6 @@ pub fn xs_of<D: PlainNum>(x: &[f64], m: &[f64; SIDE], mean: D) -> [D; SIDE]
         xs[i] = p;
     }
     xs
-}
-
-// Entry i of a run's own list.
-pub fn component<D: PlainNum>(xs: &[D], i: usize) -> D
-    requires { i < length xs.now }
-    ensures { (w : Bool) → D.of w result ≡ read (D.beside w) (D.of w) xs.now i }
-{
-    xs[i]
 }
 
 pub fn d_ij<D: PlainNum>(d: &[f64], i: usize, j: usize) -> D
@@ -99,11 +92,11 @@ fn zeta_row<D: PlainNum, F: Fn(usize, usize) -> D>(
     ensures { (w : Bool) (c : ℕ → ℕ → (D.beside w).Num) → Cubes n (D.of w) (F.post cube.now) c
         → D.of w result ≡ zeta_row (D.beside w) n (read (D.beside w) (D.of w) xs.now) c i (D.of w start) }
 {
-    let xi = component(xs, i);
+    let xi = item(xs, i);
     let two = D::Plain::lit(2.0);
     let mut s = start + xi.square() * cube(i, i);
     for j in i + 1..n {
-        s = s + xi * component(xs, j) * cube(i, j) * two;
+        s = s + xi * item(xs, j) * cube(i, j) * two;
     }
     s
 }

@@ -11,8 +11,9 @@ ghost use Rattle.saftvrmie_energies.specs.Reads.{Rows};
 ghost use Rattle.saftvrmie_energies.specs.Sums.{turn_of, pairs_of, row_of, rows_of, chain_row_of, chain_rows_of};
 
 use crate::mixture::Mixture;
-use crate::properties::{component, d_ij};
+use crate::properties::d_ij;
 use crate::set::pure_at;
+use dual_num::item;
 use number::Refusal;
 use plain_num::PlainNum;
 use saftvrmie_dispersion::{Bar, ChainNum, ChainState, Link, Sums};
@@ -33,7 +34,7 @@ fn pair_turn<D: PlainNum>(
     let p = pair_at(s.set.sheets, i, j);
     let d = d_ij::<D>(s.diameters, i, j);
     let t = saftvrmie_dispersion::pair_terms(*m.fluid, *bar, p, d)?;
-    Ok(saftvrmie_dispersion::add_pair(component(m.xs, i), component(m.xs, j), t, sum))
+    Ok(saftvrmie_dispersion::add_pair(item(m.xs, i), item(m.xs, j), t, sum))
 }
 
 // The pairs (i, j) with j > i.
@@ -69,7 +70,7 @@ fn disp_row<D: PlainNum>(
     let p = pure_at(&s.set, i);
     let d = D::entered(s.diameters[i]);
     let t = saftvrmie_dispersion::pair_terms(*m.fluid, *bar, p, d)?;
-    let next = saftvrmie_dispersion::add_pure(component(m.xs, i), t, sum);
+    let next = saftvrmie_dispersion::add_pure(item(m.xs, i), t, sum);
     pair_row(m, bar, i, next)
 }
 
@@ -129,7 +130,7 @@ fn chain_row<S: ChainNum>(
         fraction: S::Re::entered(s.fractions[i]),
         t_inv,
     };
-    let xi = component(m.xs, i);
+    let xi = item(m.xs, i);
     let d = S::Re::entered(s.diameters[i]);
     let next = saftvrmie_dispersion::chain_pure(chain, p, d, link, xi, sum)?;
     pair_row(m, &chain.bar, i, next)

@@ -12,4 +12,4 @@ returns-in_err-t g c w = rw (handed_on _ c.from_residual.ensures, via (answer_by
 
 pub returns : goal.returns
 unfolding disp_row ◌>>=◌
-returns g c w = rw (via (answer_by (terms_by (g.D.DualNum.of w))) (rw (c.pure_at-p.ensures, c.entered-d.ensures w) at (c.pair_terms.ensures w)) c.in_ok-t.was, c.pair_row.ensures w, c.add_pure-next.ensures w, c.component.ensures w)
+returns g c w = rw (via (answer_by (terms_by (g.D.DualNum.of w))) (rw (c.pure_at-p.ensures, c.entered-d.ensures w) at (c.pair_terms.ensures w)) c.in_ok-t.was, c.pair_row.ensures w, c.add_pure-next.ensures w, c.item.ensures w)

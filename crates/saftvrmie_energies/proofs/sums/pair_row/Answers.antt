@@ -6,7 +6,7 @@ use Rattle.number.specs.Answer.{answer_by}
 use Rattle.number.proofs.Walk.{via, walk_none, walk_next, walk_stop, walk_end, handed_on}
 use Rattle.saftvrmie_dispersion.specs.Answer.{sums_by}
 use Rattle.saftvrmie_energies.specs.Dispersion.{pair_row}
-use Rattle.saftvrmie_energies.proofs.Laws.{of_none, from_start, from_next}
+use Rattle.number.proofs.Turns.{of_none, from_start, from_next}
 use Rattle.saftvrmie_energies.proofs.sums.pair_row.Goals as goal
 
 pub loop-j-init : goal.loop-j-init

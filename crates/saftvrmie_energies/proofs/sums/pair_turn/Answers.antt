@@ -12,4 +12,4 @@ returns-in_err-t g c w = rw (handed_on _ c.from_residual.ensures, via (answer_by
 
 pub returns : goal.returns
 unfolding pair_turn ◌>>=◌
-returns g c w = rw (via (answer_by (terms_by (g.D.DualNum.of w))) (rw (c.pair_at-p.ensures, c.d_ij-d.ensures w) at (c.pair_terms.ensures w)) c.in_ok-t.was, c.add_pair.ensures w, c.component.ensures w, c.component-2.ensures w)
+returns g c w = rw (via (answer_by (terms_by (g.D.DualNum.of w))) (rw (c.pair_at-p.ensures, c.d_ij-d.ensures w) at (c.pair_terms.ensures w)) c.in_ok-t.was, c.add_pair.ensures w, c.item.ensures w, c.item-2.ensures w)
