@@ -2,7 +2,9 @@
 use Prim.Native.Nat.{ℕ, zero, suc, ◌+◌, ◌-◌, ◌*◌, ◌≤◌, ◌<◌}
 use Rattle.std.specs.Prelude.{Err, Ok, Result, None, Some}
 use Rattle.std.specs.Prelude as Std
+use Rattle.std.specs.Prelude.{ok_or}
 use Rattle.number.specs.declared.refusal.Refusal.{Refusal}
+use Rattle.number.specs.declared.refusal.Refusal.TheVariants.{Occupied}
 use Rattle.number.specs.Answer.{code}
 use native.Mathlib.Omega.{arith}
 use mathlib.Core.Path.{◌≡◌, refl, sym, ap, ◌∙◌, subst}
@@ -66,6 +68,15 @@ is_none s h = by (eqb s places) refl h
     by : (t : Bool) → eqb s places ≡ t → ◌≡◌ {A = Std.Option ℕ} None (cond t None (Some s)) → s ≡ places
     by true e h = eqb-true s places e
     by false e h = let z : ◌≡◌ {A = ℕ} 0 1 = cc in absurd (omega arith)
+
+-- what `ok_or` makes of it
+pub none_told : (o : Std.Option ℕ) {e : Refusal} → ◌≡◌ {A = Result ℕ Refusal} (ok_or o Occupied) (Err e) → (o ≡ None) × (e ≡ Occupied)
+none_told None h = (refl, cc)
+none_told (Some k) h = let z : ◌≡◌ {A = ℕ} 0 1 = cc in absurd (omega arith)
+
+pub some_told : (o : Std.Option ℕ) {k : ℕ} → ◌≡◌ {A = Result ℕ Refusal} (ok_or o Occupied) (Ok k) → o ≡ Some k
+some_told None h = let z : ◌≡◌ {A = ℕ} 0 1 = cc in absurd (omega arith)
+some_told (Some j) {k} h = let e : j ≡ k = cc in ap Some e
 
 -- what the search ends at, where it ends at a place
 pub seek_passes : (test : ℕ → Bool) (n p : ℕ) → (seek n test p ≡ places → ⊥) → test (seek n test p) ≡ true

@@ -81,7 +81,7 @@ pub fn begin(floats: &mut [f64], bytes: &mut [u8]) -> Result<(), Refusal>
         return Err(Refusal::Length);
     }
     bytes.fill(0);
-    bytes[LAST_AT] = 15;
+    bytes[LAST_AT] = (PLACES - 1) as u8;
     Ok(())
 }
 
@@ -143,9 +143,7 @@ pub fn submit(floats: &mut [f64], bytes: &mut [u8], q: &DeskQuery) -> Result<usi
         return Err(Refusal::Length);
     }
     door(q)?;
-    let Some(k) = seek(|k| !occupied(bytes, k), 0) else {
-        return Err(Refusal::Occupied);
-    };
+    let k = seek(|k| !occupied(bytes, k), 0).ok_or(Refusal::Occupied)?;
     enter(floats, bytes, k, q);
     Ok(k)
 }
