@@ -12,6 +12,7 @@ pub use crate::written::{write_mie, write_quantum};
 use number::Refusal;
 use saftvrmie_parameters::SaftVRMiePars;
 use saftvrqmie_parameters::{FeynmanHibbsOrder, OrderRecord, SaftVRQMiePars};
+use sizes::mie_lists::{EPSILON_K, LA, LR, M, SIGMA};
 use sizes::{LISTS, SHEET, SHEETS, SIDE};
 use std::array;
 
@@ -126,11 +127,11 @@ pub fn mie_set(s: &MieSet) -> SaftVRMiePars
     requires { mie_lengths s.now.lists.now s.now.sheets.now ≡ true }
     ensures { result ≡ mie_read (mie_lists s.now) }
 {
-    let m = places(s.lists, 0);
-    let sigma = places(s.lists, SIDE);
-    let epsilon_k = places(s.lists, 2 * SIDE);
-    let lr = places(s.lists, 3 * SIDE);
-    let la = places(s.lists, 4 * SIDE);
+    let m = places(s.lists, M);
+    let sigma = places(s.lists, SIGMA);
+    let epsilon_k = places(s.lists, EPSILON_K);
+    let lr = places(s.lists, LR);
+    let la = places(s.lists, LA);
     let sheets = flat(s.sheets);
     SaftVRMiePars {
         count: s.count,

@@ -7,7 +7,8 @@ ghost use Rattle.set_lists.specs.Written.{QuantumLent, MieLent, placed, orders_w
 
 use saftvrmie_parameters::SaftVRMiePars;
 use saftvrqmie_parameters::{FeynmanHibbsOrder, OrderRecord, SaftVRQMiePars};
-use sizes::{SHEET, SIDE};
+use sizes::SHEET;
+use sizes::mie_lists::{EPSILON_K, LA, LR, M, SIGMA};
 
 // Numbers of a set into their places of a list, which has them.
 fn write(d: &[f64], l: &mut [f64], to: usize)
@@ -42,11 +43,11 @@ fn write_lists(set: SaftVRMiePars, lists: &mut [f64])
     let epsilon_k = set.epsilon_k;
     let lr = set.lr;
     let la = set.la;
-    write(&m, lists, 0);
-    write(&sigma, lists, SIDE);
-    write(&epsilon_k, lists, 2 * SIDE);
-    write(&lr, lists, 3 * SIDE);
-    write(&la, lists, 4 * SIDE);
+    write(&m, lists, M);
+    write(&sigma, lists, SIGMA);
+    write(&epsilon_k, lists, EPSILON_K);
+    write(&lr, lists, LR);
+    write(&la, lists, LA);
 }
 
 // A quantum set into lists whose lengths were tested.

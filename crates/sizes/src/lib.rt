@@ -2,6 +2,7 @@
 #![tactic(auto)]
 
 pub mod counts;
+pub mod mie_lists;
 pub mod mie_set;
 pub mod quantum_set;
 pub mod table;
