@@ -1,5 +1,6 @@
 // A place of the desk: a query comes in, a pair is read and stored where it lies, the energies are worked from the whole table.
 // Its floats and bytes are two lists, as the desk's are at the C boundary. A struct of both would be no plainer: of one that holds a `&mut`, clauses say what is left as `p.exit.0.now` and `p.exit.1.0.now`.
+// n ≤ side and e < sheet stand plain: each bounds one number, and a name for it would be no shorter.
 #![tactic(auto)]
 
 ghost use Rattle.std.specs.Prelude.{◌≡◌, ◌++◌, [], ◌+◌, ◌*◌, ◌<◌, ◌≤◌, length, get_or, drop};

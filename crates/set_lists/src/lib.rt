@@ -1,4 +1,5 @@
 // A set as it crosses the C boundary, as its count and lists: the tests for 1 and 4, the set that the lists hold, and a set written into them.
+// n ≤ side and i < n stand plain: each bounds one number, and a name for it would be no shorter.
 #![tactic(auto)]
 
 mod written;
