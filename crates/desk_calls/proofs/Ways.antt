@@ -34,21 +34,10 @@ entered_is : (l m : Lists) (p k : ℕ) → l ≡ m → p ≡ k → ◌≡◌ {A 
 entered_is l m p k e f = rw (e, f)
 
 module _ (l m : Lists) (p : ℕ) where
-  pub submit_refused : (a : Ans (Entered Lists)) (n : ℕ) → place_told a ≡ refused n → m ≡ entered_of l a → (n ≡ status a) × (record { desk = m; place = p } ≡ stored (record { desk = l; place = p }) a)
-  unfolding place_told entered_of status verdict stored
-  submit_refused (held e) n h d = let z : ◌≡◌ {A = ℕ} 0 1 = cc in absurd (omega arith)
-  submit_refused (refused k) n h d = (same h, entered_is m l p p d refl)
-    where
-      same : ◌≡◌ {A = Ans ℕ} (refused k) (refused n) → n ≡ k
-      same h = cc
-
-  pub submit_held : (a : Ans (Entered Lists)) (k : ℕ) → place_told a ≡ held k → m ≡ entered_of l a → (0 ≡ status a) × (record { desk = m; place = k } ≡ stored (record { desk = l; place = p }) a)
-  unfolding place_told entered_of status verdict stored
-  submit_held (held e) k h d = (refl, entered_is m e.desk k e.place d (same e.place h))
-    where
-      same : (j : ℕ) → ◌≡◌ {A = Ans ℕ} (held j) (held k) → k ≡ j
-      same j h = cc
-  submit_held (refused n) k h d = let z : ◌≡◌ {A = ℕ} 0 1 = cc in absurd (omega arith)
+  pub submit_is : (a : Ans (Entered Lists)) (b : Ans ℕ) (n k : ℕ) → b ≡ place_told a → m ≡ entered_of l a → (n ≡ status b) × (k ≡ stored p b) → (n ≡ status a) × (record { desk = m; place = k } ≡ stored (record { desk = l; place = p }) a)
+  unfolding place_told entered_of status stored
+  submit_is (held e) b n k h d (s, t) = (s ∙ ap status h, entered_is m e.desk k e.place d (t ∙ ap (stored p) h))
+  submit_is (refused r) b n k h d (s, t) = (s ∙ ap status h, entered_is m l k p d (t ∙ ap (stored p) h))
 
 -- ---- a finished query's answer
 

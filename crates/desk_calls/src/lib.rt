@@ -29,13 +29,7 @@ pub fn submit(floats: &mut [f64], bytes: &mut [u8], query: &DeskQuery, place: &m
         (result ≡ status a) × (record { desk = record { floats = floats.exit.now; bytes = bytes.new }; place = place.new } ≡ stored l a) }
 {
     let answer = desk::submit(floats, bytes, query);
-    match answer {
-        Err(r) => r.code(),
-        Ok(k) => {
-            *place = k;
-            0
-        }
-    }
+    mie_parameters::deliver(answer, place)
 }
 
 // The answer of a finished query: its number, and energies where it is 0.

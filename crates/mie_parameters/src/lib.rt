@@ -9,7 +9,7 @@ ghost use Rattle.elementary.specs.Port.{port};
 ghost use Rattle.number.specs.Lists.{at};
 ghost use Rattle.sizes.specs.Sizes.{side};
 ghost use Rattle.mie_parameters.specs.Combine.{epsilon_k_ij, lambda_ij, c_ij};
-ghost use Rattle.mie_parameters.specs.Answer.{number_of};
+ghost use Rattle.mie_parameters.specs.Answer.{number_of, status, stored};
 ghost use Rattle.mie_parameters.specs.Places.{in_places};
 
 pub mod set;
@@ -50,6 +50,19 @@ pub fn number(a: Result<(), Refusal>) -> u8
     match a {
         Ok(()) => 0,
         Err(r) => r.code(),
+    }
+}
+
+// An answer with a value likewise: the value goes into the place that the call lends.
+pub fn deliver<T: Copy>(a: Result<T, Refusal>, out: &mut T) -> u8
+    ensures { (result ≡ status (answer a)) × (out.new ≡ stored out.old (answer a)) }
+{
+    match a {
+        Err(r) => r.code(),
+        Ok(v) => {
+            *out = v;
+            0
+        }
     }
 }
 
