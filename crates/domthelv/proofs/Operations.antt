@@ -2,8 +2,9 @@
 use Prim.Native.Nat.{ℕ, ◌*◌}
 use Rattle.std.specs.Prelude.{Err, Ok, Result}
 use Rattle.std.specs.Result.{ForOk, IsOkAnd, MatchResult, is_ok}
-use Rattle.number.specs.Answer.{answer, answer_by}
+use Rattle.number.specs.Answer.{answer, answer_by, code}
 use Rattle.number.specs.declared.refusal.Refusal.{Refusal}
+use native.Mathlib.Omega.{arith}
 use lib.Dec.{eqb}
 use lib.Ieee.{Float}
 use lib.ListN.{length}
@@ -37,7 +38,7 @@ use Rattle.saftvrmie_energies_ends.specs.Operation.{dispersion_ends}
 use Rattle.saftvrmie_diameter_ends.specs.Operations as MieDiameter
 use Rattle.set_lists.specs.Sets.{QuantumLists, taken, quantum_lengths, quantum_set, MieLists, mie_lengths, mie_read, mie_set}
 use Rattle.set_lists.specs.Written.{QuantumLent, MieLent, set_written, mie_written}
-use Rattle.domthelv.specs.Asked.{energies_asked, ends_asked, radii_asked, diameter_ends_asked}
+use Rattle.domthelv.specs.Asked.{energies_asked, ends_asked, radii_asked, diameter_ends_asked, Worked}
 use Rattle.domthelv.specs.Operations.{counts_written, order_counts_out, vrq_parameters, vrq_table, radii_lengths, radii_written, vrq_radii, energies_written, vrq_energies, ends_written, vrq_energies_ends, pair_written, vrq_diameter, vrq_diameter_ends, vrq_stage, vr_parameters, vr_diameters, vr_radius, vr_diameter, vr_dispersion, vr_dispersion_ends, vr_diameter_ends}
 
 -- `outcome` of an operation that leaves nothing behind
@@ -92,6 +93,13 @@ pub bind_bind : {R S T : Type 0} (a : Ans R) (f : R → Ans S) (g : S → Ans T)
 unfolding ◌>>=◌
 bind_bind (held x) f g = refl
 bind_bind (refused k) f g = refl
+
+-- what is worked of a set, where it is what f gives of each
+pub worked_is : {S T N : Type 0} (of : T → N) (a : Ans S) (W : S → Result T Refusal → Type 0) (f : S → Ans N) (r : Result T Refusal) → Worked a W r → ((s : S) → W s r → answer_by of r ≡ f s) → answer_by of r ≡ (a >>= f)
+unfolding ◌>>=◌
+worked_is of (held s) W f r p h = h s p
+worked_is of (refused n) W f (Ok x) p h = let z : ◌≡◌ {A = ℕ} 0 1 = cc in absurd (omega arith)
+worked_is of (refused n) W f (Err e) p h = let q : ◌≡◌ {A = ℕ} (code e) n = cc in ap (λ (k : ℕ). refused k) q
 
 pub refused_verdict : {S : Type 0} (q : Ans S) (n : ℕ) → q ≡ refused n → refused n ≡ verdict q
 unfolding verdict
@@ -245,21 +253,13 @@ module _ (s : MieLists) where
   diameters_from t l y p e = rw (p, e)
 
   module _ (i j : ℕ) (t : Float) where
-    pub radius_refused : (k : ℕ) → mie_set s ≡ refused k → vr_radius s i j t ≡ refused k
-    unfolding vr_radius ◌>>=◌
-    radius_refused k p = rw p
+    pub radius_is : (r : Result Float Refusal) → answer_by (λ x. x) r ≡ (mie_set s >>= λ p. radius_ij p i j t) → answer r ≡ vr_radius s i j t
+    unfolding vr_radius
+    radius_is r e = sym (by_self r) ∙ e
 
-    pub radius_is : (x : SaftVRMiePars) → mie_set s ≡ held x → vr_radius s i j t ≡ radius_ij x i j t
-    unfolding vr_radius ◌>>=◌
-    radius_is x p = rw p
-
-    pub mie_diameter_refused : (r0 : Float) (k : ℕ) → mie_set s ≡ refused k → vr_diameter s i j t r0 ≡ refused k
-    unfolding vr_diameter ◌>>=◌
-    mie_diameter_refused r0 k p = rw p
-
-    pub mie_diameter_is : (r0 : Float) (x : SaftVRMiePars) → mie_set s ≡ held x → vr_diameter s i j t r0 ≡ diameter_ij x i j t r0
-    unfolding vr_diameter ◌>>=◌
-    mie_diameter_is r0 x p = rw p
+    pub mie_diameter_is : (r0 : Float) (r : Result Float Refusal) → answer_by (λ x. x) r ≡ (mie_set s >>= λ p. diameter_ij p i j t r0) → answer r ≡ vr_diameter s i j t r0
+    unfolding vr_diameter
+    mie_diameter_is r0 r e = sym (by_self r) ∙ e
 
   module _ (t : Float) (x rho d : List Float) (chain : Bool) where
     pub dispersion_refused : (k : ℕ) → mie_set s ≡ refused k → vr_dispersion s t x rho d chain ≡ refused k
@@ -275,25 +275,15 @@ module _ (s : MieLists) where
       unfolding vr_dispersion_ends demand ◌>>=◌
       mie_dispersion_ends_1 p = rw p
 
-      module _ (p : eqb (length l) 2 ≡ true) where
-        pub mie_dispersion_ends_set : (k : ℕ) → mie_set s ≡ refused k → vr_dispersion_ends s t x rho d chain l ≡ refused k
-        unfolding vr_dispersion_ends demand ◌>>=◌
-        mie_dispersion_ends_set k q = rw (p, q)
-
-        pub mie_dispersion_ends_is : (y : SaftVRMiePars) → mie_set s ≡ held y → vr_dispersion_ends s t x rho d chain l ≡ (dispersion_ends port y t x rho d chain >>= λ e. held (pair_written e l))
-        unfolding vr_dispersion_ends demand ◌>>=◌
-        mie_dispersion_ends_is y q = rw (p, q)
+      pub mie_dispersion_ends_is : eqb (length l) 2 ≡ true → vr_dispersion_ends s t x rho d chain l ≡ ((mie_set s >>= λ p. dispersion_ends port p t x rho d chain) >>= λ e. held (pair_written e l))
+      unfolding vr_dispersion_ends demand ◌>>=◌
+      mie_dispersion_ends_is p = rw p (sym (bind_bind (mie_set s) (λ p. dispersion_ends port p t x rho d chain) (λ e. held (pair_written e l))))
 
   module _ (i j : ℕ) (t r0 : Float) (l : List Float) where
     pub mie_diameter_ends_1 : eqb (length l) 2 ≡ false → vr_diameter_ends s i j t r0 l ≡ refused 1
     unfolding vr_diameter_ends demand ◌>>=◌
     mie_diameter_ends_1 p = rw p
 
-    module _ (p : eqb (length l) 2 ≡ true) where
-      pub mie_diameter_ends_set : (k : ℕ) → mie_set s ≡ refused k → vr_diameter_ends s i j t r0 l ≡ refused k
-      unfolding vr_diameter_ends demand ◌>>=◌
-      mie_diameter_ends_set k q = rw (p, q)
-
-      pub mie_diameter_ends_is : (x : SaftVRMiePars) → mie_set s ≡ held x → vr_diameter_ends s i j t r0 l ≡ (MieDiameter.diameter_ends port x i j t r0 >>= λ e. held (pair_written e l))
-      unfolding vr_diameter_ends demand ◌>>=◌
-      mie_diameter_ends_is x q = rw (p, q)
+    pub mie_diameter_ends_is : eqb (length l) 2 ≡ true → vr_diameter_ends s i j t r0 l ≡ ((mie_set s >>= λ p. MieDiameter.diameter_ends port p i j t r0) >>= λ e. held (pair_written e l))
+    unfolding vr_diameter_ends demand ◌>>=◌
+    mie_diameter_ends_is p = rw p (sym (bind_bind (mie_set s) (λ p. MieDiameter.diameter_ends port p i j t r0) (λ e. held (pair_written e l))))

@@ -1,6 +1,8 @@
 -- What a call asks of a set that crosses as its lists, before it writes the answer. 1, 4, then the operation's refusals.
-use Rattle.std.specs.Prelude.{ℕ, Float, List, Bool}
-use Rattle.number.specs.Ans.{Ans, ◌>>=◌}
+use Rattle.std.specs.Prelude.{◌≡◌, ℕ, Float, List, Bool, Result}
+use Rattle.number.specs.declared.refusal.Refusal.{Refusal}
+use Rattle.number.specs.Ans.{Ans, held, refused, ◌>>=◌}
+use Rattle.number.specs.Answer.{answer}
 use Rattle.elementary.specs.Port.{port}
 use Rattle.enclosure.specs.declared.Ends.{Ends}
 use Rattle.limits.specs.Limits.{index_within}
@@ -26,3 +28,8 @@ radii_asked s i j t = quantum_set (index_within s.count i j) s >>= λ p. radii_i
 
 abbrev pub diameter_ends_asked : QuantumLists → ℕ → ℕ → Float → Float → Float → Ans Ends
 diameter_ends_asked s i j t sigma_eff r0 = quantum_set (index_within s.count i j) s >>= λ p. diameter_ends port p i j t sigma_eff r0
+
+-- the result r of what W says is worked of a set, or the set's own refusal
+abbrev pub Worked : {S T : Type 0} → Ans S → (S → Result T Refusal → Type 0) → Result T Refusal → Type 0
+Worked (held s) W r = W s r
+Worked (refused n) W r = answer r ≡ refused n

@@ -8,12 +8,13 @@ ghost use Rattle.domthelv.specs.Asked.{ends_asked, diameter_ends_asked};
 ghost use Rattle.saftvrqmie_energies.specs.Energies.{energies_in, energies_answer};
 
 use crate::functions::deliver_list;
+use crate::mie::of_set;
 use crate::quantum::{lent_set, pair_set};
 use enclosure::Ends;
 use number::Refusal;
 use saftvrqmie_energies::StateLists;
 use saftvrqmie_energies_ends::EnergiesEnds;
-use set_lists::{MieSet, QuantumSet};
+use set_lists::QuantumSet;
 
 // What the definition writes into a list of as many places.
 pub fn ends_list(e: EnergiesEnds) -> [f64; 6]
@@ -141,23 +142,16 @@ pub fn domthelv_vr_dispersion_ends(
     if out.len() != 2 {
         return Refusal::Length.code();
     }
-    if !set_lists::mie_lengths(lists, sheets) {
-        return Refusal::Length.code();
-    }
-    let lent = MieSet {
-        count,
-        lists,
-        sheets,
-    };
-    let set = set_lists::mie_set(&lent);
-    let state = saftvrmie_energies::State {
-        set: saftvrmie_energies::Set::from(&set),
-        temperature,
-        fractions,
-        densities,
-        diameters,
-    };
-    let worked = saftvrmie_energies_ends::dispersion_ends(&state, chain);
+    let worked = of_set(count, lists, sheets, |set| {
+        let state = saftvrmie_energies::State {
+            set: saftvrmie_energies::Set::from(set),
+            temperature,
+            fractions,
+            densities,
+            diameters,
+        };
+        saftvrmie_energies_ends::dispersion_ends(&state, chain)
+    });
     deliver_list(worked.map(pair_list), out)
 }
 
@@ -179,15 +173,8 @@ pub fn domthelv_vr_diameter_ends(
     if out.len() != 2 {
         return Refusal::Length.code();
     }
-    if !set_lists::mie_lengths(lists, sheets) {
-        return Refusal::Length.code();
-    }
-    let lent = MieSet {
-        count,
-        lists,
-        sheets,
-    };
-    let set = set_lists::mie_set(&lent);
-    let worked = saftvrmie_diameter_ends::hs_diameter_ij_ends(set, i, j, temperature, r0);
+    let worked = of_set(count, lists, sheets, |set| {
+        saftvrmie_diameter_ends::hs_diameter_ij_ends(*set, i, j, temperature, r0)
+    });
     deliver_list(worked.map(pair_list), out)
 }

@@ -9,22 +9,10 @@ ghost use Rattle.elementary.specs.Promised.{SqrtAt, LnAt, Ln1pAt, ExpAt, ExpM1At
 ghost use Rattle.mie_parameters.specs.Answer.{status, stored};
 ghost use Rattle.domthelv.specs.Elementary.{Delivers};
 
+use mie_parameters::deliver;
 use number::Refusal;
 
-// Stores an answer's value; gives 0, or the refusal's number.
-pub fn deliver(a: Result<f64, Refusal>, out: &mut f64) -> u8
-    ensures { (result ≡ status (answer a)) × (out.new ≡ stored out.old (answer a)) }
-{
-    match a {
-        Err(r) => r.code(),
-        Ok(v) => {
-            *out = v;
-            0
-        }
-    }
-}
-
-// The same of a list: what is written has as many places, which the call has tested.
+// As `deliver` of mie_parameters, of a list: what is written has as many places, which the call has tested.
 pub fn deliver_list<T: Copy, const N: usize>(a: Result<[T; N], Refusal>, out: &mut [T]) -> u8
     requires { ForOk a (λ l. length out.old ≡ length l) }
     ensures { (result ≡ status (answer a)) × (out.new ≡ stored out.old (answer a)) }

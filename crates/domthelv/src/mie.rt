@@ -1,18 +1,21 @@
 // SAFT-VR Mie at the C boundary: parameters, diameters, a pair's lower limit and diameter, dispersion, the stage.
 ghost use Rattle.std.specs.Prelude.{◌≡◌};
+ghost use Rattle.std.specs.Fn.{FnOnceReturnsAt};
 ghost use Rattle.mie_parameters.specs.Answer.{status, stored};
-ghost use Rattle.set_lists.specs.Sets.{MieLists};
+ghost use Rattle.set_lists.specs.Sets.{MieLists, mie_set};
 ghost use Rattle.set_lists.specs.Written.{MieLent};
 ghost use Rattle.domthelv.specs.Operations.{vr_parameters, vr_diameters, vr_radius, vr_diameter, vr_dispersion};
+ghost use Rattle.domthelv.specs.Asked.{Worked};
 ghost use Rattle.stages.specs.Stages.{mie_stage};
 ghost use Rattle.saftvrmie_parameters.specs.Parameters as Mie;
 
-use crate::functions::deliver;
+use mie_parameters::deliver;
 use number::Refusal;
 use saftvrmie_energies::{Set, State};
-use saftvrmie_parameters::ComponentLists;
+use saftvrmie_parameters::{ComponentLists, SaftVRMiePars};
 use set_lists::MieSet;
-use sizes::{SHEETS, SIDE};
+use sizes::SHEETS;
+use sizes::mie_lists::{EPSILON_K, LA, LR, M, SIGMA};
 
 // Parameters of SAFT-VR Mie. 1, 2, 6.
 pub fn domthelv_vr_parameters(
@@ -84,6 +87,28 @@ pub fn domthelv_vr_diameters(
     mie_parameters::number(worked)
 }
 
+// What a call works of a set that crosses as its lists: 1, then the call's own. The set goes into a closure: out in a Result it is copied, and compiled as Rust a pair's radius takes 14,888 bytes of stack for 7,480.
+#[inline(always)]
+pub fn of_set<T, F: FnOnce(&SaftVRMiePars) -> Result<T, Refusal>>(
+    count: usize,
+    lists: &[f64],
+    sheets: &[f64],
+    work: F,
+) -> Result<T, Refusal>
+    requires { F.IsAlwaysCallable work }
+    ensures { let s : MieLists = record { count = count; lists = lists.now; sheets = sheets.now } in Worked (mie_set s) (λ p r. FnOnceReturnsAt F.FnOnce work p r) result }
+{
+    if !set_lists::mie_lengths(lists, sheets) {
+        return Err(Refusal::Length);
+    }
+    let lent = MieSet {
+        count,
+        lists,
+        sheets,
+    };
+    work(&set_lists::mie_set(&lent))
+}
+
 // One pair's reduced lower limit. 1, 2, 6.
 pub fn domthelv_vr_radius(
     count: usize,
@@ -98,16 +123,9 @@ pub fn domthelv_vr_radius(
         let q = vr_radius s i j temperature in
         (result ≡ status q) × (out.new ≡ stored out.old q) }
 {
-    if !set_lists::mie_lengths(lists, sheets) {
-        return Refusal::Length.code();
-    }
-    let lent = MieSet {
-        count,
-        lists,
-        sheets,
-    };
-    let set = set_lists::mie_set(&lent);
-    let worked = saftvrmie::radius_ij(set, i, j, temperature);
+    let worked = of_set(count, lists, sheets, |set| {
+        saftvrmie::radius_ij(*set, i, j, temperature)
+    });
     deliver(worked, out)
 }
 
@@ -126,16 +144,9 @@ pub fn domthelv_vr_diameter(
         let q = vr_diameter s i j temperature r0 in
         (result ≡ status q) × (out.new ≡ stored out.old q) }
 {
-    if !set_lists::mie_lengths(lists, sheets) {
-        return Refusal::Length.code();
-    }
-    let lent = MieSet {
-        count,
-        lists,
-        sheets,
-    };
-    let set = set_lists::mie_set(&lent);
-    let worked = saftvrmie::diameter_ij(set, i, j, temperature, r0);
+    let worked = of_set(count, lists, sheets, |set| {
+        saftvrmie::diameter_ij(*set, i, j, temperature, r0)
+    });
     deliver(worked, out)
 }
 
@@ -158,12 +169,12 @@ pub fn domthelv_vr_dispersion(
     if !set_lists::mie_lengths(lists, sheets) {
         return Refusal::Length.code();
     }
-    let m = set_lists::places(lists, 0);
-    let sigma = set_lists::places(lists, SIDE);
-    let epsilon_k = set_lists::places(lists, 2 * SIDE);
-    let lr = set_lists::places(lists, 3 * SIDE);
-    let la = set_lists::places(lists, 4 * SIDE);
-    // Where they lie: a set of references to a copy would keep the copy. The test stands here and in `quantum::lent_set`: a function for it, with its contract, is longer than both, and a call that gives a number tests that function's answer in as many lines.
+    let m = set_lists::places(lists, M);
+    let sigma = set_lists::places(lists, SIGMA);
+    let epsilon_k = set_lists::places(lists, EPSILON_K);
+    let lr = set_lists::places(lists, LR);
+    let la = set_lists::places(lists, LA);
+    // Where they lie: a set of references to a copy would keep the copy. A call gives a number, so `?` cannot stand here as in `quantum::lent_set`.
     let Ok(flat) = <&[f64; SHEETS]>::try_from(sheets) else {
         return Refusal::Length.code();
     };

@@ -15,7 +15,8 @@ ghost use Rattle.saftvrqmie.specs.Pairs.{searches_in, searches_answer};
 ghost use Rattle.saftvrqmie_energies.specs.Energies.{state_lengths, energies_in, energies_answer};
 ghost use Rattle.saftvrqmie_energies.specs.Reads.{set_of};
 
-use crate::functions::{deliver, deliver_list};
+use crate::functions::deliver_list;
+use mie_parameters::deliver;
 use number::Refusal;
 use order_counts::OrderCounts;
 use saftvrqmie::{PairSearches, PairsAt};

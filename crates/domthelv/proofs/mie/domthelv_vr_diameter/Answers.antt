@@ -1,15 +1,8 @@
 -- `domthelv::mie::domthelv_vr_diameter` meets its contract. Assumes nothing.
-use Rattle.set_lists.proofs.Sets.{set_is, mie_1, mie_holds}
-use Rattle.domthelv.proofs.Operations.{mie_diameter_refused, mie_diameter_is, refused_status, refused_stored, delivered}
-use Rattle.number.proofs.Walk.{told}
-use mathlib.Core.Path.{sym, ◌∙◌}
+use Rattle.saftvrmie.specs.Pairs.{diameter_ij}
+use Rattle.domthelv.proofs.Operations.{worked_is, mie_diameter_is, delivered}
+use borrow.Author.Rules.{rules}
 use Rattle.domthelv.proofs.mie.domthelv_vr_diameter.Goals as goal
 
-pub returns-then-not-mie_lengths : goal.returns-then-not-mie_lengths
-returns-then-not-mie_lengths c = let q = mie_diameter_refused _ _ _ _ _ _ (mie_1 _ (told c.mie_lengths.ensures c.if-not-mie_lengths.true)) in (refused_status _ _ _ c.code.ensures q, refused_stored _ _ _ q)
-
-pub mie_set-set-requires : goal.mie_set-set-requires
-mie_set-set-requires c = (told c.mie_lengths.ensures c.if-not-mie_lengths.false)
-
 pub returns : goal.returns
-returns c = delivered _ _ _ _ _ c.deliver.ensures (c.diameter_ij-worked.ensures ∙ sym (mie_diameter_is _ _ _ _ _ _ (set_is _ _ _ (mie_holds _ (told c.mie_lengths.ensures c.if-not-mie_lengths.false)) c.mie_set-set.ensures)))
+returns c = delivered _ _ _ _ _ c.deliver.ensures (mie_diameter_is _ _ _ _ _ _ (worked_is (λ x. x) _ _ (λ p. diameter_ij p c.args.i c.args.j c.args.temperature c.args.r0) _ c.of_set-worked.ensures (λ s w. search rules)))
