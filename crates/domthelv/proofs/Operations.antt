@@ -11,7 +11,7 @@ use lib.ListN.{length}
 use borrow.Author.Tests.{eqb-true}
 use Rattle.mie_parameters.proofs.Laws.{and_left, and_right}
 use mathlib.Core.List.{List}
-use mathlib.Core.Path.{◌≡◌, refl, sym, ap, ◌∙◌}
+use mathlib.Core.Path.{◌≡◌, refl, sym, ap, ◌∙◌, subst}
 use mathlib.Core.Bool.{Bool, true, false}
 use Rattle.number.specs.Ans.{Ans, held, refused, ◌>>=◌, demand}
 use Rattle.sizes.specs.Sizes.{sheet}
@@ -100,6 +100,11 @@ unfolding ◌>>=◌
 worked_is of (held s) W f r p h = h s p
 worked_is of (refused n) W f (Ok x) p h = let z : ◌≡◌ {A = ℕ} 0 1 = cc in absurd (omega arith)
 worked_is of (refused n) W f (Err e) p h = let q : ◌≡◌ {A = ℕ} (code e) n = cc in ap (λ (k : ℕ). refused k) q
+
+-- what `map_err` hands on
+pub handed : {T E F : Type 0} (P : T → Type 0) (K Q : E → Type 0) (r : Result T E) (m : Result T F) {y : T} → is_ok m ≡ is_ok r → MatchResult r (λ x. m ≡ Ok x) K → MatchResult r P Q → m ≡ Ok y → P y
+handed P K Q (Ok x) m {y} v a p e = let q : x ≡ y = cc in subst P q p
+handed P K Q (Err k) m v a p e = absurd (mathlib.Core.Bool.false≢true (sym v ∙ ap is_ok e))
 
 pub refused_verdict : {S : Type 0} (q : Ans S) (n : ℕ) → q ≡ refused n → refused n ≡ verdict q
 unfolding verdict

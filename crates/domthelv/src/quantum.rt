@@ -280,9 +280,7 @@ pub fn lent_set<'a>(s: &QuantumSet<'a>, q: &StateLists) -> Result<LentSet<'a>, R
         return Err(Refusal::Length);
     }
     set_lists::quantum_answer(s)?;
-    let Ok(sheets) = <&[f64; SHEETS]>::try_from(s.sheets) else {
-        return Err(Refusal::Length);
-    };
+    let sheets = <&[f64; SHEETS]>::try_from(s.sheets).map_err(|_| Refusal::Length)?;
     Ok(LentSet {
         count: s.count,
         m: set_lists::places(s.m, 0),
