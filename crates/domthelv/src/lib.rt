@@ -1,5 +1,6 @@
 // The C boundary: each function takes lists apart, calls a proved operation and stores its result.
 // Its parameters are those of the C call, one by one. A struct in their place would be no plainer: domthelv_c, which exports each function under the same clause, would make it of them, field by field, and its clause name them once more.
+// Calls that take alike stand apart: what they share is the C call's parameters made into structs; what is left of each is the test of a list's length, where it writes one, its own call, and what it does with the answer.
 #![tactic(auto)]
 
 mod card_writing;

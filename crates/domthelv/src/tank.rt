@@ -11,7 +11,7 @@ use number::Refusal;
 use saftvrqmie_tank::Layers;
 use set_lists::QuantumSet;
 
-// The two calls stand apart: what they share behind the structs is a test and a delivery, four lines, and a function for these over length, call and list, with what it asks of two closures, is longer than both.
+// The two calls stand apart: one function over what is worked, `F: FnOnce() -> Result<[f64; N], Refusal>`, with the test and the delivery, was refused: no proof is made where a bound of a closure names a const parameter.
 // The energies of a tank: hard sphere, dispersion, non-additive. 14, 1, 4, then layer by layer 2, 6, 7, then 7 of the tank.
 pub fn domthelv_vrq_tank(
     count: usize,
