@@ -1,6 +1,6 @@
 -- Laws of the list of fields: which field stands where, and how many there are. Assumes nothing.
 use Prim.Native.Nat.{ℕ, zero, suc, ◌+◌, ◌*◌, ◌-◌, ◌/◌, ◌%◌, ◌≤◌, ◌<◌}
-use native.Mathlib.Nat.{eq-or-lt_of_le, mul-le-mul, le_refl, suc-mul, mul_comm}
+use native.Mathlib.Nat.{eq-or-lt_of_le, mul-le-mul, le_refl, suc-mul}
 use native.Mathlib.Omega.{arith}
 use lib.Dec.{eqb}
 use lib.ListN.{length, get_or, replicate, length-append, length-replicate, get_or-replicate, get_or-append}
@@ -86,18 +86,20 @@ number_same kind zero e h = rw e refl
 number_same kind (suc zero) e h = rw e refl
 number_same kind (suc (suc k)) e h = absurd (omega arith)
 
--- ---- field k as the code finds it
-module _ (newer : Bool) (n k : ℕ) where
+-- ---- field k as the code finds it, of s numbers a component
+module _ (newer : Bool) (n k s kind : ℕ) (y : s ≡ size kind) where
   -- of the quantum model
-  pub order_field : (kind : ℕ) → kind ≡ 0 → k < 6 * n → k % 6 ≡ 5 → record { width = 2; spared = false } ≡ get_or (layout (form_of newer) kind n) k float
+  pub order_field : kind ≡ 0 → k < n * s → k % 6 ≡ 5 → record { width = 2; spared = false } ≡ get_or (layout (form_of newer) kind n) k float
   unfolding component
-  order_field kind z h e =
+  order_field z h e =
+      let b : k < n * 6 = rw (y, z) at h in
       let d : k / 6 * 6 + 5 ≡ k = omega arith in
       sym (rw z (rw d at (layout_component (form_of newer) 0 n (k / 6) 5 (omega arith) (omega arith))))
 
-  pub quantum_field : (kind : ℕ) → kind ≡ 0 → k < 6 * n → (k % 6 ≡ 5 → ⊥) → float ≡ get_or (layout (form_of newer) kind n) k float
+  pub quantum_field : kind ≡ 0 → k < n * s → (k % 6 ≡ 5 → ⊥) → float ≡ get_or (layout (form_of newer) kind n) k float
   unfolding component
-  quantum_field kind z h e =
+  quantum_field z h e =
+      let a : k < n * 6 = rw (y, z) at h in
       let d : k / 6 * 6 + k % 6 ≡ k = omega arith in
       let b : k % 6 < 5 = omega arith in
       sym (rw z (rw d at (layout_component (form_of newer) 0 n (k / 6) (k % 6) (omega arith) (omega arith) ∙ fifth (k % 6) b)))
@@ -110,9 +112,10 @@ module _ (newer : Bool) (n k : ℕ) where
       fifth (suc (suc (suc (suc zero)))) b = refl
       fifth (suc (suc (suc (suc (suc e))))) b = absurd (omega arith)
 
-  pub mie_field : (kind : ℕ) → kind ≡ 1 → k < 5 * n → float ≡ get_or (layout (form_of newer) kind n) k float
+  pub mie_field : kind ≡ 1 → k < n * s → float ≡ get_or (layout (form_of newer) kind n) k float
   unfolding component
-  mie_field kind z h =
+  mie_field z h =
+      let a : k < n * 5 = rw (y, z) at h in
       let d : k / 5 * 5 + k % 5 ≡ k = omega arith in
       sym (rw z (rw d at (layout_component (form_of newer) 1 n (k / 5) (k % 5) (omega arith) (omega arith) ∙ fifth (k % 5))))
     where
@@ -124,10 +127,9 @@ module _ (newer : Bool) (n k : ℕ) where
       fifth (suc (suc (suc (suc zero)))) = refl
       fifth (suc (suc (suc (suc (suc e))))) = refl
 
-  pub pair_field : (kind s : ℕ) (spared : Bool) → s ≡ size kind → spared ≡ (form_of newer).spared → s * n ≤ k → k < value_count kind n → record { width = 64; spared = spared } ≡ get_or (layout (form_of newer) kind n) k float
-  pair_field kind s spared z y h g =
-      let m : n * s ≡ s * n = mul_comm n s in
-      let d : n * s + (k - n * s) ≡ k = omega (arith, m) in
-      let b = rw (sym z) at g in
-      let p = rw (sym z) at (layout_pair (form_of newer) kind n (k - n * s)) in
-      sym (rw (d, ← y) at (p (omega (arith, b, m))))
+  pub pair_field : (spared : Bool) → spared ≡ (form_of newer).spared → n * s ≤ k → k < value_count kind n → record { width = 64; spared = spared } ≡ get_or (layout (form_of newer) kind n) k float
+  pair_field spared z h g =
+      let d : n * s + (k - n * s) ≡ k = omega arith in
+      let b = rw (sym y) at g in
+      let p = rw (sym y) at (layout_pair (form_of newer) kind n (k - n * s)) in
+      sym (rw (d, ← z) at (p (omega (arith, b))))

@@ -4,9 +4,13 @@
 ghost use Rattle.std.specs.Prelude.{◌≡◌, not, ◌+◌, ◌*◌, ◌-◌, ◌^◌, ◌<◌, ◌≤◌, length, get_or, drop};
 ghost use Rattle.bit_fields.specs.Bits.{bits_of};
 ghost use Rattle.card.specs.Fields.{IsWidth, read_plain, read_spared, read_field, read_fields};
-ghost use Rattle.card.specs.Card.{form_of, is_newer, float, most_components, kind_of, fields_of, total_of, Within, read_card, field_answer, end_of, end_answer, reach_of, card_answer, form_read, known, filling};
+ghost use Rattle.card.specs.Card.{form_of, is_newer, float, most_components, size, number_of, kind_of, fields_of, total_of, Within, read_card, field_answer, end_of, end_answer, reach_of, card_answer, form_read, known, filling};
 
 use number::Refusal;
+
+pub mod mie;
+pub mod pair;
+pub mod quantum;
 
 // The most components on a card: its own limit, whatever the side of a sheet.
 pub const MOST: usize = 8;
@@ -17,7 +21,7 @@ pub const NEWER_MOST: usize = 12;
 // The most numbers behind a heading: twelve components of the quantum model, six each, and two for each pair.
 pub const VALUES: usize = 204;
 
-// How a field is stored: its width, and whether a bit first says that it is 0.
+// How a field is stored: its width, and whether a bit first says that it is 0. A flag: a pair's field takes it from the form (`spares_zero`), and an enum of two cases would hold the width in both, where it is asked for in both.
 #[derive(Clone, Copy)]
 pub struct Field {
     pub width: usize,
@@ -37,6 +41,18 @@ pub enum Kind {
     Quantum = 0,
     /// SAFT-VR Mie.
     Mie = 1,
+}
+
+impl Kind {
+    // How many numbers a component has.
+    pub fn size(self) -> usize
+        ensures { (result ≡ size (number_of self)) × (result ≤ 6) }
+    {
+        match self {
+            Kind::Quantum => quantum::SIZE,
+            Kind::Mie => mie::SIZE,
+        }
+    }
 }
 
 // Any number stands for a kind, 0 for quantum and every other for SAFT-VR Mie: who has a number k hands `Kind::from(k)`, whose fields are those of k (`layout_any`, `count_any` in proofs/Fields).
@@ -155,33 +171,19 @@ impl Heading {
         requires { (self.count ≤ most_components) × (k < total_of self) }
         ensures { (result ≡ get_or (fields_of self) k float) × IsWidth result.width }
     {
-        match self.kind {
-            Kind::Quantum => {
-                if k < 6 * self.count {
-                    if k % 6 == 5 {
-                        return Field {
-                            width: 2,
-                            spared: false,
-                        };
-                    }
-                    return Field {
-                        width: 64,
-                        spared: false,
-                    };
-                }
-            }
-            Kind::Mie => {
-                if k < 5 * self.count {
-                    return Field {
-                        width: 64,
-                        spared: false,
-                    };
-                }
-            }
+        if self.count * self.kind.size() <= k {
+            return Field {
+                width: 64,
+                spared: self.form.spares_zero(),
+            };
         }
+        let width = match self.kind {
+            Kind::Quantum if k % quantum::SIZE == quantum::ORDER => 2,
+            _ => 64,
+        };
         Field {
-            width: 64,
-            spared: self.form.spares_zero(),
+            width,
+            spared: false,
         }
     }
 
@@ -190,11 +192,7 @@ impl Heading {
         requires { Within self }
         ensures { result ≡ total_of self }
     {
-        let size = match self.kind {
-            Kind::Quantum => 6,
-            Kind::Mie => 5,
-        };
-        self.count * size + self.count * (self.count - 1)
+        self.count * self.kind.size() + self.count * (self.count - 1)
     }
 }
 
