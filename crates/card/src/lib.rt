@@ -1,7 +1,7 @@
 // The fuel card, read as patterns of 64 bits: field by field, by its list of fields.
 #![tactic(auto)]
 
-ghost use Rattle.std.specs.Prelude.{◌≡◌, not, ◌+◌, ◌*◌, ◌-◌, ◌^◌, ◌<◌, ◌≤◌, length, get_or, drop};
+ghost use Rattle.std.specs.Prelude.{◌≡◌, not, ◌+◌, ◌*◌, ◌-◌, ◌^◌, ◌<◌, ◌≤◌, get_or, drop};
 ghost use Rattle.bit_fields.specs.Bits.{bits_of};
 ghost use Rattle.card.specs.Fields.{IsWidth, read_plain, read_spared, read_field, read_fields};
 ghost use Rattle.card.specs.Card.{form_of, is_newer, float, most_components, size, number_of, kind_of, fields_of, total_of, Within, read_card, field_answer, end_of, end_answer, reach_of, card_answer, form_read, known, filling};
@@ -206,7 +206,7 @@ fn read_values(
     requires { (at ≤ 6) × Within head }
     ensures { let l = card.now in
         (end_answer l (total_of head) values.new result ≡ read_fields (fields_of head) (drop at (bits_of l)))
-        × (reach_of result < 2 ^ 16) × (length values.new ≡ 204) }
+        × (reach_of result < 2 ^ 16) }
 {
     let total = head.value_count();
     let mut end = at;
@@ -253,7 +253,7 @@ fn kind_of(form: Form, model: u64) -> Kind
 
 // A card's heading, its numbers in an array that is lent; of a card that is refused the array holds what was read before.
 pub fn read(card: &[u8], form: Form, values: &mut [u64; VALUES]) -> Result<Heading, Refusal>
-    ensures { (card_answer values.new result ≡ read_card (form_of (is_newer form)) card.now) × (length values.new ≡ 204) × (form_read form result ≡ form) }
+    ensures { (card_answer values.new result ≡ read_card (form_of (is_newer form)) card.now) × (form_read form result ≡ form) }
 {
     let model = plain(card, 0, 2)?;
     let count = plain(card, model.end, 4)?;

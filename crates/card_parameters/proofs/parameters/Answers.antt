@@ -33,7 +33,7 @@ slice_bounds-quantum_set-end c =
     let t = told c.card_lengths.ensures c.if-not-card_lengths.false in
     let w = within (form_of (is_newer c.args.form)) c.args.card.now l t _ _ _ c.read.ensures.0 c.in_ok-head.was in
     let b = total_small (number_of c.in_ok-head.head.kind) c.in_ok-head.head.count c.value_count-total.result (twelve (is_newer c.args.form) _ w.1) c.value_count-total.ensures in
-    omega (arith, b, c.read.ensures.1)
+    omega (arith, b)
 
 pub quantum_set-requires : goal.quantum_set-requires
 quantum_set-requires c =
@@ -41,7 +41,7 @@ quantum_set-requires c =
     let t = told c.card_lengths.ensures c.if-not-card_lengths.false in
     let w = within (form_of (is_newer c.args.form)) c.args.card.now l t _ _ _ c.read.ensures.0 c.in_ok-head.was in
     let b = total_small (number_of c.in_ok-head.head.kind) c.in_ok-head.head.count c.value_count-total.result (twelve (is_newer c.args.form) _ w.1) c.value_count-total.ensures in
-    (twelve (is_newer c.args.form) _ w.1, part_length (number_of c.in_ok-head.head.kind) c.in_ok-head.head.count c.value_count-total.result 6 _ c.value_count-total.ensures (omega (arith, b, c.read.ensures.1)) (rw c.in-Quantum.is refl))
+    (twelve (is_newer c.args.form) _ w.1, part_length (number_of c.in_ok-head.head.kind) c.in_ok-head.head.count c.value_count-total.result 6 _ c.value_count-total.ensures (omega (arith, b)) (rw c.in-Quantum.is refl))
 
 pub returns-in_err-set-in-Quantum : goal.returns-in_err-set-in-Quantum
 returns-in_err-set-in-Quantum c =
@@ -65,7 +65,7 @@ slice_bounds-mie_set-end c =
     let t = told c.card_lengths.ensures c.if-not-card_lengths.false in
     let w = within (form_of (is_newer c.args.form)) c.args.card.now l t _ _ _ c.read.ensures.0 c.in_ok-head.was in
     let b = total_small (number_of c.in_ok-head.head.kind) c.in_ok-head.head.count c.value_count-total.result (twelve (is_newer c.args.form) _ w.1) c.value_count-total.ensures in
-    omega (arith, b, c.read.ensures.1)
+    omega (arith, b)
 
 pub mie_set-requires : goal.mie_set-requires
 mie_set-requires c =
@@ -73,7 +73,7 @@ mie_set-requires c =
     let t = told c.card_lengths.ensures c.if-not-card_lengths.false in
     let w = within (form_of (is_newer c.args.form)) c.args.card.now l t _ _ _ c.read.ensures.0 c.in_ok-head.was in
     let b = total_small (number_of c.in_ok-head.head.kind) c.in_ok-head.head.count c.value_count-total.result (twelve (is_newer c.args.form) _ w.1) c.value_count-total.ensures in
-    (twelve (is_newer c.args.form) _ w.1, part_length (number_of c.in_ok-head.head.kind) c.in_ok-head.head.count c.value_count-total.result 5 _ c.value_count-total.ensures (omega (arith, b, c.read.ensures.1)) (rw c.in-Mie.is refl))
+    (twelve (is_newer c.args.form) _ w.1, part_length (number_of c.in_ok-head.head.kind) c.in_ok-head.head.count c.value_count-total.result 5 _ c.value_count-total.ensures (omega (arith, b)) (rw c.in-Mie.is refl))
 
 pub returns-in_err-set-in-Mie : goal.returns-in_err-set-in-Mie
 returns-in_err-set-in-Mie c =

@@ -20,10 +20,10 @@ pub value_count-total-requires : goal.value_count-total-requires
 value_count-total-requires c = ((counts (form_of (is_newer c.args.form)) (form_of (not (is_newer c.args.form))) c.args.card.now (record { card = c.args.to.now; length = c.args.told.now }) _ _ c.read.ensures.0 c.in_ok-head.head c.in_ok-head.was).some, twelve (is_newer c.args.form) _ (counts (form_of (is_newer c.args.form)) (form_of (not (is_newer c.args.form))) c.args.card.now (record { card = c.args.to.now; length = c.args.told.now }) _ _ c.read.ensures.0 c.in_ok-head.head c.in_ok-head.was).most)
 
 pub slice_bounds-store-end : goal.slice_bounds-store-end
-slice_bounds-store-end c = omega (arith, total_small (number_of c.in_ok-head.head.kind) c.in_ok-head.head.count _ (twelve (is_newer c.args.form) _ (counts (form_of (is_newer c.args.form)) (form_of (not (is_newer c.args.form))) c.args.card.now (record { card = c.args.to.now; length = c.args.told.now }) _ _ c.read.ensures.0 c.in_ok-head.head c.in_ok-head.was).most) c.value_count-total.ensures, c.read.ensures.1)
+slice_bounds-store-end c = omega (arith, total_small (number_of c.in_ok-head.head.kind) c.in_ok-head.head.count _ (twelve (is_newer c.args.form) _ (counts (form_of (is_newer c.args.form)) (form_of (not (is_newer c.args.form))) c.args.card.now (record { card = c.args.to.now; length = c.args.told.now }) _ _ c.read.ensures.0 c.in_ok-head.head c.in_ok-head.was).most) c.value_count-total.ensures)
 
 pub store-requires : goal.store-requires
-store-requires c = ((counts (form_of (is_newer c.args.form)) (form_of (not (is_newer c.args.form))) c.args.card.now (record { card = c.args.to.now; length = c.args.told.now }) _ _ c.read.ensures.0 c.in_ok-head.head c.in_ok-head.was).some, twelve (is_newer c.args.form) _ (counts (form_of (is_newer c.args.form)) (form_of (not (is_newer c.args.form))) c.args.card.now (record { card = c.args.to.now; length = c.args.told.now }) _ _ c.read.ensures.0 c.in_ok-head.head c.in_ok-head.was).most, part_many _ _ (number_of c.in_ok-head.head.kind) c.in_ok-head.head.count c.read.ensures.1 (twelve (is_newer c.args.form) _ (counts (form_of (is_newer c.args.form)) (form_of (not (is_newer c.args.form))) c.args.card.now (record { card = c.args.to.now; length = c.args.told.now }) _ _ c.read.ensures.0 c.in_ok-head.head c.in_ok-head.was).most) c.value_count-total.ensures)
+store-requires c = ((counts (form_of (is_newer c.args.form)) (form_of (not (is_newer c.args.form))) c.args.card.now (record { card = c.args.to.now; length = c.args.told.now }) _ _ c.read.ensures.0 c.in_ok-head.head c.in_ok-head.was).some, twelve (is_newer c.args.form) _ (counts (form_of (is_newer c.args.form)) (form_of (not (is_newer c.args.form))) c.args.card.now (record { card = c.args.to.now; length = c.args.told.now }) _ _ c.read.ensures.0 c.in_ok-head.head c.in_ok-head.was).most, part_many _ _ (number_of c.in_ok-head.head.kind) c.in_ok-head.head.count (omega arith) (twelve (is_newer c.args.form) _ (counts (form_of (is_newer c.args.form)) (form_of (not (is_newer c.args.form))) c.args.card.now (record { card = c.args.to.now; length = c.args.told.now }) _ _ c.read.ensures.0 c.in_ok-head.head c.in_ok-head.was).most) c.value_count-total.ensures)
 
 pub returns : goal.returns
 returns c = let g = moved_goes (form_of (is_newer c.args.form)) (form_of (not (is_newer c.args.form))) c.args.card.now (record { card = c.args.to.now; length = c.args.told.now }) _ _ c.read.ensures.0 c.in_ok-head.head c.in_ok-head.was _ (rw (c.most.ensures, c.other-other.ensures) at c.if-most-head.false) c.value_count-total.ensures in (rw (g, ← c.other-other.ensures) c.store.ensures.0, rw (g, ← c.other-other.ensures) c.store.ensures.1, rw (g, ← c.other-other.ensures) c.store.ensures.2)
