@@ -1,11 +1,13 @@
 // A card's numbers as component lists: floats from patterns, and pairs in their square.
+// n ≤ side and i < n stand plain: each bounds one index, and a name would be longer.
 #![tactic(auto)]
 
 ghost use Rattle.std.specs.Prelude.{◌≡◌, [], ◌∷◌, ◌++◌, ◌+◌, ◌*◌, ◌-◌, ◌<◌, ◌≤◌, length, take};
-ghost use Rattle.sizes.specs.Sizes.{side, sheet};
+ghost use Rattle.sizes.specs.Sizes.{side};
 ghost use Rattle.card.specs.Fields.{joined};
 ghost use Rattle.card_lists.specs.Lists.{column, orders, ones, pairs_before, pair_entry, pair_list, HasPairs};
 
+use card::quantum;
 use sizes::{SHEET, SIDE};
 
 // Number e of each component; the card's numbers reach to the last. By index, here and below: of what an adapter of iter_mut writes a proof knows nothing.
@@ -20,14 +22,14 @@ pub fn column(values: &[u64], size: usize, n: usize, e: usize) -> [f64; SIDE]
     list
 }
 
-// The orders, number 5 of each component; the count is a card's, and its numbers reach to the last.
+// The orders of the quantum model's components; the count is a card's, and its numbers reach to the last.
 pub fn orders(values: &[u64], n: usize) -> [u8; SIDE]
     requires { (n ≤ side) × (n * 6 ≤ length values.now) }
     ensures { take n result ≡ orders values.now n }
 {
     let mut list = [0; SIDE];
     for i in 0usize..n {
-        list[i] = (values[i * 6 + 5] % 4) as u8;
+        list[i] = (values[i * quantum::SIZE + quantum::ORDER] % 4) as u8;
     }
     list
 }
@@ -73,11 +75,11 @@ impl<'a> PairNumbers<'a> {
         number::of_bits(self.values[self.start + 2 * pair + e])
     }
 
-    fn row(self, e: usize, i: usize, list: &mut [f64])
-        requires { (i < self.n) × (length list.old ≡ sheet) × (self.n ≤ side) × HasPairs self.values.now self.start self.n e }
+    fn row(self, e: usize, i: usize, list: &mut [f64; SHEET])
+        requires { (i < self.n) × (self.n ≤ side) × HasPairs self.values.now self.start self.n e }
         ensures { let p = self.entry in
             let row = joined p.n (λ j. pair_entry p.values.now p.start p.n e i j ∷ []) in
-            (length list.new ≡ sheet) × (take (p.n * i + p.n) list.new ≡ take (p.n * i) list.old ++ row) }
+            take (p.n * i + p.n) list.new ≡ take (p.n * i) list.old ++ row }
     {
         for j in 0usize..self.n {
             list[self.n * i + j] = self.entry(e, i, j);

@@ -16,17 +16,23 @@ use Rattle.card_of_lists.specs.Cards.{pattern, quantum_component, mie_component}
 pub push : (l xs : List ℕ) (at v : ℕ) → take at l ≡ xs → at < length l → take (at + 1) (set l at v) ≡ xs ++ (v ∷ [])
 push l xs at v p h = rw (add-one, take-suc-set l at v h, p)
 
--- two, five and six of them
+-- two, five and six of them, the first at `at + 0`: the code has named places
 module _ (l xs : List ℕ) (at a b : ℕ) (p : take at l ≡ xs) where
-  pub push_2 : at + 2 ≤ length l → take (at + 2) (set (set l at a) (at + 1) b) ≡ xs ++ (a ∷ b ∷ [])
-  push_2 h =
+  none : at + 0 ≡ at
+  none = omega arith
+
+  two : at + 2 ≤ length l → take (at + 2) (set (set l at a) (at + 1) b) ≡ xs ++ (a ∷ b ∷ [])
+  two h =
       let one = push l xs at a p (omega arith) in
       let e : at + 2 ≡ at + 1 + 1 = omega arith in
       rw e (push (set l at a) (xs ++ (a ∷ [])) (at + 1) b one (rw (length-set l at a) (omega arith)) ∙ append_assoc xs (a ∷ []) (b ∷ []))
 
+  pub push_2 : at + 2 ≤ length l → take (at + 2) (set (set l (at + 0) a) (at + 1) b) ≡ xs ++ (a ∷ b ∷ [])
+  push_2 h = rw none (two h)
+
   module _ (c d e : ℕ) where
-    pub push_5 : at + 5 ≤ length l → take (at + 5) (set (set (set (set (set l at a) (at + 1) b) (at + 2) c) (at + 3) d) (at + 4) e) ≡ xs ++ (a ∷ b ∷ c ∷ d ∷ e ∷ [])
-    push_5 h =
+    five : at + 5 ≤ length l → take (at + 5) (set (set (set (set (set l at a) (at + 1) b) (at + 2) c) (at + 3) d) (at + 4) e) ≡ xs ++ (a ∷ b ∷ c ∷ d ∷ e ∷ [])
+    five h =
         let l₂ = set (set l at a) (at + 1) b in
         let l₃ = set l₂ (at + 2) c in
         let l₄ = set l₃ (at + 3) d in
@@ -36,20 +42,27 @@ module _ (l xs : List ℕ) (at a b : ℕ) (p : take at l ≡ xs) where
         let e₃ : at + 3 ≡ at + 2 + 1 = omega arith in
         let e₄ : at + 4 ≡ at + 3 + 1 = omega arith in
         let e₅ : at + 5 ≡ at + 4 + 1 = omega arith in
-        let q₃ : take (at + 3) l₃ ≡ xs ++ (a ∷ b ∷ c ∷ []) = rw e₃ (push l₂ (xs ++ (a ∷ b ∷ [])) (at + 2) c (push_2 (omega arith)) (omega (arith, n₂)) ∙ append_assoc xs (a ∷ b ∷ []) (c ∷ [])) in
+        let q₃ : take (at + 3) l₃ ≡ xs ++ (a ∷ b ∷ c ∷ []) = rw e₃ (push l₂ (xs ++ (a ∷ b ∷ [])) (at + 2) c (two (omega arith)) (omega (arith, n₂)) ∙ append_assoc xs (a ∷ b ∷ []) (c ∷ [])) in
         let q₄ : take (at + 4) l₄ ≡ xs ++ (a ∷ b ∷ c ∷ d ∷ []) = rw e₄ (push l₃ (xs ++ (a ∷ b ∷ c ∷ [])) (at + 3) d q₃ (omega (arith, n₃)) ∙ append_assoc xs (a ∷ b ∷ c ∷ []) (d ∷ [])) in
         rw e₅ (push l₄ (xs ++ (a ∷ b ∷ c ∷ d ∷ [])) (at + 4) e q₄ (omega (arith, n₄)) ∙ append_assoc xs (a ∷ b ∷ c ∷ d ∷ []) (e ∷ []))
 
-    pub push_6 : (f : ℕ) → at + 6 ≤ length l
+    six : (f : ℕ) → at + 6 ≤ length l
         → take (at + 6) (set (set (set (set (set (set l at a) (at + 1) b) (at + 2) c) (at + 3) d) (at + 4) e) (at + 5) f) ≡ xs ++ (a ∷ b ∷ c ∷ d ∷ e ∷ f ∷ [])
-    push_6 f h =
+    six f h =
         let l₂ = set (set l at a) (at + 1) b in
         let l₃ = set l₂ (at + 2) c in
         let l₄ = set l₃ (at + 3) d in
         let l₅ = set l₄ (at + 4) e in
         let n₅ : length l₅ ≡ length l = length-set l₄ (at + 4) e ∙ length-set l₃ (at + 3) d ∙ length-set l₂ (at + 2) c ∙ length-set (set l at a) (at + 1) b ∙ length-set l at a in
         let e₆ : at + 6 ≡ at + 5 + 1 = omega arith in
-        rw e₆ (push l₅ (xs ++ (a ∷ b ∷ c ∷ d ∷ e ∷ [])) (at + 5) f (push_5 (omega arith)) (omega (arith, n₅)) ∙ append_assoc xs (a ∷ b ∷ c ∷ d ∷ e ∷ []) (f ∷ []))
+        rw e₆ (push l₅ (xs ++ (a ∷ b ∷ c ∷ d ∷ e ∷ [])) (at + 5) f (five (omega arith)) (omega (arith, n₅)) ∙ append_assoc xs (a ∷ b ∷ c ∷ d ∷ e ∷ []) (f ∷ []))
+
+    pub push_5 : at + 5 ≤ length l → take (at + 5) (set (set (set (set (set l (at + 0) a) (at + 1) b) (at + 2) c) (at + 3) d) (at + 4) e) ≡ xs ++ (a ∷ b ∷ c ∷ d ∷ e ∷ [])
+    push_5 h = rw none (five h)
+
+    pub push_6 : (f : ℕ) → at + 6 ≤ length l
+        → take (at + 6) (set (set (set (set (set (set l (at + 0) a) (at + 1) b) (at + 2) c) (at + 3) d) (at + 4) e) (at + 5) f) ≡ xs ++ (a ∷ b ∷ c ∷ d ∷ e ∷ f ∷ [])
+    push_6 f h = rw none (six f h)
 
 -- one part more
 pub joined_next : (n m at i : ℕ) (f : ℕ → List ℕ) (x part : List ℕ) → at ≡ i * m → part ≡ f i → take (at + m) x ≡ joined i f ++ part → take ((i + 1) * m) x ≡ joined (i + 1) f
@@ -70,7 +83,7 @@ unfolding joined
 row_none l at g = let e : at + 2 * 0 ≡ at = omega arith in rw e (sym (append-nil (take at l)))
 
 pub row_next : (l l₀ : List ℕ) (at d a b : ℕ) (g : ℕ → List ℕ) → take (at + 2 * d) l ≡ take at l₀ ++ joined d g → at + 2 * d + 2 ≤ length l → a ∷ b ∷ [] ≡ g d
-    → take (at + 2 * (d + 1)) (set (set l (at + 2 * d) a) (at + 2 * d + 1) b) ≡ take at l₀ ++ joined (d + 1) g
+    → take (at + 2 * (d + 1)) (set (set l (at + 2 * d + 0) a) (at + 2 * d + 1) b) ≡ take at l₀ ++ joined (d + 1) g
 unfolding joined
 row_next l l₀ at d a b g p h e =
     let k : at + 2 * (d + 1) ≡ at + 2 * d + 2 = omega arith in
@@ -81,7 +94,7 @@ pub row_begun : (l : List ℕ) (at i : ℕ) (g : ℕ → List ℕ) → take (at 
 row_begun l at i g = let e : i + 1 - i - 1 ≡ 0 = omega arith in rw e (row_none l at g)
 
 pub row_pair : (l l₀ : List ℕ) (at i j a b : ℕ) (g : ℕ → List ℕ) → i + 1 ≤ j → take (at + 2 * (j - i - 1)) l ≡ take at l₀ ++ joined (j - i - 1) g → at + 2 * (j - i - 1) + 2 ≤ length l → a ∷ b ∷ [] ≡ g (j - i - 1)
-    → take (at + 2 * (j + 1 - i - 1)) (set (set l (at + 2 * (j - i - 1)) a) (at + 2 * (j - i - 1) + 1) b) ≡ take at l₀ ++ joined (j + 1 - i - 1) g
+    → take (at + 2 * (j + 1 - i - 1)) (set (set l (at + 2 * (j - i - 1) + 0) a) (at + 2 * (j - i - 1) + 1) b) ≡ take at l₀ ++ joined (j + 1 - i - 1) g
 row_pair l l₀ at i j a b g k p h e =
     let z : j + 1 - i - 1 ≡ j - i - 1 + 1 = omega arith in
     rw z (row_next l l₀ at (j - i - 1) a b g p h e)

@@ -1,4 +1,5 @@
 // The operation from a card to the parameters of either model.
+// n ≤ side stands plain: it bounds one index, and a name would be longer.
 #![tactic(auto)]
 
 ghost use Rattle.std.specs.Prelude.{◌≡◌, true, ◌+◌, ◌*◌, ◌-◌, ◌≤◌, length};
@@ -11,7 +12,7 @@ ghost use Rattle.card.specs.Card.{Card, form_of, is_newer};
 ghost use Rattle.card_lists.specs.Lists.{quantum_lists, mie_lists};
 ghost use Rattle.card_parameters.specs.Parameters.{CardLent, card_lengths, card_parameters};
 
-use card::{Form, Kind, VALUES};
+use card::{Form, Kind, VALUES, mie, pair, quantum};
 use card_lists::PairNumbers;
 use number::Refusal;
 use saftvrmie_parameters::SaftVRMiePars;
@@ -25,19 +26,19 @@ fn quantum_set(values: &[u64], n: usize) -> Result<SaftVRQMiePars, Refusal>
 {
     let square = n * n;
     let m = card_lists::ones(n);
-    let sigma = card_lists::column(values, 6, n, 0);
-    let epsilon_k = card_lists::column(values, 6, n, 1);
-    let lr = card_lists::column(values, 6, n, 2);
-    let la = card_lists::column(values, 6, n, 3);
-    let mass = card_lists::column(values, 6, n, 4);
+    let sigma = card_lists::column(values, quantum::SIZE, n, quantum::SIGMA);
+    let epsilon_k = card_lists::column(values, quantum::SIZE, n, quantum::EPSILON_K);
+    let lr = card_lists::column(values, quantum::SIZE, n, quantum::LR);
+    let la = card_lists::column(values, quantum::SIZE, n, quantum::LA);
+    let mass = card_lists::column(values, quantum::SIZE, n, quantum::MASS);
     let order = card_lists::orders(values, n);
     let pairs = PairNumbers {
         values,
-        start: n * 6,
+        start: n * quantum::SIZE,
         n,
     };
-    let k_ij = pairs.list(0);
-    let l_ij = pairs.list(1);
+    let k_ij = pairs.list(pair::K);
+    let l_ij = pairs.list(pair::SECOND);
     saftvrqmie_parameters::saft_vrq_mie_pars(&saftvrqmie_parameters::ComponentLists {
         count: n,
         m: &m[0..n],
@@ -59,18 +60,18 @@ fn mie_set(values: &[u64], n: usize) -> Result<SaftVRMiePars, Refusal>
         answer result ≡ Mie.saft_vr_mie_pars (mie_lists c) }
 {
     let square = n * n;
-    let m = card_lists::column(values, 5, n, 0);
-    let sigma = card_lists::column(values, 5, n, 1);
-    let epsilon_k = card_lists::column(values, 5, n, 2);
-    let lr = card_lists::column(values, 5, n, 3);
-    let la = card_lists::column(values, 5, n, 4);
+    let m = card_lists::column(values, mie::SIZE, n, mie::M);
+    let sigma = card_lists::column(values, mie::SIZE, n, mie::SIGMA);
+    let epsilon_k = card_lists::column(values, mie::SIZE, n, mie::EPSILON_K);
+    let lr = card_lists::column(values, mie::SIZE, n, mie::LR);
+    let la = card_lists::column(values, mie::SIZE, n, mie::LA);
     let pairs = PairNumbers {
         values,
-        start: n * 5,
+        start: n * mie::SIZE,
         n,
     };
-    let k_ij = pairs.list(0);
-    let gamma_ij = pairs.list(1);
+    let k_ij = pairs.list(pair::K);
+    let gamma_ij = pairs.list(pair::SECOND);
     saftvrmie_parameters::saft_vr_mie_pars(&saftvrmie_parameters::ComponentLists {
         count: n,
         m: &m[0..n],

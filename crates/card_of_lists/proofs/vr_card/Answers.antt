@@ -5,7 +5,6 @@ use Rattle.card_writer.proofs.Stored.{refused_verdict, refused_stored}
 use Rattle.saftvrmie_parameters.specs.Parameters.{lists_of}
 use Rattle.card_of_lists.proofs.Written.{passed_on, vr_stops, vr_lengths, vr_goes}
 use Rattle.number.proofs.Walk.{handed_on}
-use borrow.Author.Rules.{rules}
 use Rattle.card_of_lists.proofs.vr_card.Goals as goal
 
 pub returns-in_err-passed : goal.returns-in_err-passed
@@ -17,12 +16,12 @@ returns-in_err-passed c =
 pub mie_components-requires : goal.mie_components-requires
 mie_components-requires c =
     let h = vr_lengths (lists_of c.args.l.now) (record { card = c.args.card.now; length = c.args.told.now }) _ (passed_on _ _ _ _ c.saft_vr_mie_pars.ensures c.err.ensures.value c.passed.ensures) c.in_ok-passed.was in
-    (search rules, h.m, (h.most, h.sigma, h.epsilon_k, h.lr, h.la, h.k_ij, h.gamma_ij))
+    (h.m, (h.most, h.sigma, h.epsilon_k, h.lr, h.la, h.k_ij, h.gamma_ij))
 
 pub stored-requires : goal.stored-requires
 stored-requires c =
     let h = vr_lengths (lists_of c.args.l.now) (record { card = c.args.card.now; length = c.args.told.now }) _ (passed_on _ _ _ _ c.saft_vr_mie_pars.ensures c.err.ensures.value c.passed.ensures) c.in_ok-passed.was in
-    (h.some, h.most, search rules, h.k_ij, h.gamma_ij)
+    (h.some, (h.most, h.k_ij, h.gamma_ij))
 
 pub returns : goal.returns
 returns c =

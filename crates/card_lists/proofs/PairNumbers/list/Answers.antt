@@ -15,7 +15,7 @@ pub loop-i-init : goal.loop-i-init
 loop-i-init c = (search rules, search rules, rows_none (λ i. joined c.args.self.n (λ j. pair_entry c.args.self.values.now c.args.self.start c.args.self.n c.args.e i j ∷ [])) (replicate sheet zero64) c.args.self.n)
 
 pub loop-i-preserved : goal.loop-i-preserved
-loop-i-preserved c = (search rules, c.row.ensures.0, rows_next (λ i. joined c.args.self.n (λ j. pair_entry c.args.self.values.now c.args.self.start c.args.self.n c.args.e i j ∷ [])) c.loop-i.list _ c.args.self.n c.loop-i.i c.loop-i.invariant.2 c.row.ensures.1)
+loop-i-preserved c = (search rules, search rules, rows_next (λ i. joined c.args.self.n (λ j. pair_entry c.args.self.values.now c.args.self.start c.args.self.n c.args.e i j ∷ [])) c.loop-i.list _ c.args.self.n c.loop-i.i c.loop-i.invariant.2 c.row.ensures)
 
 pub returns : goal.returns
 unfolding pair_list

@@ -1,1 +1,0 @@
--- `card_of_lists::passed` meets its contract. Assumes nothing.
