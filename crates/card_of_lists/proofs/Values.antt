@@ -172,6 +172,3 @@ pair_part x y a b p q = rw (p, q)
 pub parts_none : (m : ℕ) (f : ℕ → List ℕ) (l : List ℕ) → take (0 * m) l ≡ joined 0 f
 unfolding joined
 parts_none m f l = let e : 0 * m ≡ 0 = omega arith in rw e
-
-pub parts_end : (n m i : ℕ) (f : ℕ → List ℕ) (l : List ℕ) → i ≤ n → n ≤ i → take (i * m) l ≡ joined i f → take (n * m) l ≡ joined n f
-parts_end n m i f l h g p = let e : i ≡ n = omega arith in rw e at p

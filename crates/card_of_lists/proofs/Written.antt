@@ -9,7 +9,7 @@ use native.Mathlib.Omega.{arith}
 use lib.Dec.{eqb, leb}
 use lib.ListN.{length, take, drop}
 use mathlib.Core.Path.{◌≡◌, refl}
-use mathlib.Core.Bool.{Bool, true, false, cond, ◌&&◌}
+use mathlib.Core.Bool.{Bool, true, false, ◌&&◌}
 use mathlib.Core.List.{List, ◌++◌}
 use borrow.Author.Tests.{le-leb, lt-leb, leb-true, eqb-true}
 use Rattle.number.specs.Ans.{Ans, held, refused, ◌>>=◌, demand}
@@ -18,11 +18,10 @@ use Rattle.limits.specs.Limits.{count_within}
 use Rattle.saftvrqmie_parameters.specs.Parameters as Quantum
 use Rattle.saftvrmie_parameters.specs.Parameters as Mie
 use Rattle.card.specs.Fields.{joined}
-use Rattle.card.specs.Card.{Card, older, size, value_count}
+use Rattle.card.specs.Card.{Card, older, value_count}
 use Rattle.card.proofs.Whole.{and_left, and_right}
 use Rattle.card_writer.specs.Writing.{card_bytes, CardRoom, card_stored}
 use Rattle.card_of_lists.specs.Cards.{quantum_component, mie_component, pair_rows, quantum_card, mie_card, passed, passed_by, vrq_card, vr_card}
-use Rattle.card_of_lists.proofs.Values.{parts_small}
 
 -- what `stored` answers: 10, 12
 abbrev pub older_card : Card → CardRoom → Ans CardRoom
@@ -203,10 +202,3 @@ module _ (c : Card) (l : CardRoom) where
   goes total start last h t s d =
       let z : total - 0 ≡ start + c.count * (c.count - 1) = omega (arith, s) in
       rw (le-leb c.count 8 h, z, d)
-
-pub start_small : (kind n : ℕ) → n ≤ 12 → n * size kind ≤ 72
-start_small kind n h = parts_small n (size kind) h (few (eqb kind 0))
-  where
-    few : (b : Bool) → cond b 6 5 ≤ 6
-    few true = omega arith
-    few false = omega arith

@@ -1,14 +1,12 @@
 -- The operation test by test, over plain values. Assumes nothing.
-use Prim.Native.Nat.{ℕ, ◌+◌, ◌*◌, ◌-◌, ◌≤◌}
+use Prim.Native.Nat.{ℕ, ◌-◌, ◌≤◌}
 use Rattle.std.specs.Prelude.{Err, Ok, Result}
 use Rattle.number.specs.declared.refusal.Refusal.{Refusal}
 use native.Mathlib.Omega.{arith}
 use lib.Ieee.{Float}
-use lib.Dec.{eqb}
-use lib.ListN.{length, take, drop}
-use lib.Seq.{length-take-le}
+use lib.ListN.{take, drop}
 use mathlib.Core.Path.{◌≡◌, refl, sym, ◌∙◌}
-use mathlib.Core.Bool.{true, false, cond}
+use mathlib.Core.Bool.{true, false}
 use mathlib.Core.List.{List}
 use Rattle.number.specs.Ans.{Ans, held, refused, ◌>>=◌, demand}
 use Rattle.number.specs.Answer.{code, answer}
@@ -99,11 +97,6 @@ module _ (f : Form) (card : List ℕ) (l : CardLent) where
           mie_goes e = goes ∙ rw (z, mie_stored_held (record { kind = 1; count = head.count; values = part }) (record { lists = l.lists; sheets = l.sheets }) g h e)
 
 -- what the parts require
-pub part_length : (kind n total size : ℕ) (values : List ℕ) → total ≡ value_count kind n → total ≤ length values → cond (eqb kind 0) 6 5 ≡ size → length (take (total - 0) (drop 0 values)) ≡ n * size + n * (n - 1)
-part_length kind n total size values p h z =
-    let e : total - 0 ≡ total = omega arith in
-    rw (e, length-take-le total values h, ← z) p
-
 pub quantum_right : (m lists sheets : List Float) (orders : List ℕ) → card_lengths m lists sheets orders ≡ true → quantum_lengths m sheets orders ≡ true
 unfolding card_lengths
 quantum_right m lists sheets orders p = and_left (quantum_lengths m sheets orders) (mie_lengths lists sheets) p

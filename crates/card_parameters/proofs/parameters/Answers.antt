@@ -6,7 +6,7 @@ use Rattle.card.specs.Card.{form_of, is_newer, number_of}
 use Rattle.number.proofs.Walk.{told, handed_on}
 use Rattle.card.proofs.Whole.{twelve}
 use Rattle.card.proofs.Reading.{total_small}
-use Rattle.card_parameters.proofs.Stored.{none_stored, all_stored, whole_part, lengths_1, card_refused, within, quantum_stops, quantum_goes, mie_stops, mie_goes, part_length, quantum_right, mie_right}
+use Rattle.card_parameters.proofs.Stored.{none_stored, all_stored, whole_part, lengths_1, card_refused, within, quantum_stops, quantum_goes, mie_stops, mie_goes, quantum_right, mie_right}
 use Rattle.card_parameters.proofs.parameters.Goals as goal
 
 pub returns-then-not-card_lengths : goal.returns-then-not-card_lengths
@@ -35,14 +35,6 @@ slice_bounds-quantum_set-end c =
     let b = total_small (number_of c.in_ok-head.head.kind) c.in_ok-head.head.count c.value_count-total.result (twelve (is_newer c.args.form) _ w.1) c.value_count-total.ensures in
     omega (arith, b)
 
-pub quantum_set-requires : goal.quantum_set-requires
-quantum_set-requires c =
-    let l : CardLent = record { model = c.args.model.now; count = c.args.count.now; m = c.args.m.now; lists = c.args.lists.now; sheets = c.args.sheets.now; orders = c.args.orders.now } in
-    let t = told c.card_lengths.ensures c.if-not-card_lengths.false in
-    let w = within (form_of (is_newer c.args.form)) c.args.card.now l t _ _ _ c.read.ensures.0 c.in_ok-head.was in
-    let b = total_small (number_of c.in_ok-head.head.kind) c.in_ok-head.head.count c.value_count-total.result (twelve (is_newer c.args.form) _ w.1) c.value_count-total.ensures in
-    (twelve (is_newer c.args.form) _ w.1, part_length (number_of c.in_ok-head.head.kind) c.in_ok-head.head.count c.value_count-total.result 6 _ c.value_count-total.ensures (omega (arith, b)) (rw c.in-Quantum.is refl))
-
 pub returns-in_err-set-in-Quantum : goal.returns-in_err-set-in-Quantum
 returns-in_err-set-in-Quantum c =
     let l : CardLent = record { model = c.args.model.now; count = c.args.count.now; m = c.args.m.now; lists = c.args.lists.now; sheets = c.args.sheets.now; orders = c.args.orders.now } in
@@ -66,14 +58,6 @@ slice_bounds-mie_set-end c =
     let w = within (form_of (is_newer c.args.form)) c.args.card.now l t _ _ _ c.read.ensures.0 c.in_ok-head.was in
     let b = total_small (number_of c.in_ok-head.head.kind) c.in_ok-head.head.count c.value_count-total.result (twelve (is_newer c.args.form) _ w.1) c.value_count-total.ensures in
     omega (arith, b)
-
-pub mie_set-requires : goal.mie_set-requires
-mie_set-requires c =
-    let l : CardLent = record { model = c.args.model.now; count = c.args.count.now; m = c.args.m.now; lists = c.args.lists.now; sheets = c.args.sheets.now; orders = c.args.orders.now } in
-    let t = told c.card_lengths.ensures c.if-not-card_lengths.false in
-    let w = within (form_of (is_newer c.args.form)) c.args.card.now l t _ _ _ c.read.ensures.0 c.in_ok-head.was in
-    let b = total_small (number_of c.in_ok-head.head.kind) c.in_ok-head.head.count c.value_count-total.result (twelve (is_newer c.args.form) _ w.1) c.value_count-total.ensures in
-    (twelve (is_newer c.args.form) _ w.1, part_length (number_of c.in_ok-head.head.kind) c.in_ok-head.head.count c.value_count-total.result 5 _ c.value_count-total.ensures (omega (arith, b)) (rw c.in-Mie.is refl))
 
 pub returns-in_err-set-in-Mie : goal.returns-in_err-set-in-Mie
 returns-in_err-set-in-Mie c =
