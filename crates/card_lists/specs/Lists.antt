@@ -1,5 +1,5 @@
 -- The component lists of a card: its numbers, in order, as the lists that the parameters take.
-use Rattle.std.specs.Prelude.{◌<◌, ◌≤◌, ℕ, ◌+◌, ◌*◌, ◌-◌, ◌%◌, min, max, eqb, Float, length, get_or, false, cond, List, [], ◌∷◌}
+use Rattle.std.specs.Prelude.{ℕ, ◌+◌, ◌*◌, ◌-◌, ◌%◌, min, max, eqb, Float, get_or, false, cond, List, [], ◌∷◌}
 use Rattle.std.specs.Float.Ieee.{of_bits}
 use Rattle.std.specs.Float.{binary64}
 use Rattle.number.specs.Arith.{decimal, zero64}
@@ -73,7 +73,3 @@ mie_lists c =
       k_ij = pair_list v (n * 5) n 0;
       gamma_ij = pair_list v (n * 5) n 1;
     }
-
--- a card's numbers reach to the last pair's, which begin behind at most twelve components; a pair has two
-abbrev pub HasPairs : List ℕ → ℕ → ℕ → ℕ → Type 0
-HasPairs values start n e = (e < 2) × (start ≤ 72) × (start + n * (n - 1) ≤ length values)

@@ -5,7 +5,7 @@
 ghost use Rattle.std.specs.Prelude.{◌≡◌, [], ◌∷◌, ◌++◌, ◌+◌, ◌*◌, ◌-◌, ◌<◌, ◌≤◌, length, take};
 ghost use Rattle.sizes.specs.Sizes.{side};
 ghost use Rattle.card.specs.Fields.{joined};
-ghost use Rattle.card_lists.specs.Lists.{column, orders, ones, pairs_before, pair_entry, pair_list, HasPairs};
+ghost use Rattle.card_lists.specs.Lists.{column, orders, ones, pairs_before, pair_entry, pair_list};
 
 use card::quantum;
 use sizes::{SHEET, SIDE};
@@ -52,18 +52,19 @@ fn pairs_before(n: usize, i: usize) -> usize
     i * (2 * n - 1 - i) / 2
 }
 
-// The numbers of the pairs of n components, which begin at `start` among a card's.
+// The numbers of the pairs of n components, which begin at `start` among a card's, behind at most twelve components, and which the card's numbers reach to the last of; a pair has two.
 #[derive(Clone, Copy)]
 pub struct PairNumbers<'a> {
     pub values: &'a [u64],
     pub start: usize,
     pub n: usize,
+    pub ghost within: { (n ≤ side) × (start ≤ 72) × (start + n * (n - 1) ≤ length values.now) },
 }
 
 impl<'a> PairNumbers<'a> {
     // Number e of a pair.
     fn entry(self, e: usize, i: usize, j: usize) -> f64
-        requires { (i < self.n) × (j < self.n) × (self.n ≤ side) × HasPairs self.values.now self.start self.n e }
+        requires { (e < 2) × (i < self.n) × (j < self.n) }
         ensures { let p = self.entry in result ≡ pair_entry p.values.now p.start p.n e i j }
     {
         if i == j {
@@ -76,7 +77,7 @@ impl<'a> PairNumbers<'a> {
     }
 
     fn row(self, e: usize, i: usize, list: &mut [f64; SHEET])
-        requires { (i < self.n) × (self.n ≤ side) × HasPairs self.values.now self.start self.n e }
+        requires { (e < 2) × (i < self.n) }
         ensures { let p = self.entry in
             let row = joined p.n (λ j. pair_entry p.values.now p.start p.n e i j ∷ []) in
             take (p.n * i + p.n) list.new ≡ take (p.n * i) list.old ++ row }
@@ -88,7 +89,7 @@ impl<'a> PairNumbers<'a> {
 
     // Number e of all pairs, as a square.
     pub fn list(self, e: usize) -> [f64; SHEET]
-        requires { (self.n ≤ side) × HasPairs self.values.now self.start self.n e }
+        requires { e < 2 }
         ensures { let p = self.entry in take (p.n * p.n) result ≡ pair_list p.values.now p.start p.n e }
     {
         let mut list = [0.0; SHEET];

@@ -11,22 +11,22 @@ unfolding decimal of_bits
 returns-then-i-j c = entry_end c.args.self.values.now c.args.self.start c.args.self.n c.args.e c.args.i c.args.j c.if-i-j.true
 
 pub overflow_add-pair : goal.overflow_add-pair
-overflow_add-pair c = omega (arith, entry_below c.args.self.values.now c.args.self.start c.args.self.n c.args.e c.args.i c.args.j _ _ _ c.min-low.ensures c.max-high.ensures c.pairs_before.ensures c.if-i-j.false c.requires.0 c.requires.1, pairs_small c.args.self.n c.requires.2, c.min-low.ensures, c.max-high.ensures)
+overflow_add-pair c = omega (arith, entry_below c.args.self.values.now c.args.self.start c.args.self.n c.args.e c.args.i c.args.j _ _ _ c.min-low.ensures c.max-high.ensures c.pairs_before.ensures c.if-i-j.false c.requires.1 c.requires.2, pairs_small c.args.self.n c.args.self.within.0, c.min-low.ensures, c.max-high.ensures)
 
 pub overflow_mul-pair : goal.overflow_mul-pair
-overflow_mul-pair c = omega (arith, entry_below c.args.self.values.now c.args.self.start c.args.self.n c.args.e c.args.i c.args.j _ _ _ c.min-low.ensures c.max-high.ensures c.pairs_before.ensures c.if-i-j.false c.requires.0 c.requires.1, pairs_small c.args.self.n c.requires.2, c.min-low.ensures, c.max-high.ensures)
+overflow_mul-pair c = omega (arith, entry_below c.args.self.values.now c.args.self.start c.args.self.n c.args.e c.args.i c.args.j _ _ _ c.min-low.ensures c.max-high.ensures c.pairs_before.ensures c.if-i-j.false c.requires.1 c.requires.2, pairs_small c.args.self.n c.args.self.within.0, c.min-low.ensures, c.max-high.ensures)
 
 pub overflow_add-self : goal.overflow_add-self
-overflow_add-self c = omega (arith, entry_below c.args.self.values.now c.args.self.start c.args.self.n c.args.e c.args.i c.args.j _ _ _ c.min-low.ensures c.max-high.ensures c.pairs_before.ensures c.if-i-j.false c.requires.0 c.requires.1, pairs_small c.args.self.n c.requires.2, c.min-low.ensures, c.max-high.ensures)
+overflow_add-self c = omega (arith, entry_below c.args.self.values.now c.args.self.start c.args.self.n c.args.e c.args.i c.args.j _ _ _ c.min-low.ensures c.max-high.ensures c.pairs_before.ensures c.if-i-j.false c.requires.1 c.requires.2, pairs_small c.args.self.n c.args.self.within.0, c.min-low.ensures, c.max-high.ensures)
 
 pub overflow_add-self-2 : goal.overflow_add-self-2
-overflow_add-self-2 c = omega (arith, entry_below c.args.self.values.now c.args.self.start c.args.self.n c.args.e c.args.i c.args.j _ _ _ c.min-low.ensures c.max-high.ensures c.pairs_before.ensures c.if-i-j.false c.requires.0 c.requires.1, pairs_small c.args.self.n c.requires.2, c.min-low.ensures, c.max-high.ensures)
+overflow_add-self-2 c = omega (arith, entry_below c.args.self.values.now c.args.self.start c.args.self.n c.args.e c.args.i c.args.j _ _ _ c.min-low.ensures c.max-high.ensures c.pairs_before.ensures c.if-i-j.false c.requires.1 c.requires.2, pairs_small c.args.self.n c.args.self.within.0, c.min-low.ensures, c.max-high.ensures)
 
 pub offset_bounds-self-self : goal.offset_bounds-self-self
-offset_bounds-self-self c = omega (arith, entry_below c.args.self.values.now c.args.self.start c.args.self.n c.args.e c.args.i c.args.j _ _ _ c.min-low.ensures c.max-high.ensures c.pairs_before.ensures c.if-i-j.false c.requires.0 c.requires.1, pairs_small c.args.self.n c.requires.2, c.min-low.ensures, c.max-high.ensures)
+offset_bounds-self-self c = omega (arith, entry_below c.args.self.values.now c.args.self.start c.args.self.n c.args.e c.args.i c.args.j _ _ _ c.min-low.ensures c.max-high.ensures c.pairs_before.ensures c.if-i-j.false c.requires.1 c.requires.2, pairs_small c.args.self.n c.args.self.within.0, c.min-low.ensures, c.max-high.ensures)
 
 pub bounds-self-self : goal.bounds-self-self
-bounds-self-self c = omega (arith, entry_below c.args.self.values.now c.args.self.start c.args.self.n c.args.e c.args.i c.args.j _ _ _ c.min-low.ensures c.max-high.ensures c.pairs_before.ensures c.if-i-j.false c.requires.0 c.requires.1, pairs_small c.args.self.n c.requires.2, c.min-low.ensures, c.max-high.ensures)
+bounds-self-self c = omega (arith, entry_below c.args.self.values.now c.args.self.start c.args.self.n c.args.e c.args.i c.args.j _ _ _ c.min-low.ensures c.max-high.ensures c.pairs_before.ensures c.if-i-j.false c.requires.1 c.requires.2, pairs_small c.args.self.n c.args.self.within.0, c.min-low.ensures, c.max-high.ensures)
 
 pub returns : goal.returns
 returns c = entry_pair c.args.self.values.now c.args.self.start c.args.self.n c.args.e c.args.i c.args.j _ _ _ c.min-low.ensures c.max-high.ensures c.pairs_before.ensures _ c.if-i-j.false c.of_bits.ensures

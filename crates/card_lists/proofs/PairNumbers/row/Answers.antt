@@ -11,4 +11,4 @@ pub loop-j-init : goal.loop-j-init
 loop-j-init c = (search rules, search rules, row_none (λ j. pair_entry c.args.self.values.now c.args.self.start c.args.self.n c.args.e c.args.i j) c.args.list.now (c.args.self.n * c.args.i))
 
 pub loop-j-preserved : goal.loop-j-preserved
-loop-j-preserved c = let g : c.args.self.n * c.args.i + c.loop-j.j < length c.loop-j.list = omega (arith, cell_below c.args.self.n c.args.i c.loop-j.j c.requires.0 c.loop-j-test.true, square_small c.args.self.n c.requires.1) in (search rules, simp length-set c.loop-j.invariant.1, row_next (λ j. pair_entry c.args.self.values.now c.args.self.start c.args.self.n c.args.e c.args.i j) c.loop-j.list c.args.list.now (c.args.self.n * c.args.i) c.loop-j.j _ g c.loop-j.invariant.2 c.entry.ensures)
+loop-j-preserved c = let g : c.args.self.n * c.args.i + c.loop-j.j < length c.loop-j.list = omega (arith, cell_below c.args.self.n c.args.i c.loop-j.j c.requires.1 c.loop-j-test.true, square_small c.args.self.n c.args.self.within.0) in (search rules, simp length-set c.loop-j.invariant.1, row_next (λ j. pair_entry c.args.self.values.now c.args.self.start c.args.self.n c.args.e c.args.i j) c.loop-j.list c.args.list.now (c.args.self.n * c.args.i) c.loop-j.j _ g c.loop-j.invariant.2 c.entry.ensures)
