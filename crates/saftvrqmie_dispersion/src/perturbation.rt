@@ -307,8 +307,7 @@ fn second_order_at<D: DualNum, const ONE: bool>(
     let zero = D::lift(D::Plain::lit(0.0));
     let mut a2 = second_turn::<D, ONE>(p, t, g, 0, zero)?;
     for q in 1u32..count {
-        let next = second_turn::<D, ONE>(p, t, g, q, a2)?;
-        a2 = next;
+        a2 = second_turn::<D, ONE>(p, t, g, q, a2)?;
     }
     Ok(second_closed(p, g, a2))
 }

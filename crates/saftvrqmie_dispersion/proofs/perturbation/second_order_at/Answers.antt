@@ -37,23 +37,23 @@ loop-q-init g c =
     let some : 1 ≤ c.turn_count-count.result = rw c.turn_count-count.ensures (omega arith) in
     (some, walk_next _ _ 0 _ _ (walk_none _ _) (sym (c.in_ok-a2.ensures _ zero)))
 
-pub returns-in_err-next : goal.returns-in_err-next
+pub returns-in_err-a2-2 : goal.returns-in_err-a2-2
 unfolding second_order_by ◌>>=◌
-returns-in_err-next g c =
+returns-in_err-a2-2 g c =
     let m = g.met.D.DualNum in
     let w = not (eqb (value_of (number g.row.ONE)) 0) in
     rw (
-      handed_on _ c.from_residual-in_err-next.ensures,
+      handed_on _ c.from_residual-in_err-a2-2.ensures,
       ← c.quantum_of-g.ensures w,
       ← c.turn_count-count.ensures,
-      ← walk_stop _ _ _ _ _ _ c.loop-q-test.true c.loop-q.invariant.1 (sym (c.in_err-next.ensures _ (m.taken_of_law w _))),
+      ← walk_stop _ _ _ _ _ _ c.loop-q-test.true c.loop-q.invariant.1 (sym (c.in_err-a2-2.ensures _ (m.taken_of_law w _))),
     )
 
 pub loop-q-preserved : goal.loop-q-preserved
 loop-q-preserved g c =
     let m = g.met.D.DualNum in
     let w = not (eqb (value_of (number g.row.ONE)) 0) in
-    (omega arith, walk_next _ _ _ _ _ c.loop-q.invariant.1 (sym (c.in_ok-next.ensures _ (m.taken_of_law w _))))
+    (omega arith, walk_next _ _ _ _ _ c.loop-q.invariant.1 (sym (c.in_ok-a2-2.ensures _ (m.taken_of_law w _))))
 
 pub returns : goal.returns
 unfolding second_order_by ◌>>=◌
