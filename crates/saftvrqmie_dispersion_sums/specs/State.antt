@@ -1,15 +1,15 @@
 -- What the energies of the quantum model are worked from, in the numbers N: sheets of a set and of a table by their entry e.
-use Rattle.std.specs.Prelude.{ℕ, ◌*◌, ◌<◌, ◌≤◌, ◌≡◌, Float, List, Result}
+use Rattle.std.specs.Prelude.{ℕ, ◌<◌, ◌≡◌, Float, List, Result}
 use Rattle.number.specs.Ans.{Ans}
 use Rattle.number.specs.Answer.{answer_by}
 use Rattle.number.specs.declared.refusal.Refusal.{Refusal}
 use Rattle.number.specs.Arith.{Arith}
 use Rattle.number.specs.Lists.{nth}
-use Rattle.sizes.specs.Sizes.{side, sheet, cell}
+use Rattle.sizes.specs.Sizes.{cell}
 use Rattle.saftvrqmie_parameters.specs.declared.OrderRecord.{OrderRecord}
 use Rattle.saftvrqmie_potential.specs.Potential.{PairIn, pair_by, points_of, pair_at_entry}
-use Rattle.saftvrqmie_hard_sphere.specs.State.{sheet_of, sheet_in, entries, Entries}
-use Rattle.saftvrqmie_dispersion_sums.specs.declared.State.{State}
+use Rattle.saftvrqmie_hard_sphere.specs.State.{sheet_of, sheet_in, entries}
+use Rattle.saftvrqmie_hard_sphere.specs.declared.State.{State}
 
 pub record SheetsIn (N : Type 0) : Type 0 where
   pub count : ℕ
@@ -18,10 +18,6 @@ pub record SheetsIn (N : Type 0) : Type 0 where
   pub hs_diameter : ℕ → N
   pub epsilon_k_eff : ℕ → N
   pub quantum_d : ℕ → N
-
--- what an operation has tested with 1, `has` saying which entries of a list a run can read
-abbrev pub Right : {D : Type 0} → (List Float → List Float → ℕ → Type 0) → State D → Type 0
-Right has s = (0 < s.n) × (s.n ≤ side) × Entries has (4 * sheet) s.table × Entries has s.n s.fractions × Entries has s.n s.densities
 
 -- a row's answer is that of f, from a sum that is taken as a D
 abbrev pub Rows : {D N : Type 0} → ℕ → (D → N) → (N → N) → (ℕ → D → Result D Refusal → Type 0) → (ℕ → N → Ans N) → Type 0

@@ -3,8 +3,8 @@
 
 ghost use Rattle.std.specs.Prelude.{◌≡◌, ◌<◌, true, ℕ, Float, List, [], length};
 ghost use Rattle.number.specs.Answer.{answer_by};
-ghost use Rattle.saftvrqmie_hard_sphere.specs.State.{points, entries};
-ghost use Rattle.saftvrqmie_dispersion_sums.specs.State.{sheets_by, sheets_read, Right};
+ghost use Rattle.saftvrqmie_hard_sphere.specs.State.{points, entries, Right};
+ghost use Rattle.saftvrqmie_dispersion_sums.specs.State.{sheets_by, sheets_read};
 ghost use Rattle.saftvrqmie_energies.specs.Energies.{energies_answer, each_by, each_taken, contributions, energies_finite, state_lengths, tested, energies};
 ghost use Rattle.saftvrqmie_energies.specs.Reads.{set_of};
 
@@ -85,13 +85,10 @@ pub fn contributions<D: DualNum>(
         let rho = entries (D.entry_of true) s.now.densities in
         answer_by (each_by (D.of true)) result ≡ each_taken (D.taken true) (contributions A (D.functions true) sheets x rho (points A s.now.m.now) (D.of true s.now.temperature) wanted) }
 {
-    let table = s.table;
-    let x = s.fractions;
-    let rho = s.densities;
-    let z = saftvrqmie_hard_sphere::zeta::<D>(s.n, &rho, &table, s.m);
-    let h = saftvrqmie_hard_sphere::helmholtz_energy_density(s.n, &x, &table, s.m, z)?;
+    let z = saftvrqmie_hard_sphere::zeta::<D>(s);
+    let h = saftvrqmie_hard_sphere::helmholtz_energy_density(s, z)?;
     let d = saftvrqmie_dispersion_sums::helmholtz_energy_density(s, xs, alphas)?;
-    let a = saftvrqmie_hard_sphere::wanted_part(s.n, &rho, &table, s.m, z, xs, wanted);
+    let a = saftvrqmie_hard_sphere::wanted_part(s, z, xs, wanted);
     Ok(Energies {
         hard_sphere: h,
         dispersion: d,

@@ -1,15 +1,13 @@
 // The hard sphere's contribution (saftvrqmie/eos/hard_sphere.rs): the sums `zeta` and `zeta_23`, and the energy.
 // All loops of this crate and of the dispersion's sums go by index: `entry` takes a place, since it reads a value alone or with its slope from a second list, and a table's places are computed.
-// Count, list, table and m stay apart: a struct of them would be filled twice, with rho for `zeta` and the non-additive part and with x for `zeta_23`, and `segment_density` would be handed a table that it does not read.
-ghost use Rattle.std.specs.Prelude.{◌≡◌, ◌<◌, Bool, map};
+ghost use Rattle.std.specs.Prelude.{◌≡◌, Bool};
 ghost use Rattle.number.specs.Answer.{answer_by};
 ghost use Rattle.number.specs.Arith.{whole};
-ghost use Rattle.number.specs.Lists.{nth};
-ghost use Rattle.sizes.specs.Sizes.{side};
 ghost use Rattle.mie_parameters.specs.Sums.{weighted};
-ghost use Rattle.saftvrqmie_hard_sphere.specs.State.{diagonal, points, sheet_in, entries, Components, Listed};
+ghost use Rattle.saftvrqmie_hard_sphere.specs.State.{diagonal, points, sheet_in, entries, Components, Right};
 ghost use Rattle.saftvrqmie_hard_sphere.specs.HardSphere.{ZetaIn, Zeta23In, zeta_by, zeta_each, zeta23_by, zeta23_each, zeta_added, frac1mz3, zeta23_added, hard_sphere_of, zeta, zeta23, hard_sphere_from};
 
+use crate::State;
 use dual_num::{DualNum, NumberList};
 use number::{Arithmetic, Refusal};
 use sizes::SIDE;
@@ -38,14 +36,6 @@ pub fn zero<D: DualNum>() -> D
     D::lift(D::Plain::lit(0.0))
 }
 
-// Entry i of a run's own list.
-pub fn component<D: DualNum>(xs: &[D; SIDE], i: usize) -> D
-    requires { i < side }
-    ensures { (w : Bool) → D.of w result ≡ nth (D.beside w) (map (D.of w) xs.now) i }
-{
-    xs[i]
-}
-
 // PI / 6.0 is an operation of the Rust, not one number.
 fn zeta_added<D: DualNum>(rho: D, d: D, m: D::Plain, z: Zetas<D>) -> Zetas<D>
     ensures { (w : Bool) (v : ZetaIn (D.beside w).Num) → zeta_each (D.taken w) v ≡ zeta_by (D.of w) z →
@@ -61,11 +51,11 @@ fn zeta_added<D: DualNum>(rho: D, d: D, m: D::Plain, z: Zetas<D>) -> Zetas<D>
 }
 
 // Here and in the energies below, counts and lists are asked for that an operation has let pass: it refuses others with 1 before it sums.
-pub fn zeta<D: DualNum>(n: usize, rho: &NumberList, table: &NumberList, m: &[f64; SIDE]) -> Zetas<D>
-    requires { Listed D.has n rho.now table.now }
-    ensures { (w : Bool) → let rho = entries (D.entry_of w) rho.now in
-        let d = diagonal (sheet_in (entries (D.entry_of w) table.now) 1) in
-        zeta_by (D.of w) result ≡ zeta (D.beside w) (D.functions w) n rho d (points (D.beside w) m.now) }
+pub fn zeta<D: DualNum>(s: &State<D>) -> Zetas<D>
+    requires { Right D.has s.now }
+    ensures { (w : Bool) → let rho = entries (D.entry_of w) s.now.densities in
+        let d = diagonal (sheet_in (entries (D.entry_of w) s.now.table) 1) in
+        zeta_by (D.of w) result ≡ zeta (D.beside w) (D.functions w) s.now.n rho d (points (D.beside w) s.now.m.now) }
 {
     let none = zero::<D>();
     let mut z = Zetas {
@@ -74,10 +64,10 @@ pub fn zeta<D: DualNum>(n: usize, rho: &NumberList, table: &NumberList, m: &[f64
         z2: none,
         z3: none,
     };
-    for i in 0usize..n {
-        let a = D::entry(rho, i);
-        let d = D::entry(table, HS_DIAMETER + (SIDE * i + i));
-        z = zeta_added(a, d, D::Plain::lit(m[i]), z);
+    for i in 0usize..s.n {
+        let a = D::entry(&s.densities, i);
+        let d = D::entry(&s.table, HS_DIAMETER + (SIDE * i + i));
+        z = zeta_added(a, d, D::Plain::lit(s.m[i]), z);
     }
     z
 }
@@ -98,18 +88,19 @@ fn zeta_23_added<D: DualNum>(x: D, d: D, m: D::Plain, y: Zeta23<D>) -> Zeta23<D>
     }
 }
 
-fn zeta_23<D: DualNum>(n: usize, x: &NumberList, table: &NumberList, m: &[f64; SIDE]) -> D
-    requires { Listed D.has n x.now table.now }
-    ensures { (w : Bool) → let x = entries (D.entry_of w) x.now in
-        let d = diagonal (sheet_in (entries (D.entry_of w) table.now) 1) in
-        D.of w result ≡ zeta23 (D.beside w) n x d (points (D.beside w) m.now) }
+// Beside zeta's, two sums whose parts end with m and not with its share of pi: other roundings.
+fn zeta_23<D: DualNum>(s: &State<D>) -> D
+    requires { Right D.has s.now }
+    ensures { (w : Bool) → let x = entries (D.entry_of w) s.now.fractions in
+        let d = diagonal (sheet_in (entries (D.entry_of w) s.now.table) 1) in
+        D.of w result ≡ zeta23 (D.beside w) s.now.n x d (points (D.beside w) s.now.m.now) }
 {
     let none = zero::<D>();
     let mut y = Zeta23 { y0: none, y1: none };
-    for i in 0usize..n {
-        let a = D::entry(x, i);
-        let d = D::entry(table, HS_DIAMETER + (SIDE * i + i));
-        y = zeta_23_added(a, d, D::Plain::lit(m[i]), y);
+    for i in 0usize..s.n {
+        let a = D::entry(&s.fractions, i);
+        let d = D::entry(&s.table, HS_DIAMETER + (SIDE * i + i));
+        y = zeta_23_added(a, d, D::Plain::lit(s.m[i]), y);
     }
     y.y0 / y.y1
 }
@@ -127,21 +118,15 @@ fn hard_sphere_of<D: DualNum>(z: Zetas<D>, z23: D, l: D) -> D
 }
 
 // From the zetas, which the non-additive part takes too.
-pub fn helmholtz_energy_density<D: DualNum>(
-    n: usize,
-    x: &NumberList,
-    table: &NumberList,
-    m: &[f64; SIDE],
-    z: Zetas<D>,
-) -> Result<D, Refusal>
-    requires { Listed D.has n x.now table.now }
-    ensures { (w : Bool) → let x = entries (D.entry_of w) x.now in
-        let d = diagonal (sheet_in (entries (D.entry_of w) table.now) 1) in
-        answer_by (D.of w) result ≡ hard_sphere_from (D.beside w) (D.functions w) n x d (points (D.beside w) m.now) (zeta_by (D.of w) z) }
+pub fn helmholtz_energy_density<D: DualNum>(s: &State<D>, z: Zetas<D>) -> Result<D, Refusal>
+    requires { Right D.has s.now }
+    ensures { (w : Bool) → let x = entries (D.entry_of w) s.now.fractions in
+        let d = diagonal (sheet_in (entries (D.entry_of w) s.now.table) 1) in
+        answer_by (D.of w) result ≡ hard_sphere_from (D.beside w) (D.functions w) s.now.n x d (points (D.beside w) s.now.m.now) (zeta_by (D.of w) z) }
 {
     let v = z.z3 * D::Plain::lit(-1.0);
     let l = v.ln_1p()?;
-    let z23 = zeta_23(n, x, table, m);
+    let z23 = zeta_23(s);
     Ok(hard_sphere_of(z, z23, l))
 }
 

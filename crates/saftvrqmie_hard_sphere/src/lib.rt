@@ -4,5 +4,21 @@
 mod hard_sphere;
 mod non_additive_hs;
 
-pub use hard_sphere::{Zetas, component, helmholtz_energy_density, segment_density, zero, zeta};
+use dual_num::NumberList;
+pub use hard_sphere::{Zetas, helmholtz_energy_density, segment_density, zero, zeta};
 pub use non_additive_hs::wanted_part;
+use saftvrqmie_parameters::OrderRecord;
+use sizes::{SHEET, SHEETS, SIDE};
+
+// What the energies read: a set's parts, and a temperature with its table, fractions and densities.
+#[derive(Clone, Copy)]
+pub struct State<'a, D> {
+    pub n: usize,
+    pub m: &'a [f64; SIDE],
+    pub sheets: &'a [f64; SHEETS],
+    pub orders: [OrderRecord; SHEET],
+    pub temperature: D,
+    pub table: NumberList<'a>,
+    pub fractions: NumberList<'a>,
+    pub densities: NumberList<'a>,
+}

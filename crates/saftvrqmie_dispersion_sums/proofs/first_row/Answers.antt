@@ -29,7 +29,7 @@ loop-j-preserved g c =
       search rules,
       λ x v q p.
           let t = c.loop-j.invariant.2 x v q p in
-          let lead = rw (c.entry-d.ensures true, c.component-xi.ensures true, q _ c.requires.1, c.component-xj.ensures true, q c.loop-j.j c.loop-j-test.true, from_start _ _ c.loop-j.invariant.0) at (c.lead.ensures true) in
+          let lead = rw (c.entry-d.ensures true, c.item-xi.ensures true, q _ c.requires.1, c.item-xj.ensures true, q c.loop-j.j c.loop-j-test.true, from_start _ _ c.loop-j.invariant.0) at (c.lead.ensures true) in
           rw (from_next _ _ c.loop-j.invariant.0) (walked_next _ _ (m.taken_of_law true) _ _ _ _ _ t (first_held (D.beside true) _ _ _ _ _ _ _ _ _ (rw (from_start _ _ c.loop-j.invariant.0) at (c.perturbed_pair-pair.ensures x)) (c.first_order_perturbation_ij.ensures true) _ _ _ (ap (answer_by (D.of true)) c.in_ok-v.was) lead (rw (m.add_law true _ _ _ c.add-a1.ensures, ← t.holds.begun, m.add_taken_law true _ _, m.mul_law true _ _ _ c.mul.ensures)))),
     )
 

@@ -12,7 +12,7 @@ abbrev pub invariant-loop-i : goal.invariant-loop-i
 invariant-loop-i g l =
     let D = g.D.DualNum in
     let A = D.beside true in
-    (l.i ≤ l.n) × ((x : ℕ → A.Num) → Reads A (D.of true) l.n l.xs x → Holds (D.of true) (D.taken true) l.i l.r (turns l.i (packing_row A (D.functions true) l.n x (λ e. D.entry_of true l.table.values.now l.table.slopes.now (l.from + e))) (whole A 0)))
+    (l.i ≤ l.s.n) × ((x : ℕ → A.Num) → Reads A (D.of true) l.s.n l.xs x → Holds (D.of true) (D.taken true) l.i l.r (turns l.i (packing_row A (D.functions true) l.s.n x (λ e. D.entry_of true l.s.table.values.now l.s.table.slopes.now (l.from + e))) (whole A 0)))
 
 abbrev pub decreases-loop-i : goal.decreases-loop-i
-decreases-loop-i g l = l.n - l.i
+decreases-loop-i g l = l.s.n - l.i

@@ -13,7 +13,7 @@ pub loop-j-preserved : goal.loop-j-preserved
 unfolding packing_turn
 loop-j-preserved g c =
     let m = g.met.D.DualNum in
-    (search rules, λ x v q p. holds_next _ _ (m.taken_of_law true) _ _ _ _ (rw (m.add_law true _ _ _ c.add-r.ensures, ← (c.loop-j.invariant.1 x v q p).begun, m.add_taken_law true _ _, m.mul_law true _ _ _ c.mul-in-loop-j.ensures, m.mul_law true _ _ _ c.mul.ensures, c.cube.ensures true, c.entry-d.ensures true, c.component-xi.ensures true, q _ c.requires.2, c.component-xj.ensures true, q _ c.loop-j-test.true)))
+    (search rules, λ x v q p. holds_next _ _ (m.taken_of_law true) _ _ _ _ (rw (m.add_law true _ _ _ c.add-r.ensures, ← (c.loop-j.invariant.1 x v q p).begun, m.add_taken_law true _ _, m.mul_law true _ _ _ c.mul-in-loop-j.ensures, m.mul_law true _ _ _ c.mul.ensures, c.cube.ensures true, c.entry-d.ensures true, c.item-xi.ensures true, q _ c.requires.2, c.item-xj.ensures true, q _ c.loop-j-test.true)))
 
 pub returns : goal.returns
 unfolding packing_row

@@ -10,11 +10,11 @@ use Rattle.saftvrqmie_dispersion_sums.proofs.rows.Goals as goal
 pub loop-i-init : goal.loop-i-init
 loop-i-init g c = (search rules, λ f q. walked_none _ _ _ _ _ (sym (c.zero-sum.ensures true)))
 
-pub returns-in_err-next : goal.returns-in_err-next
-returns-in_err-next g c f q =
+pub returns-in_err-sum : goal.returns-in_err-sum
+returns-in_err-sum g c f q =
     let D = g.D.DualNum in
     let t = c.loop-i.invariant.1 f q in
-    rw (handed_on _ c.from_residual.ensures) (walked_stop _ _ _ _ _ _ _ _ c.loop-i-test.true t (via (answer_by (D.of true)) (q _ _ _ _ c.loop-i-test.true t.holds.begun c.row.ensures) c.in_err-next.was))
+    rw (handed_on _ c.from_residual.ensures) (walked_stop _ _ _ _ _ _ _ _ c.loop-i-test.true t (via (answer_by (D.of true)) (q _ _ _ _ c.loop-i-test.true t.holds.begun c.row.ensures) c.in_err-sum.was))
 
 pub loop-i-preserved : goal.loop-i-preserved
 loop-i-preserved g c =
@@ -23,7 +23,7 @@ loop-i-preserved g c =
       search rules,
       λ f q.
           let t = c.loop-i.invariant.1 f q in
-          walked_next _ _ (m.taken_of_law true) _ _ _ _ _ t (via (answer_by (D.of true)) (q _ _ _ _ c.loop-i-test.true t.holds.begun c.row.ensures) c.in_ok-next.was),
+          walked_next _ _ (m.taken_of_law true) _ _ _ _ _ t (via (answer_by (D.of true)) (q _ _ _ _ c.loop-i-test.true t.holds.begun c.row.ensures) c.in_ok-sum.was),
     )
 
 pub returns : goal.returns

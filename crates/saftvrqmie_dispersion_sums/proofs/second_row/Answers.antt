@@ -32,8 +32,8 @@ loop-j-preserved g c =
       search rules,
       λ x a v q r p.
           let t = c.loop-j.invariant.2 x a v q r p in
-          let lead = rw (c.entry-d.ensures true, c.component-xi.ensures true, q _ c.requires.1, c.component-xj.ensures true, q _ c.loop-j-test.true, from_start _ _ c.loop-j.invariant.0) at (c.lead-f.ensures true) in
-          let chi = rw (c.pair_entry-a.ensures, r _ _ c.requires.1 c.loop-j-test.true, from_start _ _ c.loop-j.invariant.0) at (c.chi-chi.ensures true) in
+          let lead = rw (c.entry-d.ensures true, c.item-xi.ensures true, q _ c.requires.1, c.item-xj.ensures true, q _ c.loop-j-test.true, from_start _ _ c.loop-j.invariant.0) at (c.lead-f.ensures true) in
+          let chi = rw (c.item-a.ensures true, r _ _ c.requires.1 c.loop-j-test.true, from_start _ _ c.loop-j.invariant.0) at (c.chi-chi.ensures true) in
           rw (from_next _ _ c.loop-j.invariant.0) (walked_next _ _ (m.taken_of_law true) _ _ _ _ _ t (second_held (D.beside true) _ _ _ _ _ _ _ _ _ (rw (from_start _ _ c.loop-j.invariant.0) at (c.perturbed_pair-pair.ensures x)) a c.second_order_perturbation_ij.ensures _ _ _ _ _ (ap (answer_by (D.of true)) c.in_ok-v.was) lead chi refl (rw (m.add_law true _ _ _ c.add-a2.ensures, ← t.holds.begun, m.add_taken_law true _ _, m.mul_law true _ _ _ c.mul-in-loop-j.ensures, m.mul_law true _ _ _ c.mul.ensures, m.add_plain_law true _ _ _ c.add.ensures, m.plain_lit_law true _ _ c.lit.ensures)))),
     )
 

@@ -14,7 +14,7 @@ abbrev pub invariant-loop-j : goal.invariant-loop-j
 invariant-loop-j g l =
     let D = g.D.DualNum in
     let A = D.beside true in
-    (l.i ≤ l.j) × (l.j ≤ l.s.n) × ((x a : ℕ → A.Num) (v : A.Num) → Reads A (D.of true) l.s.n l.xs x → Pairs A l.s.n (map (D.of true) l.alphas) a → D.taken true v ≡ D.of true l.initial.a2 → Walked (D.of true) (D.taken true) (l.j - l.i) l.a2 (walk (l.j - l.i) (second_pair_turn A (D.functions true) (sheets_by A l.s.n l.s.sheets.now l.s.orders (D.of true l.s.temperature) (D.entry_of true l.s.table.values.now l.s.table.slopes.now)) x (mixture_by (D.of true) l.w) a l.i) v))
+    (l.i ≤ l.j) × (l.j ≤ l.m.state.now.n) × ((x a : ℕ → A.Num) (v : A.Num) → Reads A (D.of true) l.m.state.now.n l.m.xs.now x → Pairs A l.m.state.now.n (map (D.of true) l.alphas) a → D.taken true v ≡ D.of true l.initial.a2 → Walked (D.of true) (D.taken true) (l.j - l.i) l.a2 (walk (l.j - l.i) (second_pair_turn A (D.functions true) (sheets_by A l.m.state.now.n l.m.state.now.sheets.now l.m.state.now.orders (D.of true l.m.state.now.temperature) (D.entry_of true l.m.state.now.table.values.now l.m.state.now.table.slopes.now)) x (mixture_by (D.of true) l.m.segment) a l.i) v))
 
 abbrev pub decreases-loop-j : goal.decreases-loop-j
-decreases-loop-j g l = l.s.n - l.j
+decreases-loop-j g l = l.m.state.now.n - l.j

@@ -18,7 +18,7 @@ unfolding third_row
 returns-in_err-v g c x a v q r p =
     let D = g.D.DualNum in
     let t = c.loop-j.invariant.1 x a v q r p in
-    let worked = rw (c.entry-depth.ensures true, c.pair_entry-a.ensures, r _ _ c.requires.1 c.loop-j-test.true) at (c.third_order_perturbation_ij.ensures true) in
+    let worked = rw (c.entry-depth.ensures true, c.item-a.ensures true, r _ _ c.requires.1 c.loop-j-test.true) at (c.third_order_perturbation_ij.ensures true) in
     rw (handed_on _ c.from_residual.ensures) (walked_stop _ _ _ _ _ _ _ _ c.loop-j-test.true t (third_outside (D.beside true) _ _ _ _ _ _ _ _ _ _ _ refl worked _ (ap (answer_by (D.of true)) c.in_err-v.was)))
 
 pub loop-j-preserved : goal.loop-j-preserved
@@ -28,8 +28,8 @@ loop-j-preserved g c =
       search rules,
       λ x a v q r p.
           let t = c.loop-j.invariant.1 x a v q r p in
-          let worked = rw (c.entry-depth.ensures true, c.pair_entry-a.ensures, r _ _ c.requires.1 c.loop-j-test.true) at (c.third_order_perturbation_ij.ensures true) in
-          walked_next _ _ (m.taken_of_law true) _ _ _ _ _ t (third_held (D.beside true) _ _ _ _ _ _ _ _ _ _ _ refl worked _ _ _ (ap (answer_by (D.of true)) c.in_ok-v.was) refl (rw (m.add_law true _ _ _ c.add-a3.ensures, ← t.holds.begun, m.add_taken_law true _ _, m.mul_law true _ _ _ c.mul-in-loop-j.ensures, m.mul_law true _ _ _ c.mul.ensures, c.component-xi.ensures true, q _ c.requires.1, c.component-xj.ensures true, q _ c.loop-j-test.true))),
+          let worked = rw (c.entry-depth.ensures true, c.item-a.ensures true, r _ _ c.requires.1 c.loop-j-test.true) at (c.third_order_perturbation_ij.ensures true) in
+          walked_next _ _ (m.taken_of_law true) _ _ _ _ _ t (third_held (D.beside true) _ _ _ _ _ _ _ _ _ _ _ refl worked _ _ _ (ap (answer_by (D.of true)) c.in_ok-v.was) refl (rw (m.add_law true _ _ _ c.add-a3.ensures, ← t.holds.begun, m.add_taken_law true _ _, m.mul_law true _ _ _ c.mul-in-loop-j.ensures, m.mul_law true _ _ _ c.mul.ensures, c.item-xi.ensures true, q _ c.requires.1, c.item-xj.ensures true, q _ c.loop-j-test.true))),
     )
 
 pub returns : goal.returns

@@ -10,10 +10,10 @@ use Rattle.saftvrqmie_hard_sphere.proofs.hard_sphere.zeta_23.Given as goal
 
 abbrev pub invariant-loop-i : goal.invariant-loop-i
 invariant-loop-i g l =
-    (l.i ≤ l.n) × ((w : Bool) → let D = g.D.DualNum in
+    (l.i ≤ l.s.n) × ((w : Bool) → let D = g.D.DualNum in
     let A = D.beside w in
     let z = whole A 0 in
-    Holds (zeta23_by (D.of w)) (zeta23_each (D.taken w)) l.i l.y (turns l.i (λ i y. zeta23_added A (D.entry_of w l.x.values.now l.x.slopes.now i) (diagonal (sheet_in (D.entry_of w l.table.values.now l.table.slopes.now) 1) i) (points A l.m i) y) (record { y0 = z; y1 = z })))
+    Holds (zeta23_by (D.of w)) (zeta23_each (D.taken w)) l.i l.y (turns l.i (λ i y. zeta23_added A (D.entry_of w l.s.fractions.values.now l.s.fractions.slopes.now i) (diagonal (sheet_in (D.entry_of w l.s.table.values.now l.s.table.slopes.now) 1) i) (points A l.s.m.now i) y) (record { y0 = z; y1 = z })))
 
 abbrev pub decreases-loop-i : goal.decreases-loop-i
-decreases-loop-i g l = l.n - l.i
+decreases-loop-i g l = l.s.n - l.i

@@ -14,7 +14,7 @@ loop-i-preserved g c =
     let m = g.met.D.DualNum in (
       search rules,
       λ w x v q p.
-          let pair = rw (c.entry-di.ensures w, c.entry-dj.ensures w, c.entry-dij.ensures w, c.component-xi.ensures w, q _ c.loop-i-test.true, c.component-xj.ensures w, q _ c.requires.1) at (c.non_additive_ij.ensures w) in
+          let pair = rw (c.entry-di.ensures w, c.entry-dj.ensures w, c.entry-dij.ensures w, c.item-xi.ensures w, q _ c.loop-i-test.true, c.item-xj.ensures w, q _ c.requires.1) at (c.non_additive_ij.ensures w) in
           let D = g.D.DualNum in
           holds_next _ _ (m.taken_of_law w) _ _ _ _ (added (D.of w) (D.taken w) (D.beside w).add (m.add_taken_law w) _ _ _ _ _ (m.add_law w _ _ _ c.add-r.ensures) (c.loop-i.invariant.1 w x v q p).begun pair),
     )

@@ -10,9 +10,9 @@ use Rattle.saftvrqmie_hard_sphere.proofs.non_additive_hs.non_additive_column.Giv
 
 abbrev pub invariant-loop-i : goal.invariant-loop-i
 invariant-loop-i g l =
-    (l.i ≤ l.n) × ((w : Bool) → let D = g.D.DualNum in
+    (l.i ≤ l.s.n) × ((w : Bool) → let D = g.D.DualNum in
     let A = D.beside w in
-    (x : ℕ → A.Num) (v : A.Num) → Reads A (D.of w) l.n l.xs x → D.taken w v ≡ D.of w l.initial.r → Holds (D.of w) (D.taken w) l.i l.r (turns l.i (non_additive_turn A (D.functions w) l.n x (sheet_in (D.entry_of w l.table.values.now l.table.slopes.now) 1) (D.of w l.s.rho_s) (D.of w l.s.z2) (D.of w l.s.f) l.j) v))
+    (x : ℕ → A.Num) (v : A.Num) → Reads A (D.of w) l.s.n l.xs x → D.taken w v ≡ D.of w l.initial.r → Holds (D.of w) (D.taken w) l.i l.r (turns l.i (non_additive_turn A (D.functions w) l.s.n x (sheet_in (D.entry_of w l.s.table.values.now l.s.table.slopes.now) 1) (D.of w l.shared.rho_s) (D.of w l.shared.z2) (D.of w l.shared.f) l.j) v))
 
 abbrev pub decreases-loop-i : goal.decreases-loop-i
-decreases-loop-i g l = l.n - l.i
+decreases-loop-i g l = l.s.n - l.i

@@ -1,7 +1,7 @@
--- `saftvrqmie_dispersion_sums::mixture` meets its contract. Assumes nothing.
+-- `saftvrqmie_dispersion_sums::segment_state` meets its contract. Assumes nothing.
 use mathlib.Core.Bool.{true}
 use Rattle.saftvrqmie_dispersion_sums.specs.Dispersion.{mixture}
-use Rattle.saftvrqmie_dispersion_sums.proofs.mixture.Goals as goal
+use Rattle.saftvrqmie_dispersion_sums.proofs.segment_state.Goals as goal
 
 pub returns : goal.returns
 unfolding mixture
