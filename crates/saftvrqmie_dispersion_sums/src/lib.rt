@@ -32,7 +32,7 @@ pub struct SegmentState<D> {
     pub zeta_bar: D,
 }
 
-// What the sums of the three orders read: a state, its segment fractions and what they share of them. xs is a slice: of an array behind a field it is not proved that it fits in memory.
+// What the sums of the three orders read: a state, its segment fractions and what they share of them. xs and the alphas beside it are slices: of an array of a run's numbers behind a field or in a closure it is not proved that it fits in memory.
 // That the state was tested is each function's premise: nothing shows that D.has has one proof at most, so no ghost field keeps it.
 #[derive(Drop)]
 struct Mixture<'a, D> {
@@ -218,25 +218,11 @@ fn first<D: DualNum>(m: &Mixture<D>) -> Result<D, Refusal>
         (x : ℕ → A.Num) → Reads A (D.of true) sheets.count m.now.xs.now x →
         answer_by (D.of true) result ≡ first A (D.functions true) sheets x (mixture_by (D.of true) m.now.segment) }
 {
-    rows(
-        m.state.n,
-        |i, a1|
-            requires { Right D.has m.now.state.now × (i < m.now.state.now.n) }
-            ensures { let A = D.beside true in
-                let sheets = sheets_read A (D.of true) (D.entry_of true) m.entry.now.state.now in
-                (x : ℕ → A.Num) (v : A.Num) → Reads A (D.of true) sheets.count m.entry.now.xs.now x → D.taken true v ≡ D.of true a1 →
-                answer_by (D.of true) result ≡ first_row A (D.functions true) sheets x (mixture_by (D.of true) m.entry.now.segment) i v }
-        { first_row(m, i, a1) },
-    )
+    rows(m.state.n, |i, a1| first_row(m, i, a1))
 }
 
-fn second_row<D: DualNum>(
-    m: &Mixture<D>,
-    alphas: &[D; SHEET],
-    i: usize,
-    sum: D,
-) -> Result<D, Refusal>
-    requires { Right D.has m.now.state.now × (i < m.now.state.now.n) }
+fn second_row<D: DualNum>(m: &Mixture<D>, alphas: &[D], i: usize, sum: D) -> Result<D, Refusal>
+    requires { Right D.has m.now.state.now × (i < m.now.state.now.n) × (length alphas.now ≡ sheet) }
     ensures { let A = D.beside true in
         let sheets = sheets_read A (D.of true) (D.entry_of true) m.now.state.now in
         (x : ℕ → A.Num) (a : ℕ → A.Num) (v : A.Num) → Reads A (D.of true) sheets.count m.now.xs.now x → Pairs A sheets.count (map (D.of true) alphas.now) a → D.taken true v ≡ D.of true sum →
@@ -259,34 +245,20 @@ fn second_row<D: DualNum>(
     Ok(a2)
 }
 
-fn second<D: DualNum>(m: &Mixture<D>, alphas: &[D; SHEET]) -> Result<D, Refusal>
-    requires { Right D.has m.now.state.now }
+fn second<D: DualNum>(m: &Mixture<D>, alphas: &[D]) -> Result<D, Refusal>
+    requires { Right D.has m.now.state.now × (length alphas.now ≡ sheet) }
     ensures { let A = D.beside true in
         let sheets = sheets_read A (D.of true) (D.entry_of true) m.now.state.now in
         (x : ℕ → A.Num) (a : ℕ → A.Num) → Reads A (D.of true) sheets.count m.now.xs.now x → Pairs A sheets.count (map (D.of true) alphas.now) a →
         answer_by (D.of true) result ≡ second A (D.functions true) sheets x (mixture_by (D.of true) m.now.segment) a }
 {
-    let a2 = rows(
-        m.state.n,
-        |i, a2|
-            requires { Right D.has m.now.state.now × (i < m.now.state.now.n) }
-            ensures { let A = D.beside true in
-                let sheets = sheets_read A (D.of true) (D.entry_of true) m.entry.now.state.now in
-                (x : ℕ → A.Num) (a : ℕ → A.Num) (v : A.Num) → Reads A (D.of true) sheets.count m.entry.now.xs.now x → Pairs A sheets.count (map (D.of true) alphas.entry.now) a → D.taken true v ≡ D.of true a2 →
-                answer_by (D.of true) result ≡ second_row A (D.functions true) sheets x (mixture_by (D.of true) m.entry.now.segment) a i v }
-        { second_row(m, alphas, i, a2) },
-    )?;
+    let a2 = rows(m.state.n, |i, a2| second_row(m, alphas, i, a2))?;
     let k = saftvrqmie_dispersion::k(m.segment.zeta);
     Ok(a2 * k)
 }
 
-fn third_row<D: DualNum>(
-    m: &Mixture<D>,
-    alphas: &[D; SHEET],
-    i: usize,
-    sum: D,
-) -> Result<D, Refusal>
-    requires { Right D.has m.now.state.now × (i < m.now.state.now.n) }
+fn third_row<D: DualNum>(m: &Mixture<D>, alphas: &[D], i: usize, sum: D) -> Result<D, Refusal>
+    requires { Right D.has m.now.state.now × (i < m.now.state.now.n) × (length alphas.now ≡ sheet) }
     ensures { let A = D.beside true in
         let sheets = sheets_read A (D.of true) (D.entry_of true) m.now.state.now in
         (x : ℕ → A.Num) (a : ℕ → A.Num) (v : A.Num) → Reads A (D.of true) sheets.count m.now.xs.now x → Pairs A sheets.count (map (D.of true) alphas.now) a → D.taken true v ≡ D.of true sum →
@@ -306,23 +278,14 @@ fn third_row<D: DualNum>(
     Ok(a3)
 }
 
-fn third<D: DualNum>(m: &Mixture<D>, alphas: &[D; SHEET]) -> Result<D, Refusal>
-    requires { Right D.has m.now.state.now }
+fn third<D: DualNum>(m: &Mixture<D>, alphas: &[D]) -> Result<D, Refusal>
+    requires { Right D.has m.now.state.now × (length alphas.now ≡ sheet) }
     ensures { let A = D.beside true in
         let sheets = sheets_read A (D.of true) (D.entry_of true) m.now.state.now in
         (x : ℕ → A.Num) (a : ℕ → A.Num) → Reads A (D.of true) sheets.count m.now.xs.now x → Pairs A sheets.count (map (D.of true) alphas.now) a →
         answer_by (D.of true) result ≡ third A (D.functions true) sheets.count sheets.epsilon_k_eff x (D.of true m.now.segment.zeta_bar) a }
 {
-    rows(
-        m.state.n,
-        |i, a3|
-            requires { Right D.has m.now.state.now × (i < m.now.state.now.n) }
-            ensures { let A = D.beside true in
-                let sheets = sheets_read A (D.of true) (D.entry_of true) m.entry.now.state.now in
-                (x : ℕ → A.Num) (a : ℕ → A.Num) (v : A.Num) → Reads A (D.of true) sheets.count m.entry.now.xs.now x → Pairs A sheets.count (map (D.of true) alphas.entry.now) a → D.taken true v ≡ D.of true a3 →
-                answer_by (D.of true) result ≡ third_row A (D.functions true) sheets.count sheets.epsilon_k_eff x (D.of true m.entry.now.segment.zeta_bar) a i v }
-        { third_row(m, alphas, i, a3) },
-    )
+    rows(m.state.n, |i, a3| third_row(m, alphas, i, a3))
 }
 
 // n_s is summed anew, as in the Rust. xs and alphas are room: a run of any numbers has no array of its own.
@@ -348,8 +311,8 @@ pub fn helmholtz_energy_density<D: DualNum>(
         segment,
     };
     let a1 = first(&m)?;
-    let a2 = second(&m, alphas)?;
-    let a3 = third(&m, alphas)?;
+    let a2 = second(&m, &*alphas)?;
+    let a3 = third(&m, &*alphas)?;
     let n_s = segment_density::<D>(s.n, &s.densities, s.m);
     Ok(n_s * saftvrqmie_dispersion::orders_sum(s.temperature, a1, a2, a3))
 }
