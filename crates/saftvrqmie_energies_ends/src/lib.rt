@@ -4,7 +4,7 @@
 ghost use Rattle.std.specs.Prelude.{◌≡◌};
 ghost use Rattle.elementary.specs.Port.{port};
 ghost use Rattle.saftvrqmie_energies.specs.Energies.{energies_in, energies_answer};
-ghost use Rattle.saftvrqmie_energies.specs.Reads.{set_of};
+ghost use Rattle.saftvrqmie_energies.specs.Reads.{set_of, asked_at};
 ghost use Rattle.saftvrqmie_energies_ends.specs.Operation.{all_sound, sound_ends, energies_enclosed, energies_ends};
 
 use enclosure::{Enclosure, Ends};
@@ -33,7 +33,7 @@ fn all_sound(e: EnergiesEnclosures) -> bool
 
 // The enclosures of hard sphere, dispersion and, if wanted, non-additive, over a set's parts. 1, 2, 6, 7.
 pub fn enclosures_of(set: &Set, q: &StateLists) -> Result<EnergiesEnclosures, Refusal>
-    ensures { energies_answer result ≡ energies_enclosed port (set_of set.now) q.now.temperature q.now.fractions.now q.now.densities.now q.now.table.now q.now.non_additive }
+    ensures { energies_answer result ≡ asked_at (energies_enclosed port (set_of set.now)) q.now }
 {
     let zero = Enclosure::point(0.0);
     let mut xs = [zero; SIDE];
@@ -57,7 +57,7 @@ pub fn sound_ends(e: EnergiesEnclosures) -> Result<EnergiesEnds, Refusal>
 
 // The two ends of each, over a set's parts. 1, 2, 6, 7, 8.
 pub fn energies_ends_of(set: &Set, q: &StateLists) -> Result<EnergiesEnds, Refusal>
-    ensures { energies_answer result ≡ energies_ends port (set_of set.now) q.now.temperature q.now.fractions.now q.now.densities.now q.now.table.now q.now.non_additive }
+    ensures { energies_answer result ≡ asked_at (energies_ends port (set_of set.now)) q.now }
 {
     let e = enclosures_of(set, q)?;
     sound_ends(e)
@@ -66,21 +66,9 @@ pub fn energies_ends_of(set: &Set, q: &StateLists) -> Result<EnergiesEnds, Refus
 // The two ends of hard sphere, dispersion and, if wanted, non-additive. 1, 2, 6, 7, 8.
 pub fn helmholtz_energy_densities_ends(
     set: SaftVRQMiePars,
-    temperature: f64,
-    fractions: &[f64],
-    densities: &[f64],
-    table: &[f64],
-    non_additive: bool,
+    q: &StateLists,
 ) -> Result<EnergiesEnds, Refusal>
-    ensures { energies_answer result ≡ energies_ends port set temperature fractions.now densities.now table.now non_additive }
+    ensures { energies_answer result ≡ asked_at (energies_ends port set) q.now }
 {
-    let parts = saftvrqmie_energies::lent(&set);
-    let q = StateLists {
-        temperature,
-        fractions,
-        densities,
-        table,
-        non_additive,
-    };
-    energies_ends_of(&parts, &q)
+    energies_ends_of(&Set::from(&set), q)
 }

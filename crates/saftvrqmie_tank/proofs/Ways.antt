@@ -124,9 +124,9 @@ module _ (A : Arith) (s : SaftVRQMiePars) (y : Layer) (wanted : Bool) where
     unfolding layer_answer layer_from table_of demand ◌>>=◌
     layer_table a k q r = rw (p, table_reads_no_m, q, r)
 
-    pub layer_energies : (a : Ans (EnergiesIn A.Num)) (w : Lent) (table : List Float) → worked ≡ held w → table ≡ w.values → a ≡ behind (energies s y.temperature y.fractions y.densities table wanted) (contributions_of A (calls A port) s y.temperature y.fractions y.densities table wanted) → a ≡ layer_answer A s y wanted
+    pub layer_energies : (a : Ans (EnergiesIn A.Num)) (w : Lent) (table : List Float) (given : SaftVRQMiePars) → worked ≡ held w → table ≡ w.values → given ≡ s → a ≡ behind (energies given y.temperature y.fractions y.densities table wanted) (contributions_of A (calls A port) given y.temperature y.fractions y.densities table wanted) → a ≡ layer_answer A s y wanted
     unfolding layer_answer layer_from table_of energies_by demand ◌>>=◌
-    layer_energies a w table q e r = rw (p, table_reads_no_m, q, ← e) r
+    layer_energies a w table given q e is r = rw (p, table_reads_no_m, q, ← e) (rw is at r)
 
 -- what layer l answers
 abbrev pub answers_of : SaftVRQMiePars → TankLists → Bool → ℕ → Ans (EnergiesIn Float)

@@ -7,13 +7,14 @@ ghost use Rattle.number.specs.Arith.{zero64};
 ghost use Rattle.number.specs.Functions.{calls};
 ghost use Rattle.elementary.specs.Port.{port};
 ghost use Rattle.saftvrqmie_energies.specs.Energies.{each_by, energies_answer, contributions_of, energies};
+ghost use Rattle.saftvrqmie_energies.specs.Reads.{set_of, asked_at};
 ghost use Rattle.saftvrqmie_tank.specs.Tank.{most_layers, lists_of, layer_in, layer_at, layers_within, tank_lengths, volume_within, layer_within, piled, layer_piled, behind, layer_answer, layers_answer, tank};
 
 use enclosure::Enclosure;
 use number::Refusal;
 use plain_num::PlainNum;
 use saftvrqmie::PairsAt;
-use saftvrqmie_energies::{Energies, QuantumEnergies, StateLists};
+use saftvrqmie_energies::{Energies, QuantumEnergies, Set, StateLists};
 use saftvrqmie_parameters::SaftVRQMiePars;
 use sizes::{COUNTS, TABLE};
 
@@ -41,24 +42,21 @@ pub struct Layer<'a> {
 
 // A run that works a layer's energies from its table. 1, 2, 6, 7 of the float run.
 pub trait LayerRun: PlainNum {
-    fn energies(set: &SaftVRQMiePars, q: &StateLists) -> Result<Energies<Self>, Refusal>
-        ensures { let s = set.now in
-            let float = energies s q.now.temperature q.now.fractions.now q.now.densities.now q.now.table.now q.now.non_additive in
+    fn energies(set: &Set, q: &StateLists) -> Result<Energies<Self>, Refusal>
+        ensures { let s = set_of set.now in
             let A = Self.beside true in
-            answer_by (each_by (Self.of true)) result ≡ behind float (contributions_of A (calls A port) s q.now.temperature q.now.fractions.now q.now.densities.now q.now.table.now q.now.non_additive) };
+            answer_by (each_by (Self.of true)) result ≡ behind (asked_at (energies s) q.now) (asked_at (contributions_of A (calls A port) s) q.now) };
 }
 
 impl LayerRun for f64 {
-    fn energies(set: &SaftVRQMiePars, q: &StateLists) -> Result<Energies<f64>, Refusal> {
-        let parts = saftvrqmie_energies::lent(set);
-        saftvrqmie_energies::energies_of(&parts, q)
+    fn energies(set: &Set, q: &StateLists) -> Result<Energies<f64>, Refusal> {
+        saftvrqmie_energies::energies_of(set, q)
     }
 }
 
 impl LayerRun for Enclosure {
-    fn energies(set: &SaftVRQMiePars, q: &StateLists) -> Result<Energies<Enclosure>, Refusal> {
-        let parts = saftvrqmie_energies::lent(set);
-        saftvrqmie_energies_ends::enclosures_of(&parts, q)
+    fn energies(set: &Set, q: &StateLists) -> Result<Energies<Enclosure>, Refusal> {
+        saftvrqmie_energies_ends::enclosures_of(set, q)
     }
 }
 
@@ -142,7 +140,7 @@ fn layer_of<D: LayerRun>(
         table: &table,
         non_additive,
     };
-    D::energies(set, &q)
+    D::energies(&Set::from(set), &q)
 }
 
 fn piled<D: PlainNum>(y: &Layer, energy: D, below: D) -> D

@@ -4,11 +4,12 @@
 ghost use Rattle.std.specs.Prelude.{◌≡◌};
 ghost use Rattle.number.specs.Answer.{answer};
 ghost use Rattle.saftvrqmie_energies.specs.Energies.{energies_in};
+ghost use Rattle.saftvrqmie_energies.specs.Reads.{asked_at};
 ghost use Rattle.saftvrqmie_total.specs.Total.{finite_sum, contributions_total, total};
 
 use number::Refusal;
 use rounded_sum::RoundedSum;
-use saftvrqmie_energies::{QuantumEnergies, StateLists};
+use saftvrqmie_energies::{QuantumEnergies, Set, StateLists};
 use saftvrqmie_parameters::SaftVRQMiePars;
 
 #[derive(Clone, Copy)]
@@ -43,24 +44,9 @@ pub fn contributions_total(e: QuantumEnergies, non_additive: bool) -> Result<Qua
 }
 
 // 1, 2, 6, 7.
-pub fn total(
-    set: &SaftVRQMiePars,
-    temperature: f64,
-    fractions: &[f64],
-    densities: &[f64],
-    table: &[f64],
-    non_additive: bool,
-) -> Result<QuantumTotal, Refusal>
-    ensures { answer result ≡ total set.now temperature fractions.now densities.now table.now non_additive }
+pub fn total(set: &SaftVRQMiePars, q: &StateLists) -> Result<QuantumTotal, Refusal>
+    ensures { answer result ≡ asked_at (total set.now) q.now }
 {
-    let parts = saftvrqmie_energies::lent(set);
-    let q = StateLists {
-        temperature,
-        fractions,
-        densities,
-        table,
-        non_additive,
-    };
-    let e = saftvrqmie_energies::energies_of(&parts, &q)?;
-    contributions_total(e, non_additive)
+    let e = saftvrqmie_energies::energies_of(&Set::from(set), q)?;
+    contributions_total(e, q.non_additive)
 }

@@ -11,7 +11,7 @@ ghost use Rattle.stages.specs.Stages.{quantum_stage, mie_energy, mie_stage};
 use number::Refusal;
 use saftvrmie_energies::{Set, State};
 use saftvrmie_parameters::SaftVRMiePars;
-use saftvrqmie_energies::QuantumEnergies;
+use saftvrqmie_energies::{QuantumEnergies, StateLists};
 use sizes::{COUNTS, SIDE, TABLE};
 
 // Quantum: parameters (1 to 6), a table of its own (2, 6, 7), energies (1, 2, 6, 7); the first refusal on the way. A stage takes no state's lists as one: its table is worked here.
@@ -34,14 +34,14 @@ pub fn quantum_stage(
     let mut table = [0.0; TABLE];
     let mut counts = [0u8; COUNTS];
     saftvrqmie::temperature_dependent_properties(set, temperature, &mut table, &mut counts)?;
-    saftvrqmie_energies::helmholtz_energy_densities(
-        set,
+    let q = StateLists {
         temperature,
         fractions,
         densities,
-        &table,
+        table: &table,
         non_additive,
-    )
+    };
+    saftvrqmie_energies::helmholtz_energy_densities(set, &q)
 }
 
 // Diameters into a list of the stage's own, then the energy from them: there is a state once they are worked.

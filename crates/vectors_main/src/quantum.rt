@@ -9,6 +9,7 @@ use crate::tally::Operation;
 use mie_parameters::set::Parameters;
 use number::{Refusal, bits_of};
 use records::{floats, part};
+use saftvrqmie_energies::StateLists;
 use saftvrqmie_parameters::{ComponentLists, FeynmanHibbsOrder, OrderRecord, SaftVRQMiePars};
 use sizes::{COUNTS, TABLE};
 
@@ -103,14 +104,14 @@ impl Quantum {
     fn energies(&self, record: &Record) -> bool {
         let l: [f64; WORDS] = floats(&record.list);
         let n = record.length(6);
-        let answer = saftvrqmie_energies::helmholtz_energy_densities(
-            self.set,
-            record.temperature(),
-            part(&l, 0, n),
-            part(&l, n, record.length(7)),
-            part(&self.table, 0, record.lent(8, TABLE)),
-            record.is_wanted(),
-        );
+        let state = StateLists {
+            temperature: record.temperature(),
+            fractions: part(&l, 0, n),
+            densities: part(&l, n, record.length(7)),
+            table: part(&self.table, 0, record.lent(8, TABLE)),
+            non_additive: record.is_wanted(),
+        };
+        let answer = saftvrqmie_energies::helmholtz_energy_densities(self.set, &state);
         match answer {
             Err(r) => record.tells(Some(r)),
             Ok(e) => {

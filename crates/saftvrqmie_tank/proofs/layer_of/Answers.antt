@@ -11,4 +11,4 @@ pub returns-in_err-table_of : goal.returns-in_err-table_of
 returns-in_err-table_of g c = rw (handed_on _ c.from_residual.ensures) (layer_table _ _ _ _ (told c.layer_within.ensures c.if-not-layer_within.false) _ _ (verdict_refused _ _ _ c.table_of.ensures.0 c.in_err-table_of.was) refl)
 
 pub returns : goal.returns
-returns g c = layer_energies _ _ _ _ (told c.layer_within.ensures c.if-not-layer_within.false) _ _ _ (verdict_held _ _ _ c.table_of.ensures.0 c.in_ok-table_of.was) c.table_of.ensures.1 c.energies.ensures
+returns g c = layer_energies _ _ _ _ (told c.layer_within.ensures c.if-not-layer_within.false) _ _ _ _ (verdict_held _ _ _ c.table_of.ensures.0 c.in_ok-table_of.was) c.table_of.ensures.1 c.from.ensures c.energies.ensures

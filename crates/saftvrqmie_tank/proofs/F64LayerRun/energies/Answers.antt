@@ -4,4 +4,4 @@ use Rattle.saftvrqmie_tank.proofs.Runs.{float_run}
 use Rattle.saftvrqmie_tank.proofs.F64LayerRun.energies.Goals as goal
 
 pub returns : goal.returns
-returns c = (rw c.lent-parts.ensures at c.energies_of.ensures) ∙ sym (float_run _ _ _ _ _ _)
+returns c = c.energies_of.ensures ∙ sym (float_run _ _ _ _ _ _)
