@@ -16,7 +16,7 @@ use Rattle.limits.specs.Limits.{state_within}
 use Rattle.saftvrqmie_parameters.specs.declared.SaftVRQMiePars.{SaftVRQMiePars}
 use Rattle.saftvrqmie_energies.specs.Energies.{EnergiesIn, state_lengths, energies_finite, contributions_of, energies_from, energies_by, energies}
 use Rattle.saftvrqmie_energies.proofs.Relation.{EnergiesR, contributions_of_rel}
-use Rattle.saftvrqmie_tank.specs.Tank.{TankLists, Layer, layer_at, layers_within, tank_lengths, layer_within, piled, layer_piled, tank_sum, tank_run, layer_from, layers_from, tank_from, runs_by, layer_run, table_of, layer_of, layers_of, behind, layer_answer, layers_answer}
+use Rattle.saftvrqmie_tank.specs.Tank.{TankLists, Layer, layer_at, layers_within, tank_lengths, layer_within, piled, layer_piled, tank_sum, tank_run, layer_from, layers_from, tank_from, runs_by, layer_run, table_of, layer_of, layers_of, behind, layer_answer, layers_answer, tank_answer, tank}
 
 -- ---- one answer beside itself
 pub same : {S : Type 0} (a : Ans S) → Both (λ (x y : S). x ≡ y) a a
@@ -125,3 +125,7 @@ walk_same (suc n) f g s h = rw (walk_same n f g s h) (then_same (walk n g s) (f 
 pub layers_same : (s : SaftVRQMiePars) (q : TankLists) (wanted : Bool) → layers_answer floats s q wanted ≡ layers_of s q wanted
 unfolding tank_sum
 layers_same s q wanted = walk_same q.layers _ _ _ (λ l x. rw (layer_same s (layer_at s.count q l) wanted) refl)
+
+pub tank_same : (s : SaftVRQMiePars) (q : TankLists) (wanted : Bool) → tank_answer floats s q wanted ≡ tank s q wanted
+unfolding tank_answer tank_from
+tank_same s q wanted = rw (layers_same s q wanted) refl

@@ -26,8 +26,8 @@ use Rattle.mie_parameters.proofs.Laws.{and_left, and_right, count_high, held_at,
 use Rattle.mie_parameters.specs.Answer.{outcome, verdict, stored}
 use Rattle.saftvrqmie_parameters.specs.declared.SaftVRQMiePars.{SaftVRQMiePars}
 use Rattle.saftvrqmie.specs.Table.{Lent, blank, temperature_table, pairs_of}
-use Rattle.saftvrqmie_energies.specs.Energies.{EnergiesIn, contributions_of, energies_finite, energies_by, energies}
-use Rattle.saftvrqmie_tank.specs.Tank.{TankLists, Layer, most_layers, layer_at, layers_within, tank_lengths, layer_within, layer_piled, bottom, tank_sum, layer_from, table_of, layer_of, layers_of, tank_from, tank, behind, layer_answer}
+use Rattle.saftvrqmie_energies.specs.Energies.{EnergiesIn, each_in, contributions_of, energies_finite, energies_by, energies}
+use Rattle.saftvrqmie_tank.specs.Tank.{TankLists, Layer, most_layers, layer_at, layers_within, tank_lengths, layer_within, layer_piled, bottom, tank_sum, layer_from, table_of, layer_of, behind, layer_answer, layers_answer, tank_answer}
 
 -- ---- lengths and places
 pub product_small : (n k : ℕ) → n ≤ side → k ≤ most_layers → n * k ≤ side * most_layers
@@ -181,27 +181,27 @@ module _ (A : Arith) (q : TankLists) (wanted : Bool) (answers : ℕ → Ans (Ene
   unfolding tank_sum turn
   pile_end l below a b h = let d : l ≡ q.layers = omega arith in rw d at h
 
--- ---- the operation
-module _ (s : SaftVRQMiePars) (q : TankLists) (wanted : Bool) where
-  pub tank_14 : layers_within q.layers ≡ false → refused 14 ≡ tank s q wanted
-  unfolding tank_from demand ◌>>=◌
+-- ---- the operation, in any run
+module _ (A : Arith) (s : SaftVRQMiePars) (q : TankLists) (wanted : Bool) where
+  pub tank_14 : layers_within q.layers ≡ false → refused 14 ≡ tank_answer A s q wanted
+  unfolding tank_answer demand ◌>>=◌
   tank_14 p = rw p
 
   module _ (p : layers_within q.layers ≡ true) where
-    pub tank_1 : tank_lengths s.count q ≡ false → refused 1 ≡ tank s q wanted
-    unfolding tank_from demand ◌>>=◌
+    pub tank_1 : tank_lengths s.count q ≡ false → refused 1 ≡ tank_answer A s q wanted
+    unfolding tank_answer demand ◌>>=◌
     tank_1 r = rw (p, r)
 
     module _ (r : tank_lengths s.count q ≡ true) where
-      pub tank_layer : (a : Ans (EnergiesIn Float)) (k : ℕ) → layers_of s q wanted ≡ refused k → a ≡ refused k → a ≡ tank s q wanted
-      unfolding tank_from demand ◌>>=◌
+      pub tank_layer : (a : Ans (EnergiesIn A.Num)) (k : ℕ) → layers_answer A s q wanted ≡ refused k → a ≡ refused k → a ≡ tank_answer A s q wanted
+      unfolding tank_answer demand ◌>>=◌
       tank_layer a k h e = rw (p, r, h, e)
 
-      module _ (e : EnergiesIn Float) (h : layers_of s q wanted ≡ held e) where
-        pub tank_7 : energies_finite e ≡ false → refused 7 ≡ tank s q wanted
-        unfolding tank_from demand ◌>>=◌
+      module _ (e : EnergiesIn A.Num) (h : layers_answer A s q wanted ≡ held e) where
+        pub tank_7 : energies_finite (each_in A.val e) ≡ false → refused 7 ≡ tank_answer A s q wanted
+        unfolding tank_answer demand ◌>>=◌
         tank_7 f = rw (p, r, h, f)
 
-        pub tank_held : energies_finite e ≡ true → held e ≡ tank s q wanted
-        unfolding tank_from demand ◌>>=◌
+        pub tank_held : energies_finite (each_in A.val e) ≡ true → held e ≡ tank_answer A s q wanted
+        unfolding tank_answer demand ◌>>=◌
         tank_held f = rw (p, r, h, f)

@@ -10,7 +10,7 @@ use Rattle.elementary.specs.Port.{port}
 use Rattle.limits.specs.Limits.{count_within, state_within}
 use Rattle.saftvrqmie_parameters.specs.declared.SaftVRQMiePars.{SaftVRQMiePars}
 use Rattle.saftvrqmie.specs.Table.{blank, temperature_table}
-use Rattle.saftvrqmie_energies.specs.Energies.{EnergiesIn, contributions_of, energies_finite, energies_from}
+use Rattle.saftvrqmie_energies.specs.Energies.{EnergiesIn, each_in, contributions_of, energies_finite, energies_from}
 use Rattle.saftvrqmie_tank.specs.declared.Layer.{Layer as LentLayer}
 use Rattle.saftvrqmie_tank.specs.declared.Layers.{Layers}
 
@@ -162,3 +162,12 @@ layer_answer A s y wanted = behind (layer_of s y wanted) (table_of s y >>= layer
 
 abbrev pub layers_answer : (A : Arith) → SaftVRQMiePars → TankLists → Bool → Ans (EnergiesIn A.Num)
 layers_answer A s q wanted = tank_sum A q wanted (λ l. layer_answer A s (layer_at s.count q l) wanted)
+
+-- of any run: 7 looks at the float run's values
+unfoldable pub tank_answer : (A : Arith) → SaftVRQMiePars → TankLists → Bool → Ans (EnergiesIn A.Num)
+tank_answer A s q wanted =
+    demand 14 (layers_within q.layers) >>= λ _.
+    demand 1 (tank_lengths s.count q) >>= λ _.
+    layers_answer A s q wanted >>= λ e.
+    demand 7 (energies_finite (each_in A.val e)) >>= λ _.
+    held e

@@ -8,7 +8,7 @@ ghost use Rattle.number.specs.Functions.{calls};
 ghost use Rattle.elementary.specs.Port.{port};
 ghost use Rattle.saftvrqmie_energies.specs.Energies.{each_by, energies_answer, contributions_of, energies};
 ghost use Rattle.saftvrqmie_energies.specs.Reads.{set_of, asked_at};
-ghost use Rattle.saftvrqmie_tank.specs.Tank.{most_layers, lists_of, layer_in, layer_at, layers_within, tank_lengths, volume_within, layer_within, piled, layer_piled, behind, layer_answer, layers_answer, tank};
+ghost use Rattle.saftvrqmie_tank.specs.Tank.{most_layers, lists_of, layer_in, layer_at, layers_within, tank_lengths, volume_within, layer_within, piled, layer_piled, behind, layer_answer, layers_answer, tank_answer, tank};
 
 use enclosure::Enclosure;
 use number::Refusal;
@@ -88,7 +88,7 @@ fn volume_within(v: f64) -> bool
     (0.0 < v) & (v <= 1e30)
 }
 
-// 2 of a layer, whose lists `tank_lengths` has tested.
+// 2 of a layer, whose lists `tank_lengths` has tested. n is for the clause alone, as in limits::state_within.
 pub fn layer_within(n: usize, y: &Layer) -> bool
     requires { (length y.now.fractions.now ≡ n) × (length y.now.densities.now ≡ n) }
     ensures { result ≡ layer_within n (layer_in y.now) }
@@ -200,10 +200,30 @@ pub fn layers_of<D: LayerRun>(
     for l in 0usize..q.layers {
         let y = layer_at(n, q, l);
         let e = layer_of::<D>(set, &y, non_additive)?;
-        let next = layer_piled(non_additive, &y, e, below);
-        below = next;
+        below = layer_piled(non_additive, &y, e, below);
     }
     Ok(below)
+}
+
+// A tank's energies in a run. 14, 1, then layer by layer 2, 6, 7, then 7 of the tank, all of the float run.
+pub fn tank_of<D: LayerRun>(
+    set: &SaftVRQMiePars,
+    q: &Layers,
+    non_additive: bool,
+) -> Result<Energies<D>, Refusal>
+    ensures { answer_by (each_by (D.of true)) result ≡ tank_answer (D.beside true) set.now (lists_of q.now) non_additive }
+{
+    if !layers_within(q.layers) {
+        return Err(Refusal::Layers);
+    }
+    if !tank_lengths(set.count, q) {
+        return Err(Refusal::Length);
+    }
+    let e = layers_of::<D>(set, q, non_additive)?;
+    if !saftvrqmie_energies::all_finite(e) {
+        return Err(Refusal::NotFinite);
+    }
+    Ok(e)
 }
 
 // The tank's hard sphere, dispersion and, if wanted, non-additive. 14, 1, then layer by layer 2, 6, 7, then 7 of the tank.
@@ -214,15 +234,5 @@ pub fn tank(
 ) -> Result<QuantumEnergies, Refusal>
     ensures { energies_answer result ≡ tank set.now (lists_of q.now) non_additive }
 {
-    if !layers_within(q.layers) {
-        return Err(Refusal::Layers);
-    }
-    if !tank_lengths(set.count, q) {
-        return Err(Refusal::Length);
-    }
-    let e = layers_of::<f64>(set, q, non_additive)?;
-    if !saftvrqmie_energies::all_finite(e) {
-        return Err(Refusal::NotFinite);
-    }
-    Ok(e)
+    tank_of::<f64>(set, q, non_additive)
 }

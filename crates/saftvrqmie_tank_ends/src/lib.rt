@@ -20,15 +20,6 @@ pub fn tank_ends(
 ) -> Result<EnergiesEnds, Refusal>
     ensures { energies_answer result ≡ tank_ends set.now (lists_of q.now) non_additive }
 {
-    if !saftvrqmie_tank::layers_within(q.layers) {
-        return Err(Refusal::Layers);
-    }
-    if !saftvrqmie_tank::tank_lengths(set.count, q) {
-        return Err(Refusal::Length);
-    }
-    let e = saftvrqmie_tank::layers_of::<Enclosure>(set, q, non_additive)?;
-    if !saftvrqmie_energies::all_finite(e) {
-        return Err(Refusal::NotFinite);
-    }
+    let e = saftvrqmie_tank::tank_of::<Enclosure>(set, q, non_additive)?;
     saftvrqmie_energies_ends::sound_ends(e)
 }

@@ -2,7 +2,7 @@
 use Prim.Native.Nat.{ℕ, zero, suc, ◌+◌, ◌<◌}
 use native.Mathlib.Omega.{arith}
 use lib.Ieee.{Float}
-use mathlib.Core.Path.{◌≡◌, refl, sym}
+use mathlib.Core.Path.{◌≡◌, refl, sym, ◌∙◌}
 use mathlib.Core.Bool.{Bool, true}
 use Rattle.number.specs.Ans.{held, refused, ◌>>=◌}
 use Rattle.number.specs.Arith.{floats}
@@ -12,6 +12,7 @@ use Rattle.number.proofs.Walk.{walk_none}
 use Rattle.saftvrqmie_parameters.specs.declared.SaftVRQMiePars.{SaftVRQMiePars}
 use Rattle.saftvrqmie_energies.specs.Energies.{EnergiesIn}
 use Rattle.saftvrqmie_tank.specs.Tank.{TankLists, layer_at, layers_within, tank_lengths, layer_piled, bottom, layer_of, tank}
+use Rattle.saftvrqmie_tank.proofs.Runs.{layers_same, tank_same}
 use Rattle.saftvrqmie_tank.proofs.Ways.{answers_of, turn, pile_next, pile_stop, tank_layer}
 use Rattle.saftvrqmie_tank_ends.specs.TankEnds.{tank_ends_by, tank_ends}
 
@@ -33,7 +34,7 @@ module _ (s : SaftVRQMiePars) (q : TankLists) (wanted : Bool) where
   first_refused p r l k b below at_l =
       let w = reached l below in
       let stopped = pile_stop floats q wanted (answers_of s q wanted) l w.0 b w.1 (refused k) k (sym at_l) refl in
-      sym (tank_layer s q wanted p r (refused k) k (sym stopped) refl)
+      sym (tank_layer floats s q wanted p r (refused k) k (layers_same s q wanted ∙ sym stopped) refl ∙ tank_same s q wanted)
 
   -- what refuses the tank refuses its ends
   pub ends_refused_too : (k : ℕ) → tank s q wanted ≡ refused k → tank_ends s q wanted ≡ refused k

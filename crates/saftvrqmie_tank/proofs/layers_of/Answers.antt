@@ -26,7 +26,7 @@ pub loop-l-preserved : goal.loop-l-preserved
 loop-l-preserved g c =
     let D = g.D.DualNum in
     let is = c.layer_at-y.ensures in
-    (search rules, pile_next (D.beside true) _ _ _ _ _ _ _ _ _ (layer_volume _ _ _ _ is) (layer_temperature _ _ _ _ is) c.loop-l.invariant.1 (via (answer_by (each_by (D.of true))) (answer_at _ _ _ _ _ _ _ is c.layer_of.ensures) c.in_ok-e.was) (c.layer_piled-next.ensures true))
+    (search rules, pile_next (D.beside true) _ _ _ _ _ _ _ _ _ (layer_volume _ _ _ _ is) (layer_temperature _ _ _ _ is) c.loop-l.invariant.1 (via (answer_by (each_by (D.of true))) (answer_at _ _ _ _ _ _ _ is c.layer_of.ensures) c.in_ok-e.was) (c.layer_piled-below.ensures true))
 
 pub returns : goal.returns
 returns g c =

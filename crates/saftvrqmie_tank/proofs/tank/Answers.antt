@@ -1,29 +1,7 @@
 -- `saftvrqmie_tank::tank` meets its contract. Assumes nothing.
-use mathlib.Core.Path.{refl, sym, ◌∙◌}
-use Rattle.number.proofs.Walk.{via, told, handed_on}
-use Rattle.number.specs.Answer.{answer_by}
-use Rattle.saftvrqmie_energies.specs.Energies.{each_by}
-use Rattle.saftvrqmie_tank.proofs.Ways.{layers_high, tank_14, tank_1, tank_layer, tank_7, tank_held}
-use Rattle.saftvrqmie_tank.proofs.Runs.{layers_same}
+use mathlib.Core.Path.{◌∙◌}
+use Rattle.saftvrqmie_tank.proofs.Runs.{tank_same}
 use Rattle.saftvrqmie_tank.proofs.tank.Goals as goal
 
-pub returns-then-not-layers_within : goal.returns-then-not-layers_within
-returns-then-not-layers_within c = tank_14 _ _ _ (told c.layers_within.ensures c.if-not-layers_within.true)
-
-pub tank_lengths-requires : goal.tank_lengths-requires
-tank_lengths-requires c = layers_high _ (told c.layers_within.ensures c.if-not-layers_within.false)
-
-pub returns-then-not-tank_lengths : goal.returns-then-not-tank_lengths
-returns-then-not-tank_lengths c = tank_1 _ _ _ (told c.layers_within.ensures c.if-not-layers_within.false) (told c.tank_lengths.ensures c.if-not-tank_lengths.true)
-
-pub layers_of-requires : goal.layers_of-requires
-layers_of-requires c = (layers_high _ (told c.layers_within.ensures c.if-not-layers_within.false), (told c.tank_lengths.ensures c.if-not-tank_lengths.false))
-
-pub returns-in_err-e : goal.returns-in_err-e
-returns-in_err-e c = rw (handed_on _ c.from_residual.ensures) (tank_layer _ _ _ (told c.layers_within.ensures c.if-not-layers_within.false) (told c.tank_lengths.ensures c.if-not-tank_lengths.false) _ _ (sym (layers_same _ _ _) ∙ via (answer_by (each_by (λ x. x))) c.layers_of.ensures c.in_err-e.was) refl)
-
-pub returns-then-not-all_finite : goal.returns-then-not-all_finite
-returns-then-not-all_finite c = tank_7 _ _ _ (told c.layers_within.ensures c.if-not-layers_within.false) (told c.tank_lengths.ensures c.if-not-tank_lengths.false) _ (sym (layers_same _ _ _) ∙ via (answer_by (each_by (λ x. x))) c.layers_of.ensures c.in_ok-e.was) (told c.all_finite.ensures c.if-not-all_finite.true)
-
 pub returns : goal.returns
-returns c = tank_held _ _ _ (told c.layers_within.ensures c.if-not-layers_within.false) (told c.tank_lengths.ensures c.if-not-tank_lengths.false) _ (sym (layers_same _ _ _) ∙ via (answer_by (each_by (λ x. x))) c.layers_of.ensures c.in_ok-e.was) (told c.all_finite.ensures c.if-not-all_finite.false)
+returns c = c.tank_of.ensures ∙ tank_same _ _ _
