@@ -1,5 +1,4 @@
 -- `stages::quantum_stage` meets its contract. Assumes nothing.
-use Rattle.std.proofs.Common.{rules}
 use mathlib.Core.Path.{refl}
 use Rattle.number.proofs.Walk.{handed_on}
 use Rattle.mie_parameters.proofs.Laws.{held_at, refused_at}
