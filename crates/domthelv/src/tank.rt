@@ -50,12 +50,13 @@ pub fn domthelv_vrq_tank(
         fractions,
         densities,
         volumes,
+        non_additive,
     };
     // Layers outside are 14, which is behind this.
     if saftvrqmie_tank::layers_within(layers) & (out.len() != 3) {
         return Refusal::Length.code();
     }
-    let worked = tank_lists::listed_tank(&set, &q, non_additive);
+    let worked = tank_lists::listed_tank(&set, &q);
     deliver_list(worked.map(quantum::energies_list), out)
 }
 
@@ -97,10 +98,11 @@ pub fn domthelv_vrq_tank_ends(
         fractions,
         densities,
         volumes,
+        non_additive,
     };
     if saftvrqmie_tank::layers_within(layers) & (out.len() != 6) {
         return Refusal::Length.code();
     }
-    let worked = tank_lists::listed_tank_ends(&set, &q, non_additive);
+    let worked = tank_lists::listed_tank_ends(&set, &q);
     deliver_list(worked.map(ends::ends_list), out)
 }

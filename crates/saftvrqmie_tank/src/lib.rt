@@ -21,7 +21,7 @@ use sizes::{COUNTS, TABLE};
 // The most layers of a tank.
 pub const LAYERS: usize = 32;
 
-// How many layers, and their lists, from the bottom up: a temperature and a volume each, a fraction and a density for each component. The count is the caller's, which 14 tests before any length.
+// How many layers, and their lists, from the bottom up: a temperature and a volume each, a fraction and a density for each component; and whether the non-additive part is wanted. The count is the caller's, which 14 tests before any length.
 #[derive(Clone, Copy)]
 pub struct Layers<'a> {
     pub layers: usize,
@@ -29,6 +29,7 @@ pub struct Layers<'a> {
     pub fractions: &'a [f64],
     pub densities: &'a [f64],
     pub volumes: &'a [f64],
+    pub non_additive: bool,
 }
 
 // A layer of a tank, whose lists are parts of the tank's.
@@ -181,13 +182,9 @@ fn layer_piled<D: PlainNum>(
 }
 
 // From the bottom up, from +0. 2, 6, 7 of the first layer that is refused. The layer count and the lists were tested with 14 and 1.
-pub fn layers_of<D: LayerRun>(
-    set: &SaftVRQMiePars,
-    q: &Layers,
-    non_additive: bool,
-) -> Result<Energies<D>, Refusal>
+pub fn layers_of<D: LayerRun>(set: &SaftVRQMiePars, q: &Layers) -> Result<Energies<D>, Refusal>
     requires { (q.now.layers ≤ most_layers) × (tank_lengths set.now.count (lists_of q.now) ≡ true) }
-    ensures { answer_by (each_by (D.of true)) result ≡ layers_answer (D.beside true) set.now (lists_of q.now) non_additive }
+    ensures { answer_by (each_by (D.of true)) result ≡ layers_answer (D.beside true) set.now (lists_of q.now) q.now.non_additive }
 {
     let n = set.count;
     let zero = D::entered(0.0);
@@ -199,19 +196,15 @@ pub fn layers_of<D: LayerRun>(
     // By the layer's number: it places four lists, of which two are cut into a layer's parts.
     for l in 0usize..q.layers {
         let y = layer_at(n, q, l);
-        let e = layer_of::<D>(set, &y, non_additive)?;
-        below = layer_piled(non_additive, &y, e, below);
+        let e = layer_of::<D>(set, &y, q.non_additive)?;
+        below = layer_piled(q.non_additive, &y, e, below);
     }
     Ok(below)
 }
 
 // A tank's energies in a run. 14, 1, then layer by layer 2, 6, 7, then 7 of the tank, all of the float run.
-pub fn tank_of<D: LayerRun>(
-    set: &SaftVRQMiePars,
-    q: &Layers,
-    non_additive: bool,
-) -> Result<Energies<D>, Refusal>
-    ensures { answer_by (each_by (D.of true)) result ≡ tank_answer (D.beside true) set.now (lists_of q.now) non_additive }
+pub fn tank_of<D: LayerRun>(set: &SaftVRQMiePars, q: &Layers) -> Result<Energies<D>, Refusal>
+    ensures { answer_by (each_by (D.of true)) result ≡ tank_answer (D.beside true) set.now (lists_of q.now) q.now.non_additive }
 {
     if !layers_within(q.layers) {
         return Err(Refusal::Layers);
@@ -219,7 +212,7 @@ pub fn tank_of<D: LayerRun>(
     if !tank_lengths(set.count, q) {
         return Err(Refusal::Length);
     }
-    let e = layers_of::<D>(set, q, non_additive)?;
+    let e = layers_of::<D>(set, q)?;
     if !saftvrqmie_energies::all_finite(e) {
         return Err(Refusal::NotFinite);
     }
@@ -227,12 +220,8 @@ pub fn tank_of<D: LayerRun>(
 }
 
 // The tank's hard sphere, dispersion and, if wanted, non-additive. 14, 1, then layer by layer 2, 6, 7, then 7 of the tank.
-pub fn tank(
-    set: &SaftVRQMiePars,
-    q: &Layers,
-    non_additive: bool,
-) -> Result<QuantumEnergies, Refusal>
-    ensures { energies_answer result ≡ tank set.now (lists_of q.now) non_additive }
+pub fn tank(set: &SaftVRQMiePars, q: &Layers) -> Result<QuantumEnergies, Refusal>
+    ensures { energies_answer result ≡ tank set.now (lists_of q.now) q.now.non_additive }
 {
-    tank_of::<f64>(set, q, non_additive)
+    tank_of::<f64>(set, q)
 }

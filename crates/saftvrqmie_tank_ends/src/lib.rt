@@ -13,13 +13,9 @@ use saftvrqmie_parameters::SaftVRQMiePars;
 use saftvrqmie_tank::Layers;
 
 // The two ends of the tank's energies. 14, 1, then layer by layer 2, 6, 7, then 7 of the tank, then 8.
-pub fn tank_ends(
-    set: &SaftVRQMiePars,
-    q: &Layers,
-    non_additive: bool,
-) -> Result<EnergiesEnds, Refusal>
-    ensures { energies_answer result ≡ tank_ends set.now (lists_of q.now) non_additive }
+pub fn tank_ends(set: &SaftVRQMiePars, q: &Layers) -> Result<EnergiesEnds, Refusal>
+    ensures { energies_answer result ≡ tank_ends set.now (lists_of q.now) q.now.non_additive }
 {
-    let e = saftvrqmie_tank::tank_of::<Enclosure>(set, q, non_additive)?;
+    let e = saftvrqmie_tank::tank_of::<Enclosure>(set, q)?;
     saftvrqmie_energies_ends::sound_ends(e)
 }

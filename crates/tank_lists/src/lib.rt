@@ -31,25 +31,17 @@ fn tank_set(s: &QuantumSet, q: &Layers) -> Result<SaftVRQMiePars, Refusal>
 
 // 14, 1, 4, then layer by layer 2, 6, 7, then 7 of the tank. The 1 of the list that an answer is written into comes behind the 14 too: who lends one asks it.
 // A function each, here and below: one over a closure for the last line would be longer than both.
-pub fn listed_tank(
-    s: &QuantumSet,
-    q: &Layers,
-    non_additive: bool,
-) -> Result<QuantumEnergies, Refusal>
-    ensures { energies_answer result ≡ listed_tank (quantum_lists s.now) (lists_of q.now) non_additive true }
+pub fn listed_tank(s: &QuantumSet, q: &Layers) -> Result<QuantumEnergies, Refusal>
+    ensures { energies_answer result ≡ listed_tank (quantum_lists s.now) (lists_of q.now) q.now.non_additive true }
 {
     let set = tank_set(s, q)?;
-    saftvrqmie_tank::tank(&set, q, non_additive)
+    saftvrqmie_tank::tank(&set, q)
 }
 
 // The same for the tank's ends. 14, 1, 4, then layer by layer 2, 6, 7, then 7 of the tank, then 8.
-pub fn listed_tank_ends(
-    s: &QuantumSet,
-    q: &Layers,
-    non_additive: bool,
-) -> Result<EnergiesEnds, Refusal>
-    ensures { energies_answer result ≡ listed_tank_ends (quantum_lists s.now) (lists_of q.now) non_additive true }
+pub fn listed_tank_ends(s: &QuantumSet, q: &Layers) -> Result<EnergiesEnds, Refusal>
+    ensures { energies_answer result ≡ listed_tank_ends (quantum_lists s.now) (lists_of q.now) q.now.non_additive true }
 {
     let set = tank_set(s, q)?;
-    saftvrqmie_tank_ends::tank_ends(&set, q, non_additive)
+    saftvrqmie_tank_ends::tank_ends(&set, q)
 }

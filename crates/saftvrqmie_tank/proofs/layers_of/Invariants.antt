@@ -13,7 +13,7 @@ abbrev pub invariant-loop-l : goal.invariant-loop-l
 invariant-loop-l g l =
     let D = g.D.DualNum in
     let A = D.beside true in
-    (l.l ≤ l.q.layers) × (held (each_by (D.of true) l.below) ≡ walk l.l (turn A (lists_of l.q) l.non_additive (answers_in A l.set (lists_of l.q) l.non_additive)) (bottom A))
+    (l.l ≤ l.q.layers) × (held (each_by (D.of true) l.below) ≡ walk l.l (turn A (lists_of l.q) l.q.non_additive (answers_in A l.set (lists_of l.q) l.q.non_additive)) (bottom A))
 
 abbrev pub decreases-loop-l : goal.decreases-loop-l
 decreases-loop-l g l = l.q.layers - l.l
