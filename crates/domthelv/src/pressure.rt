@@ -37,18 +37,20 @@ pub fn domthelv_vrq_energies_slopes(
         sheets,
         orders,
     };
-    let t = Dual {
-        re: temperature,
-        eps: temperature_slope,
+    let q = slopes_lists::SlopedState {
+        temperature: Dual {
+            re: temperature,
+            eps: temperature_slope,
+        },
+        fractions: NumberList {
+            values: fractions,
+            slopes: fraction_slopes,
+        },
+        densities: NumberList {
+            values: densities,
+            slopes: density_slopes,
+        },
     };
-    let x = NumberList {
-        values: fractions,
-        slopes: fraction_slopes,
-    };
-    let rho = NumberList {
-        values: densities,
-        slopes: density_slopes,
-    };
-    let answer = slopes_calls::vrq_energies_slopes(&lent, t, &x, &rho, non_additive, out);
+    let answer = slopes_calls::vrq_energies_slopes(&lent, &q, non_additive, out);
     mie_parameters::number(answer)
 }

@@ -2,16 +2,16 @@
 use Prim.Native.Nat.{ℕ}
 use lib.Ieee.{Float}
 use mathlib.Core.Bool.{Bool, true, false}
-use mathlib.Core.List.{List}
 use mathlib.Core.Path.{◌≡◌, ap}
 use Rattle.number.specs.Ans.{Ans, held, refused, ◌>>=◌, demand}
 use Rattle.number.proofs.Walk.{held_inj}
 use Rattle.elementary.specs.Port.{port}
 use Rattle.dual.specs.Dual.{DualOf}
 use Rattle.slopes.specs.Mixed.{Mixed, sloped, as_dual}
+use Rattle.slopes_lists.specs.Lists.{SlopedList, SlopedState}
 use Rattle.saftvrqmie_parameters.specs.declared.SaftVRQMiePars.{SaftVRQMiePars}
 use Rattle.saftvrqmie_energies.specs.Energies.{EnergiesIn, each_in, each_taken}
-use Rattle.saftvrqmie_energies_slopes.specs.Energies.{as_duals, slopes_finite, contributions_slope, energies_slope}
+use Rattle.saftvrqmie_energies_slopes.specs.Energies.{as_duals, slopes_finite, contributions_slope, energies_slope, energies_slope_at}
 
 -- a number taken as a D
 abbrev taken : Mixed → Mixed
@@ -33,12 +33,12 @@ given_held (held e) found h =
     rw is
 given_held (refused n) found h = let z : ◌≡◌ {A = Bool} true false = cc in absurd (mathlib.Core.Bool.true≢false z)
 
-module _ (s : SaftVRQMiePars) (t : DualOf Float) (x x' rho rho' table table' : List Float) (wanted : Bool) where
+module _ (s : SaftVRQMiePars) (q : SlopedState) (w : SlopedList) (wanted : Bool) where
   abbrev outcome : Ans (EnergiesIn (DualOf Float))
-  outcome = energies_slope port s t x x' rho rho' table table' wanted
+  outcome = energies_slope_at port s q w wanted
 
   abbrev worked : Ans (EnergiesIn Mixed)
-  worked = contributions_slope port s t x x' rho rho' table table' wanted
+  worked = contributions_slope port s q.temperature q.fractions.values q.fractions.slopes q.densities.values q.densities.slopes w.values w.slopes wanted
 
   pub stops : (k : ℕ) → each_taken taken worked ≡ refused k → refused k ≡ outcome
   unfolding energies_slope

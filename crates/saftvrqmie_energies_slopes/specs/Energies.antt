@@ -10,6 +10,7 @@ use Rattle.dual.specs.Dual.{DualOf}
 use Rattle.dual.specs.Value.{dual_of}
 use Rattle.slopes.specs.Mixed.{Mixed, sloped, as_dual, mixed_one}
 use Rattle.slopes.specs.Rules.{mixed_functions}
+use Rattle.slopes_lists.specs.Lists.{SlopedList, SlopedState}
 use Rattle.saftvrqmie_parameters.specs.declared.SaftVRQMiePars.{SaftVRQMiePars}
 use Rattle.saftvrqmie_hard_sphere.specs.State.{points}
 use Rattle.saftvrqmie_energies.specs.Energies.{EnergiesIn, each_by, contributions}
@@ -45,3 +46,7 @@ energies_slope E s t x x' rho rho' table table' wanted =
     contributions_slope E s t x x' rho rho' table table' wanted >>= λ e.
     demand 7 (slopes_finite (as_duals e)) >>= λ _.
     held (as_duals e)
+
+-- of a state and a table
+abbrev pub energies_slope_at : Answers → SaftVRQMiePars → SlopedState → SlopedList → Bool → Ans (EnergiesIn (DualOf Float))
+energies_slope_at E s q w wanted = energies_slope E s q.temperature q.fractions.values q.fractions.slopes q.densities.values q.densities.slopes w.values w.slopes wanted

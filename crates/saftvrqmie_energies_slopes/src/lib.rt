@@ -5,7 +5,9 @@ ghost use Rattle.std.specs.Prelude.{◌≡◌, ◌<◌, ◌≤◌, length};
 ghost use Rattle.sizes.specs.Sizes.{side};
 ghost use Rattle.elementary.specs.Port.{port};
 ghost use Rattle.dual.specs.Value.{dual_of};
-ghost use Rattle.saftvrqmie_energies_slopes.specs.Energies.{energies_slopes_in, energies_slopes_answer, finite_dual, slopes_finite, energies_slope};
+ghost use Rattle.slopes_lists.specs.Lists.{state_of};
+ghost use Rattle.saftvrqmie_table_slopes.specs.Table.{sloped_of};
+ghost use Rattle.saftvrqmie_energies_slopes.specs.Energies.{energies_slopes_in, energies_slopes_answer, finite_dual, slopes_finite, energies_slope_at};
 
 use dual::Dual;
 use dual_num::NumberList;
@@ -13,7 +15,9 @@ use number::Refusal;
 use saftvrqmie_dispersion_sums::State;
 use saftvrqmie_energies::{Energies, contributions};
 use saftvrqmie_parameters::SaftVRQMiePars;
-use sizes::{SHEET, SIDE, TABLE};
+use saftvrqmie_table_slopes::SlopedTable;
+use sizes::{SHEET, SIDE};
+use slopes_lists::SlopedState;
 
 pub type QuantumEnergiesSlopes = Energies<Dual>;
 
@@ -33,30 +37,28 @@ fn all_finite(e: QuantumEnergiesSlopes) -> bool
 // Hard sphere, dispersion and, if wanted, non-additive. 6, 7; lengths and limits are the caller's.
 pub fn energies_of(
     set: &SaftVRQMiePars,
-    temperature: Dual,
-    x: &NumberList,
-    rho: &NumberList,
-    table: &[f64; TABLE],
-    table_slopes: &[f64; TABLE],
+    q: &SlopedState,
+    table: &SlopedTable,
     non_additive: bool,
 ) -> Result<QuantumEnergiesSlopes, Refusal>
     requires { let n = set.now.count in
-        (0 < n) × (n ≤ side) × (length x.now.values.now ≡ n) × (length x.now.slopes.now ≡ n) × (length rho.now.values.now ≡ n) × (length rho.now.slopes.now ≡ n) }
-    ensures { let run = energies_slope port set.now (dual_of temperature) x.now.values.now x.now.slopes.now rho.now.values.now rho.now.slopes.now in
-        energies_slopes_answer result ≡ run table.now table_slopes.now non_additive }
+        let x = q.now.fractions in
+        let rho = q.now.densities in
+        (0 < n) × (n ≤ side) × (length x.values.now ≡ n) × (length x.slopes.now ≡ n) × (length rho.values.now ≡ n) × (length rho.slopes.now ≡ n) }
+    ensures { energies_slopes_answer result ≡ energies_slope_at port set.now (state_of q.now) (sloped_of table.now) non_additive }
 {
     let s = State {
         n: set.count,
         m: &set.m,
         sheets: &set.sheets,
         orders: set.orders,
-        temperature,
+        temperature: q.temperature,
         table: NumberList {
-            values: table,
-            slopes: table_slopes,
+            values: &table.values,
+            slopes: &table.slopes,
         },
-        fractions: *x,
-        densities: *rho,
+        fractions: q.fractions,
+        densities: q.densities,
     };
     let zero = Dual::plain(0.0);
     let mut xs = [zero; SIDE];

@@ -11,7 +11,7 @@ use Rattle.slopes_lists.specs.Lists.{SlopedList, SlopedState, sloped_lengths, su
 use Rattle.saftvrqmie_parameters.specs.declared.SaftVRQMiePars.{SaftVRQMiePars}
 use Rattle.saftvrqmie_energies.specs.Energies.{EnergiesIn}
 use Rattle.saftvrqmie_table_slopes.specs.Table.{table_slopes}
-use Rattle.saftvrqmie_energies_slopes.specs.Energies.{energies_slope}
+use Rattle.saftvrqmie_energies_slopes.specs.Energies.{energies_slope_at}
 use Rattle.saftvrqmie_slopes.specs.Operation.{energies_slopes_by, energies_slopes}
 
 module _ (s : SaftVRQMiePars) (q : SlopedState) (wanted : Bool) where
@@ -41,6 +41,6 @@ module _ (s : SaftVRQMiePars) (q : SlopedState) (wanted : Bool) where
         slopes_table a k e r = rw (p, h, f, e, r)
 
         pub slopes_energies : (a : Ans (EnergiesIn (DualOf Float))) (w : SlopedList) → table ≡ held w
-            → a ≡ energies_slope port s q.temperature q.fractions.values q.fractions.slopes q.densities.values q.densities.slopes w.values w.slopes wanted → a ≡ energies_slopes s q wanted
+            → a ≡ energies_slope_at port s q w wanted → a ≡ energies_slopes s q wanted
         unfolding energies_slopes_by demand ◌>>=◌
         slopes_energies a w e r = rw (p, h, f, e) r

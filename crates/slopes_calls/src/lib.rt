@@ -2,18 +2,16 @@
 #![tactic(auto)]
 
 ghost use Rattle.std.specs.Prelude.{◌≡◌, true, Float, List, length};
-ghost use Rattle.dual.specs.Value.{dual_of};
 ghost use Rattle.mie_parameters.specs.Answer.{outcome, verdict, stored};
 ghost use Rattle.set_lists.specs.Sets.{quantum_lists};
 ghost use Rattle.slopes_lists.specs.Lists.{state_of};
 ghost use Rattle.saftvrqmie_energies_slopes.specs.Energies.{energies_slopes_in};
 ghost use Rattle.slopes_calls.specs.Calls.{slopes_written, vrq_energies_slopes};
 
-use dual::Dual;
-use dual_num::NumberList;
 use number::Refusal;
 use saftvrqmie_energies_slopes::QuantumEnergiesSlopes;
 use set_lists::QuantumSet;
+use slopes_lists::SlopedState;
 
 // What the definition writes into a list of six places.
 fn slopes_list(e: QuantumEnergiesSlopes) -> [f64; 6]
@@ -28,25 +26,22 @@ fn slopes_list(e: QuantumEnergiesSlopes) -> [f64; 6]
 // Value and slope of each contribution by turns. 1, 4, then 2, 7 for a supplied slope, the table's 6 and 7, the energies' 6 and 7.
 pub fn vrq_energies_slopes(
     s: &QuantumSet,
-    t: Dual,
-    x: &NumberList,
-    rho: &NumberList,
+    q: &SlopedState,
     non_additive: bool,
     out: &mut [f64],
 ) -> Result<(), Refusal>
-    ensures { let q = state_of (dual_of t) x.now rho.now in
-        let a = vrq_energies_slopes (quantum_lists s.now) q non_additive out.old in
+    ensures { let a = vrq_energies_slopes (quantum_lists s.now) (state_of q.now) non_additive out.old in
         (outcome result true ≡ verdict a) × (out.new ≡ stored out.old a) }
 {
     if out.len() != 6 {
         return Err(Refusal::Length);
     }
-    if !slopes_lists::sloped_lengths(s.count, t, x, rho) {
+    if !slopes_lists::sloped_lengths(s.count, q) {
         return Err(Refusal::Length);
     }
     set_lists::quantum_answer(s)?;
     let set = set_lists::quantum_set(s);
-    let e = saftvrqmie_slopes::energies_slopes(&set, t, x, rho, non_additive)?;
+    let e = saftvrqmie_slopes::energies_slopes(&set, q, non_additive)?;
     out.copy_from_slice(&slopes_list(e));
     Ok(())
 }

@@ -3,8 +3,10 @@ use Rattle.std.specs.Prelude.{ℕ, eqb, Float, length, List, Bool, ◌&&◌}
 use Rattle.std.specs.Float.Ieee.Scale.{finite}
 use Rattle.number.specs.Lists.{at}
 use Rattle.dual.specs.Dual.{DualOf}
+use Rattle.dual.specs.Value.{dual_of}
 use Rattle.dual_num.specs.declared.NumberList.{NumberList}
 use Rattle.limits.specs.Limits.{count_within, all_finite}
+use Rattle.slopes_lists.specs.declared.SlopedState as Declared
 
 -- values in one list, their slopes in another
 pub record SlopedList : Type 0 where
@@ -17,12 +19,12 @@ pub record SlopedState : Type 0 where
   pub fractions : SlopedList
   pub densities : SlopedList
 
--- a call's temperature and lists, each with its slopes
+-- what a call lends
 abbrev pub sloped_list : NumberList → SlopedList
 sloped_list l = record { values = l.values.now; slopes = l.slopes.now }
 
-abbrev pub state_of : DualOf Float → NumberList → NumberList → SlopedState
-state_of t x rho = record { temperature = t; fractions = sloped_list x; densities = sloped_list rho }
+abbrev pub state_of : Declared.SlopedState → SlopedState
+state_of q = record { temperature = dual_of q.temperature; fractions = sloped_list q.fractions; densities = sloped_list q.densities }
 
 -- 'all tests for 1 (slope lists too)': each list is as long as the count
 unfoldable pub right_lengths : ℕ → SlopedList → Bool

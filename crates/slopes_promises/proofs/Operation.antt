@@ -20,7 +20,7 @@ use Rattle.saftvrqmie_parameters.specs.declared.SaftVRQMiePars.{SaftVRQMiePars}
 use Rattle.saftvrqmie.specs.Table.{Lent, right_lists, temperature_table}
 use Rattle.saftvrqmie_energies.specs.Energies.{EnergiesIn, state_lengths, energies}
 use Rattle.saftvrqmie_table_slopes.specs.Table.{table_slopes}
-use Rattle.saftvrqmie_energies_slopes.specs.Energies.{energies_slope}
+use Rattle.saftvrqmie_energies_slopes.specs.Energies.{energies_slope_at}
 use Rattle.saftvrqmie_slopes.specs.Operation.{energies_slopes_by, energies_slopes}
 use Rattle.slopes_promises.proofs.Table.{demanded, table_kept, table_long}
 use Rattle.slopes_values.specs.Energies.{duals_values}
@@ -48,7 +48,7 @@ module _ (s : SaftVRQMiePars) (q : SlopedState) (wanted : Bool) (e : EnergiesIn 
   t = q.temperature
 
   abbrev worked : SlopedList → Ans (EnergiesIn (DualOf Float))
-  worked w = energies_slope port s t q.fractions.values q.fractions.slopes q.densities.values q.densities.slopes w.values w.slopes wanted
+  worked w = energies_slope_at port s q w wanted
 
   abbrev table : Ans SlopedList
   table = table_slopes port s.count s.sheets s.orders t

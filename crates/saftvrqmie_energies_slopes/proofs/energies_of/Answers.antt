@@ -8,6 +8,8 @@ use Rattle.number.proofs.Walk.{via, told, handed_on}
 use Rattle.sizes.specs.Sizes.{sheet}
 use Rattle.dual.specs.Value.{dual_of}
 use Rattle.slopes.specs.Mixed.{sloped}
+use Rattle.slopes_lists.specs.Lists.{state_of}
+use Rattle.saftvrqmie_table_slopes.specs.Table.{sloped_of}
 use Rattle.saftvrqmie_energies.specs.Energies.{each_by}
 use Rattle.saftvrqmie_energies_slopes.specs.State.{sloped_at}
 use Rattle.saftvrqmie_energies_slopes.specs.Energies.{contributions_slope}
@@ -16,21 +18,21 @@ use Rattle.saftvrqmie_energies_slopes.proofs.energies_of.Goals as goal
 
 pub contributions-requires : goal.contributions-requires
 contributions-requires c =
-    let t : length c.args.table.now ≡ 4 * sheet = search rules in
-    let u : length c.args.table_slopes.now ≡ 4 * sheet = search rules in
+    let t : length c.args.table.now.values ≡ 4 * sheet = search rules in
+    let u : length c.args.table.now.slopes ≡ 4 * sheet = search rules in
     (search rules, (search rules, (c.requires.0, c.requires.1, λ e p. (rw t p, rw u p), λ i p. (rw c.requires.2 p, rw c.requires.3 p), λ i p. (rw c.requires.4 p, rw c.requires.5 p))))
 
 pub returns-in_err-e : goal.returns-in_err-e
 unfolding contributions_slope sloped_at
 returns-in_err-e c =
-    rw (handed_on _ c.from_residual.ensures) (stops c.args.set.now (dual_of c.args.temperature) c.args.x.now.values.now c.args.x.now.slopes.now c.args.rho.now.values.now c.args.rho.now.slopes.now c.args.table.now c.args.table_slopes.now c.args.non_additive _ (via (answer_by (each_by (λ x. sloped (dual_of x)))) c.contributions.ensures c.in_err-e.was))
+    rw (handed_on _ c.from_residual.ensures) (stops c.args.set.now (state_of c.args.q.now) (sloped_of c.args.table.now) c.args.non_additive _ (via (answer_by (each_by (λ x. sloped (dual_of x)))) c.contributions.ensures c.in_err-e.was))
 
 pub returns-then-not-all_finite : goal.returns-then-not-all_finite
 unfolding contributions_slope sloped_at
 returns-then-not-all_finite c =
-    refuses_7 c.args.set.now (dual_of c.args.temperature) c.args.x.now.values.now c.args.x.now.slopes.now c.args.rho.now.values.now c.args.rho.now.slopes.now c.args.table.now c.args.table_slopes.now c.args.non_additive _ (via (answer_by (each_by (λ x. sloped (dual_of x)))) c.contributions.ensures c.in_ok-e.was) (told c.all_finite.ensures c.if-not-all_finite.true)
+    refuses_7 c.args.set.now (state_of c.args.q.now) (sloped_of c.args.table.now) c.args.non_additive _ (via (answer_by (each_by (λ x. sloped (dual_of x)))) c.contributions.ensures c.in_ok-e.was) (told c.all_finite.ensures c.if-not-all_finite.true)
 
 pub returns : goal.returns
 unfolding contributions_slope sloped_at
 returns c =
-    holds c.args.set.now (dual_of c.args.temperature) c.args.x.now.values.now c.args.x.now.slopes.now c.args.rho.now.values.now c.args.rho.now.slopes.now c.args.table.now c.args.table_slopes.now c.args.non_additive _ (via (answer_by (each_by (λ x. sloped (dual_of x)))) c.contributions.ensures c.in_ok-e.was) (told c.all_finite.ensures c.if-not-all_finite.false)
+    holds c.args.set.now (state_of c.args.q.now) (sloped_of c.args.table.now) c.args.non_additive _ (via (answer_by (each_by (λ x. sloped (dual_of x)))) c.contributions.ensures c.in_ok-e.was) (told c.all_finite.ensures c.if-not-all_finite.false)
