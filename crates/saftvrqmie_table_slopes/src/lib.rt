@@ -20,7 +20,7 @@ use saftvrqmie_properties::PairProperties;
 use sizes::TABLE;
 use sizes::table::{EPSILON_K_EFF, HS_DIAMETER, QUANTUM_D};
 
-// A table's values and their slopes.
+// A table's values and their slopes. Two arrays, not one of Duals: the energies read a table as a `NumberList`, whose two lists are those that the C call lends.
 #[derive(Drop)]
 pub struct SlopedTable {
     pub values: [f64; TABLE],
