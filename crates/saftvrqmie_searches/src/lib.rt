@@ -106,6 +106,7 @@ fn radius_search<D: WithoutEnds, T: Fn(QMiePotential<D>) -> D, M: Fn(D, QMiePote
 {
     let mut r = start;
     let mut u = start;
+    // k counts the evaluations that came before, whose number is handed on; no list is walked.
     for k in 0u8..19u8 {
         let v = saftvrqmie_potential::potential_at(w, r)?;
         let f = tested(v);
