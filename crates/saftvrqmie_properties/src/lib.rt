@@ -31,8 +31,7 @@ pub fn radius<D: Copy>(s: Search<D>) -> D
     ensures { result ≡ radius_of (search_by (λ x. x) s) }
 {
     match s {
-        Search::Found(r, u) => r,
-        Search::Spent(r, u) => r,
+        Search::Found(r, _) | Search::Spent(r, _) => r,
     }
 }
 
@@ -40,8 +39,7 @@ pub fn last_potential<D: Copy>(s: Search<D>) -> D
     ensures { result ≡ last_of (search_by (λ x. x) s) }
 {
     match s {
-        Search::Found(r, u) => u,
-        Search::Spent(r, u) => u,
+        Search::Found(_, u) | Search::Spent(_, u) => u,
     }
 }
 
