@@ -1,4 +1,4 @@
-// The 10-node rule, in any run.
+// The 10-node rule, in any run. Two tables, as the Rust and the definitions have them; each is read by a function of its own.
 #![tactic(auto)]
 
 ghost use Rattle.std.specs.Prelude.{◌≡◌, Bool};

@@ -22,9 +22,6 @@ use dual_num::DualNum;
 use number::{Arithmetic, Refusal};
 use saftvrqmie_potential::{FloatPair, QMiePotential, Shared};
 
-// f64::EPSILON
-const EPSILON: f64 = 2.220446049250313e-16;
-
 // The radius and the last potential: two cases of two numbers, as document 01's Forms ask.
 #[derive(Clone, Copy)]
 pub enum Search<D> {
@@ -65,7 +62,7 @@ fn clamp<D: DualNum>(dr: D) -> D
     dr
 }
 
-// The three steps, each from a radius, its potential and the tested value, which the zero search alone reads; and what that tests. l is the logarithm of EPSILON.
+// The three steps, each from a radius, its potential and the tested value, which the zero search alone reads; and what that tests. l is the logarithm of f64::EPSILON.
 fn sigma_step<D: DualNum>(r: D, v: QMiePotential<D>, f: D) -> D
     ensures { (w : Bool) → D.of w result ≡ sigma_step (D.beside w) (D.of w r) (potential_by (D.of w) v) (D.of w f) }
 {
@@ -136,7 +133,7 @@ pub fn zero_search<D: WithoutEnds>(
     ensures { (p : PairIn (D.beside false).Num) → Sharing (D.beside false) (D.functions false) (D.plain false) (D.power_at false) (D.power_by false) (D.of false) D.exponent_in p w.now
         → answer_by (counted_by (D.of false)) result ≡ zero_search (D.beside false) (potential (D.beside false) (D.functions false) p) (D.functions false) (D.of false temperature) (D.of false sigma_eff) }
 {
-    let l = D::plain_ln(D::Plain::lit(EPSILON))?;
+    let l = D::plain_ln(D::Plain::lit(f64::EPSILON))?;
     let start = sigma_eff * D::Plain::lit(0.7);
     radius_search(
         w,
@@ -153,7 +150,7 @@ pub fn depth_search<D: WithoutEnds>(w: &Shared<D>, sigma: D) -> Result<(Search<D
     radius_search(w, sigma, |v| v.u_r, depth_step)
 }
 
-// `calc_sigma_eff_ij`.
+// `calc_sigma_eff_ij`. It and the three below are the Rust's functions of a pair, each with a share of its own: a function over a closure of Shared would be no shorter than their two lines.
 pub fn calc_sigma_eff(pair: FloatPair) -> Result<(FloatSearch, u8), Refusal>
     ensures { search_answer result ≡ sigma_eff floats (calls floats port) (pair_in pair) }
 {

@@ -1,4 +1,4 @@
-// The 21-node rule of QUADPACK, in any run.
+// The 21-node rule of QUADPACK, in any run. Two tables, as the Rust and the definitions have them; each is read by a function of its own.
 #![tactic(auto)]
 
 ghost use Rattle.std.specs.Prelude.{◌≡◌, Bool};

@@ -13,7 +13,7 @@ use saftvrqmie_energies_slopes::QuantumEnergiesSlopes;
 use set_lists::QuantumSet;
 use slopes_lists::SlopedState;
 
-// What the definition writes into a list of six places.
+// What the definition writes into a list of six places. Not From for the array: the clause is this call's, which the struct's crate does not know.
 fn slopes_list(e: QuantumEnergiesSlopes) -> [f64; 6]
     ensures { (l : List Float) → length l ≡ 6 → slopes_written (energies_slopes_in e) l ≡ result }
 {
