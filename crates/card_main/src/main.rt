@@ -11,6 +11,9 @@ use sizes::{LISTS, SHEET, SHEETS, SIDE};
 use std::fs::File;
 use std::io::{self, Read};
 
+// Bytes of a record of data/cards.bin, and of the room for a card that is written.
+const CARD: usize = 1600;
+
 // What is told of a refused card is what was lent: model 9, count 99 and zeros.
 fn read(rt: &impl Print, card: &[u8], form: Form) -> io::Result<()> {
     let mut model = 9;
@@ -50,7 +53,7 @@ fn moved(rt: &impl Print, card: &[u8], form: Form, list: &mut [u8]) -> io::Resul
     told(rt, mie_parameters::number(answer), length, list)
 }
 
-fn length_at(record: &[u8; 1600], k: usize) -> usize
+fn length_at(record: &[u8; CARD], k: usize) -> usize
     requires { k < 1000 }
 {
     usize::from(u16::from_le_bytes([record[k], record[k + 1]]))
@@ -58,9 +61,9 @@ fn length_at(record: &[u8; 1600], k: usize) -> usize
 
 // The cards that are read or moved, up to a record whose card or list is too long for it. The numbers of the tasks are matched in this place only, so an enum would say them a second time.
 fn cards(rt: &impl Print, file: &mut impl Read) -> io::Result<()> {
-    for record in Records::<_, 1600>::new(file) {
+    for record in Records::<_, CARD>::new(file) {
         let record = record?;
-        let mut list = [0xa5u8; 1600];
+        let mut list = [0xa5u8; CARD];
         let Some(card) = record[8..].get(..length_at(&record, 0)) else {
             break;
         };
@@ -121,7 +124,7 @@ fn written(rt: &impl Print, file: &mut impl Read) -> io::Result<()> {
     for record in Records::<_, RECORD>::new(file) {
         let record = record?;
         let f: [f64; WORDS] = floats(&record);
-        let mut list = [0xa5u8; 1600];
+        let mut list = [0xa5u8; CARD];
         let Some(room) = list.get_mut(..whole_at(&f, 2)) else {
             break;
         };

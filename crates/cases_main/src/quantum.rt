@@ -1,5 +1,6 @@
 // Worked cases of the quantum model: each call on the C boundary, by its number.
 // Calls that take alike (a state, a pair) stay apart: one function of them would take each as a closure that writes the C call's parameters twice more, as a function handed by its name has no contract here where its module is private.
+// f and b are a case's floats and bytes, x, y and z the lists lent: of a struct each call would name them field by field.
 
 use crate::at_first;
 use case_arguments::{list, number_at, whole_at};

@@ -22,6 +22,7 @@ const RECORD: usize = NAME + 48;
 // The most components and layers of a record.
 const COMPONENTS: usize = 5;
 
+// What a record has room for, whatever a tank takes.
 const LAYERS: usize = 32;
 
 // Where the lists of components and of layers begin.
@@ -49,7 +50,7 @@ const VOLUMES: usize = 144;
 
 // A word that is a byte.
 fn byte_at(f: &[f64], at: usize) -> u8 {
-    (bits_of(number_at(f, at)) & 0xff) as u8
+    bits_of(number_at(f, at)).to_le_bytes()[0]
 }
 
 // ---- the set

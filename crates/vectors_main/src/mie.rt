@@ -87,6 +87,7 @@ impl Mie {
         }
     }
 
+    // By the list's number in the file, which is matched in this place only.
     fn change_list(&mut self, list: usize, i: usize, bits: u64) {
         match list {
             0 => put(&mut self.set.m, i, bits),

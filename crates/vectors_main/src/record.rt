@@ -1,4 +1,4 @@
-// A record: its head and its list.
+// A record: its head and its list. Words of the head go by docs/VECTORS.md's numbers, lengths by the word that has them.
 ghost use Rattle.std.specs.Prelude.{◌<◌, ◌≤◌};
 
 use crate::tally::Operation;

@@ -55,6 +55,7 @@ impl Tally {
         }))
     }
 
+    // The row by the operation's number: an enum's number is read by as, since it has no From.
     pub fn note(&mut self, operation: Operation, number: u64, same: bool) {
         let row = &mut self.0[operation as usize];
         if let Some(times) = row.met.get_mut(number as usize) {
