@@ -41,6 +41,14 @@ Entries has n l = First n (has l.values.now l.slopes.now)
 abbrev pub Components : (List Float → List Float → ℕ → Type 0) → ℕ → NumberList → Type 0
 Components has n l = (0 < n) × (n ≤ side) × Entries has n l
 
+-- a count, and a table
+abbrev pub Tabled : (List Float → List Float → ℕ → Type 0) → ℕ → NumberList → Type 0
+Tabled has n table = (0 < n) × (n ≤ side) × Entries has (4 * sheet) table
+
+-- all three
+abbrev pub Listed : (List Float → List Float → ℕ → Type 0) → ℕ → NumberList → NumberList → Type 0
+Listed has n l table = (0 < n) × (n ≤ side) × Entries has n l × Entries has (4 * sheet) table
+
 -- a state that an operation has tested with 1
 abbrev pub Right : {D : Type 0} → (List Float → List Float → ℕ → Type 0) → State D → Type 0
 Right has s = (0 < s.n) × (s.n ≤ side) × Entries has (4 * sheet) s.table × Entries has s.n s.fractions × Entries has s.n s.densities

@@ -4,7 +4,7 @@ ghost use Rattle.std.specs.Prelude.{◌≡◌, Bool};
 ghost use Rattle.number.specs.Answer.{answer_by};
 ghost use Rattle.number.specs.Arith.{whole};
 ghost use Rattle.mie_parameters.specs.Sums.{weighted};
-ghost use Rattle.saftvrqmie_hard_sphere.specs.State.{diagonal, points, sheet_in, entries, Components, Right};
+ghost use Rattle.saftvrqmie_hard_sphere.specs.State.{diagonal, points, sheet_in, entries, Components, Listed};
 ghost use Rattle.saftvrqmie_hard_sphere.specs.HardSphere.{ZetaIn, Zeta23In, zeta_by, zeta_each, zeta23_by, zeta23_each, zeta_added, frac1mz3, zeta23_added, hard_sphere_of, zeta, zeta23, hard_sphere_from};
 
 use crate::State;
@@ -52,7 +52,7 @@ fn zeta_added<D: DualNum>(rho: D, d: D, m: D::Plain, z: Zetas<D>) -> Zetas<D>
 
 // Here and in the energies below, counts and lists are asked for that an operation has let pass: it refuses others with 1 before it sums.
 pub fn zeta<D: DualNum>(s: &State<D>) -> Zetas<D>
-    requires { Right D.has s.now }
+    requires { Listed D.has s.now.n s.now.densities s.now.table }
     ensures { (w : Bool) → let rho = entries (D.entry_of w) s.now.densities in
         let d = diagonal (sheet_in (entries (D.entry_of w) s.now.table) 1) in
         zeta_by (D.of w) result ≡ zeta (D.beside w) (D.functions w) s.now.n rho d (points (D.beside w) s.now.m.now) }
@@ -90,7 +90,7 @@ fn zeta_23_added<D: DualNum>(x: D, d: D, m: D::Plain, y: Zeta23<D>) -> Zeta23<D>
 
 // Beside zeta's, two sums whose parts end with m and not with its share of pi: other roundings.
 fn zeta_23<D: DualNum>(s: &State<D>) -> D
-    requires { Right D.has s.now }
+    requires { Listed D.has s.now.n s.now.fractions s.now.table }
     ensures { (w : Bool) → let x = entries (D.entry_of w) s.now.fractions in
         let d = diagonal (sheet_in (entries (D.entry_of w) s.now.table) 1) in
         D.of w result ≡ zeta23 (D.beside w) s.now.n x d (points (D.beside w) s.now.m.now) }
@@ -119,7 +119,7 @@ fn hard_sphere_of<D: DualNum>(z: Zetas<D>, z23: D, l: D) -> D
 
 // From the zetas, which the non-additive part takes too.
 pub fn helmholtz_energy_density<D: DualNum>(s: &State<D>, z: Zetas<D>) -> Result<D, Refusal>
-    requires { Right D.has s.now }
+    requires { Listed D.has s.now.n s.now.fractions s.now.table }
     ensures { (w : Bool) → let x = entries (D.entry_of w) s.now.fractions in
         let d = diagonal (sheet_in (entries (D.entry_of w) s.now.table) 1) in
         answer_by (D.of w) result ≡ hard_sphere_from (D.beside w) (D.functions w) s.now.n x d (points (D.beside w) s.now.m.now) (zeta_by (D.of w) z) }

@@ -3,7 +3,7 @@
 ghost use Rattle.std.specs.Prelude.{◌≡◌, ◌<◌, ℕ, Bool, cond};
 ghost use Rattle.number.specs.Arith.{whole};
 ghost use Rattle.number.specs.Lists.{nth};
-ghost use Rattle.saftvrqmie_hard_sphere.specs.State.{diagonal, points, sheet_in, entries, Right, Reads};
+ghost use Rattle.saftvrqmie_hard_sphere.specs.State.{diagonal, points, sheet_in, entries, Listed, Reads};
 ghost use Rattle.saftvrqmie_hard_sphere.specs.HardSphere.{zeta_by, zeta};
 ghost use Rattle.saftvrqmie_hard_sphere.specs.NonAdditive.{g_hs, non_additive_ij, non_additive_column, non_additive_sum, density_shares, non_additive};
 
@@ -41,7 +41,7 @@ fn non_additive_ij<D: DualNum>(s: Shared<D>, xi: D, xj: D, di: D, dj: D, dij: D)
 
 // x_s of the non-additive part, in the first n places.
 fn density_shares<D: DualNum>(s: &State<D>, rho_s: D, xs: &mut [D; SIDE])
-    requires { Right D.has s.now }
+    requires { Listed D.has s.now.n s.now.densities s.now.table }
     ensures { (w : Bool) → let A = D.beside w in
         let rho = entries (D.entry_of w) s.now.densities in
         Reads A (D.of w) s.now.n xs.new (nth A (density_shares A (D.functions w) s.now.n (D.of w rho_s) rho (points A s.now.m.now))) }
@@ -59,7 +59,7 @@ fn non_additive_column<D: DualNum>(
     j: usize,
     sum: D,
 ) -> D
-    requires { Right D.has s.now × (j < s.now.n) }
+    requires { Listed D.has s.now.n s.now.densities s.now.table × (j < s.now.n) }
     ensures { (w : Bool) (x : ℕ → (D.beside w).Num) (v : (D.beside w).Num) → Reads (D.beside w) (D.of w) s.now.n xs.now x → D.taken w v ≡ D.of w sum →
         let d = sheet_in (entries (D.entry_of w) s.now.table) 1 in
         D.of w result ≡ non_additive_column (D.beside w) (D.functions w) s.now.n x d (D.of w shared.rho_s) (D.of w shared.z2) (D.of w shared.f) j v }
@@ -77,7 +77,7 @@ fn non_additive_column<D: DualNum>(
 }
 
 fn non_additive_sum<D: DualNum>(s: &State<D>, xs: &[D; SIDE], shared: Shared<D>) -> D
-    requires { Right D.has s.now }
+    requires { Listed D.has s.now.n s.now.densities s.now.table }
     ensures { (w : Bool) (x : ℕ → (D.beside w).Num) → Reads (D.beside w) (D.of w) s.now.n xs.now x →
         let d = sheet_in (entries (D.entry_of w) s.now.table) 1 in
         D.of w result ≡ non_additive_sum (D.beside w) (D.functions w) s.now.n x d (D.of w shared.rho_s) (D.of w shared.z2) (D.of w shared.f) }
@@ -90,7 +90,7 @@ fn non_additive_sum<D: DualNum>(s: &State<D>, xs: &[D; SIDE], shared: Shared<D>)
 }
 
 fn non_additive<D: DualNum>(s: &State<D>, z: Zetas<D>, xs: &mut [D; SIDE]) -> D
-    requires { Right D.has s.now }
+    requires { Listed D.has s.now.n s.now.densities s.now.table }
     ensures { (w : Bool) → let A = D.beside w in
         let rho = entries (D.entry_of w) s.now.densities in
         let d = sheet_in (entries (D.entry_of w) s.now.table) 1 in
@@ -108,7 +108,7 @@ fn non_additive<D: DualNum>(s: &State<D>, z: Zetas<D>, xs: &mut [D; SIDE]) -> D
 // Not wanted: +0, and nothing of it is worked. z is the zeta of these densities; xs is room.
 // The operation has refused other counts and lists with 1.
 pub fn wanted_part<D: DualNum>(s: &State<D>, z: Zetas<D>, xs: &mut [D; SIDE], wanted: bool) -> D
-    requires { Right D.has s.now }
+    requires { Listed D.has s.now.n s.now.densities s.now.table }
     ensures { (w : Bool) → let A = D.beside w in
         let rho = entries (D.entry_of w) s.now.densities in
         let d = sheet_in (entries (D.entry_of w) s.now.table) 1 in
