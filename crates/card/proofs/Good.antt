@@ -6,16 +6,11 @@ use mathlib.Core.Path.{◌≡◌, refl, subst}
 use mathlib.Core.Bool.{Bool, true, false}
 use mathlib.Core.List.{List}
 use Rattle.number.specs.Ans.{held, demand}
-use Rattle.number.proofs.Walk.{then_held, held_inj}
+use Rattle.number.proofs.Walk.{demanded, then_held, held_inj}
 use Rattle.bit_fields.specs.Bits.{bits_of}
 use Rattle.card.specs.Fields.{Numbers, read_fields}
 use Rattle.card.specs.Card.{Card, Form, heading, layout, known, filling, read_card}
 use Rattle.card.proofs.Whole.{knows}
-
-pub demanded : (n : ℕ) (t x : Bool) → demand n t ≡ held x → t ≡ true
-unfolding demand
-demanded n true x p = refl
-demanded n false x p = let z : ◌≡◌ {A = ℕ} 0 1 = cc in absurd (omega arith)
 
 -- a card that reads well, taken apart
 pub record Taken (f : Form) (l : List ℕ) (c : Card) : Type 0 where

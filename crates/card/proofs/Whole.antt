@@ -1,5 +1,6 @@
 -- Laws of a whole card, one for each place where its reader returns. Assumes nothing.
 use Prim.Native.Nat.{ℕ, ◌+◌, ◌-◌, ◌≤◌, ◌<◌}
+use Rattle.std.proofs.lemmas.Bool.{and_parts}
 use Rattle.std.specs.Prelude.{Err, Ok, Result}
 use Rattle.number.specs.declared.refusal.Refusal.{Refusal}
 use Rattle.number.specs.Answer.{code}
@@ -19,14 +20,6 @@ use Rattle.card.specs.declared.Kind.{Kind}
 use Rattle.card.specs.declared.FieldValue.{FieldValue}
 use Rattle.card.proofs.Fields.{number_same}
 
-pub and_left : (a b : Bool) → (a && b) ≡ true → a ≡ true
-and_left true b p = refl
-and_left false b p = p
-
-pub and_right : (a b : Bool) → (a && b) ≡ true → b ≡ true
-and_right true b p = p
-and_right false b p = let z : true ≡ false = sym p in let y : ◌≡◌ {A = ℕ} 0 1 = cc in absurd (omega arith)
-
 -- what a known heading says
 pub record Known (f : Form) (model count : ℕ) : Type 0 where
   pub first : f.first ≤ model
@@ -41,13 +34,13 @@ knows f model count p =
     let b = leb model (f.first + 1) in
     let c = leb 1 count in
     let d = leb count f.most in
-    let abc = and_left (a && b && c) d p in
-    let ab = and_left (a && b) c abc in
+    let abc = (and_parts (a && b && c) d p).0 in
+    let ab = (and_parts (a && b) c abc).0 in
     record {
-      first = leb-true f.first model (and_left a b ab);
-      last = leb-true model (f.first + 1) (and_right a b ab);
-      some = leb-true 1 count (and_right (a && b) c abc);
-      most = leb-true count f.most (and_right (a && b && c) d p);
+      first = leb-true f.first model (and_parts a b ab).0;
+      last = leb-true model (f.first + 1) (and_parts a b ab).1;
+      some = leb-true 1 count (and_parts (a && b) c abc).1;
+      most = leb-true count f.most (and_parts (a && b && c) d p).1;
     }
 
 -- the kind that is read from a known model

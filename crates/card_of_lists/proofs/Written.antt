@@ -1,5 +1,6 @@
 -- Laws of the operations, test by test. Assumes nothing.
 use Prim.Native.Nat.{ℕ, ◌+◌, ◌*◌, ◌-◌, ◌≤◌, ◌<◌}
+use Rattle.std.proofs.lemmas.Bool.{and_parts}
 use Rattle.std.specs.Prelude.{Err, Ok, Result, Option, Some}
 use Rattle.std.specs.Result.{result_err}
 use Rattle.number.specs.Answer.{code, answer}
@@ -19,7 +20,6 @@ use Rattle.saftvrqmie_parameters.specs.Parameters as Quantum
 use Rattle.saftvrmie_parameters.specs.Parameters as Mie
 use Rattle.card.specs.Fields.{joined}
 use Rattle.card.specs.Card.{Card, older, value_count}
-use Rattle.card.proofs.Whole.{and_left, and_right}
 use Rattle.card_writer.specs.Writing.{card_bytes, CardRoom, card_stored}
 use Rattle.card_of_lists.specs.Cards.{quantum_component, mie_component, pair_rows, quantum_card, mie_card, passed, passed_by, vrq_card, vr_card}
 
@@ -83,7 +83,7 @@ record Both (a b : Bool) : Type 0 where
   second : b ≡ true
 
 both : (a b : Bool) → (a && b) ≡ true → Both a b
-both a b p = record { first = and_left a b p; second = and_right a b p }
+both a b p = record { first = (and_parts a b p).0; second = (and_parts a b p).1 }
 
 count_in : (n : ℕ) → count_within n ≡ true → (1 ≤ n) × (n ≤ 12)
 unfolding count_within

@@ -1,5 +1,6 @@
 -- The operation test by test, over plain values. Assumes nothing.
 use Prim.Native.Nat.{ℕ, ◌-◌, ◌≤◌}
+use Rattle.std.proofs.lemmas.Bool.{and_parts}
 use Rattle.std.specs.Prelude.{Err, Ok, Result}
 use Rattle.number.specs.declared.refusal.Refusal.{Refusal}
 use native.Mathlib.Omega.{arith}
@@ -19,7 +20,6 @@ use Rattle.set_lists.specs.Written.{QuantumLent, MieLent, set_written, mie_writt
 use Rattle.card.specs.Card.{Card, Form, number_of, value_count, read_card, card_answer}
 use Rattle.card.specs.declared.Heading.{Heading}
 use Rattle.card.proofs.Good.{counted}
-use Rattle.card.proofs.Whole.{and_left, and_right}
 use Rattle.set_lists.specs.Sets.{quantum_lengths, mie_lengths}
 use Rattle.card_lists.specs.Lists.{quantum_lists, mie_lists}
 use Rattle.card_parameters.specs.Parameters.{CardLent, card_lengths, quantum_stored, mie_stored, card_stored, card_parameters}
@@ -99,8 +99,8 @@ module _ (f : Form) (card : List ℕ) (l : CardLent) where
 -- what the parts require
 pub quantum_right : (m lists sheets : List Float) (orders : List ℕ) → card_lengths m lists sheets orders ≡ true → quantum_lengths m sheets orders ≡ true
 unfolding card_lengths
-quantum_right m lists sheets orders p = and_left (quantum_lengths m sheets orders) (mie_lengths lists sheets) p
+quantum_right m lists sheets orders p = (and_parts (quantum_lengths m sheets orders) (mie_lengths lists sheets) p).0
 
 pub mie_right : (m lists sheets : List Float) (orders : List ℕ) → card_lengths m lists sheets orders ≡ true → mie_lengths lists sheets ≡ true
 unfolding card_lengths
-mie_right m lists sheets orders p = and_right (quantum_lengths m sheets orders) (mie_lengths lists sheets) p
+mie_right m lists sheets orders p = (and_parts (quantum_lengths m sheets orders) (mie_lengths lists sheets) p).1

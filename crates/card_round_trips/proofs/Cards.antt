@@ -9,6 +9,7 @@ use mathlib.Core.Path.{◌≡◌, refl, sym, ap, ◌∙◌, subst}
 use mathlib.Core.Bool.{Bool, true, false}
 use mathlib.Core.List.{List, [], ◌∷◌, ◌++◌, append_assoc}
 use borrow.Author.Tests.{le-leb, lt-ltb, ltb-true, eqb-true}
+use Rattle.std.proofs.lemmas.Bool.{and_parts}
 use Rattle.number.specs.Ans.{held, ◌>>=◌, demand}
 use Rattle.bit_fields.specs.Bits.{numeral, bits_of}
 use Rattle.bit_fields.proofs.Digits.{numeral_inj, numeral_digits}
@@ -17,7 +18,7 @@ use Rattle.card.specs.declared.Field.{Field}
 use Rattle.card.specs.Fields.{Numbers}
 use Rattle.card.specs.Card.{Card, Form, form_of, heading, float, component, pair_value, layout, known, filling, read_card}
 use Rattle.card.proofs.Good.{taken}
-use Rattle.card.proofs.Whole.{and_left, and_right, knows}
+use Rattle.card.proofs.Whole.{knows}
 use Rattle.card.specs.Fields.{joined}
 use Rattle.card_writer.specs.Writing.{write_fields, card_bits, byte_count, filled, card_bytes}
 use Rattle.card_writer.proofs.Bytes.{bits_bytes, bytes_bits, filled_length}
@@ -139,7 +140,7 @@ back_of f l head body h p b q =
     let left = length body.rest in
     let top = write_fields heading (model ∷ count ∷ []) in
     let rest = write_fields (layout f (model - f.first) count) body.values in
-    let z = zeros_are body.rest (eqb-true (numeral body.rest) 0 (and_right (ltb left 8) (eqb (numeral body.rest) 0) q)) in
+    let z = zeros_are body.rest (eqb-true (numeral body.rest) 0 (and_parts (ltb left 8) (eqb (numeral body.rest) 0) q).1) in
     let whole : bits_of l ≡ (top ++ rest) ++ replicate left false =
     h.bits
     ∙ ap (λ (x : List ℕ). write_fields heading x ++ head.rest) vs
@@ -149,7 +150,7 @@ back_of f l head body h p b q =
     record {
       left = left;
       bits = rw e whole;
-      few = ltb-true left 8 (and_left (ltb left 8) (eqb (numeral body.rest) 0) q);
+      few = ltb-true left 8 (and_parts (ltb left 8) (eqb (numeral body.rest) 0) q).0;
       well = record { kind_low = omega (arith, first, last); some = kn.some; most = kn.most; fits = b.fits };
     }
 

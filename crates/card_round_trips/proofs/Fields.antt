@@ -11,13 +11,12 @@ use mathlib.Core.Bool.{Bool, true, false, not, cond}
 use mathlib.Core.List.{List, [], ◌∷◌, ◌++◌, append_assoc}
 use borrow.Author.Tests.{le-leb, leb-true, eqb-true, eqb-false, not-true}
 use Rattle.number.specs.Ans.{held, ◌>>=◌, demand}
-use Rattle.number.proofs.Walk.{then_held, held_inj}
+use Rattle.number.proofs.Walk.{demanded, then_held, held_inj}
 use Rattle.bit_fields.specs.Bits.{numeral, digits}
 use Rattle.bit_fields.proofs.Digits.{numeral_lt, digits_length, numeral_digits, digits_numeral}
 use Rattle.card.specs.declared.Field.{Field}
 use Rattle.card.specs.Fields.{Read, Numbers, read_plain, read_spared, read_field, read_fields}
 use Rattle.card.specs.Card.{float}
-use Rattle.card.proofs.Good.{demanded}
 use Rattle.card_writer.specs.Writing.{write_field, write_fields}
 
 -- a number for each field, below 2 to the field's width

@@ -11,12 +11,11 @@ use mathlib.Core.List.{List, [], ◌++◌}
 use borrow.Author.Tests.{le-leb, leb-true, ltb-true, ltb-false}
 use Rattle.number.specs.Ans.{held, ◌>>=◌, demand}
 use Rattle.number.specs.Lists.{at}
-use Rattle.number.proofs.Walk.{then_held}
+use Rattle.number.proofs.Walk.{demanded, then_held}
 use Rattle.bit_fields.proofs.Bytes.{Bytes}
 use Rattle.saftvrmie_parameters.specs.Parameters as Mie
 use Rattle.card.specs.Fields.{joined}
 use Rattle.card.specs.Card.{Card, older, float, component, layout, read_card}
-use Rattle.card.proofs.Good.{demanded}
 use Rattle.card.proofs.Fields.{below, layout_length, layout_component, layout_pair}
 use Rattle.card_lists.specs.Lists.{column, mie_lists}
 use Rattle.card_writer.specs.Writing.{card_bytes, CardRoom, card_stored}

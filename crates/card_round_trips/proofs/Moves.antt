@@ -9,10 +9,9 @@ use mathlib.Core.Bool.{Bool, not}
 use mathlib.Core.List.{List, [], ◌++◌}
 use borrow.Author.Tests.{le-leb, lt-leb, leb-true}
 use Rattle.number.specs.Ans.{held, refused, ◌>>=◌, demand}
-use Rattle.number.proofs.Walk.{then_held, held_inj}
+use Rattle.number.proofs.Walk.{demanded, then_held, held_inj}
 use Rattle.bit_fields.proofs.Bytes.{Bytes}
 use Rattle.card.specs.Card.{Card, Form, form_of, older, newer_form, read_card}
-use Rattle.card.proofs.Good.{demanded}
 use Rattle.card_writer.specs.Writing.{card_bytes, CardRoom, card_stored, card_moved}
 use Rattle.card_round_trips.proofs.Cards.{Well, fits_other, written_reads, reads_well, read_writes}
 

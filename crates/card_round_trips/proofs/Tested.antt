@@ -15,17 +15,16 @@ use mathlib.Core.Path.{◌≡◌, refl, sym, ap, ◌∙◌, subst}
 use mathlib.Core.Bool.{Bool, true, false, not, ◌&&◌, ◌||◌, beq, cond}
 use mathlib.Core.List.{List}
 use borrow.Author.Tests.{leb-true, eqb-true, eq-eqb, ne_eqb, not-true}
+use Rattle.std.proofs.lemmas.Bool.{and_parts}
 use Rattle.number.specs.Ans.{Ans, held, refused, ◌>>=◌, demand}
 use Rattle.number.specs.Arith.{decimal}
 use Rattle.number.specs.Lists.{at}
 use Rattle.number.specs.Walk.{turns, every, walk}
-use Rattle.number.proofs.Walk.{then_held}
+use Rattle.number.proofs.Walk.{demanded, then_held}
 use Rattle.limits.specs.declared.Component.{Component}
 use Rattle.limits.specs.Limits.{square, components, in_limits, component_within, components_within, all_within, masses_within, segments_within, same_bits, pair_within, pairs_within, is_one, all_one}
 use Rattle.saftvrqmie_parameters.specs.Parameters as Quantum
 use Rattle.saftvrmie_parameters.specs.Parameters as Mie
-use Rattle.card.proofs.Whole.{and_left, and_right}
-use Rattle.card.proofs.Good.{demanded}
 use Rattle.card_of_lists.specs.Cards.{passed}
 use Rattle.card_of_lists.proofs.Written.{QuantumLengths, quantum_lengths, MieLengths, mie_lengths_told, passes}
 
@@ -56,17 +55,17 @@ lt_number (fin s m e) y p = refl
 
 limits_number : (low high x : Float) → in_limits low high x ≡ true → is_nan x ≡ false
 unfolding in_limits
-limits_number low high x p = le_number x high (and_right (le low x) (le x high) p)
+limits_number low high x p = le_number x high (and_parts (le low x) (le x high) p).1
 
 pub same_float : (x y : Float) → T (fits binary64 x) → T (fits binary64 y) → same_bits x y ≡ true → x ≡ y
 unfolding same_bits
 same_float x y h g p =
-    let e = eqb-true (to_bits binary64 x) (to_bits binary64 y) (and_right (not (is_nan x) && not (is_nan y)) (eqb (to_bits binary64 x) (to_bits binary64 y)) p) in
+    let e = eqb-true (to_bits binary64 x) (to_bits binary64 y) (and_parts (not (is_nan x) && not (is_nan y)) (eqb (to_bits binary64 x) (to_bits binary64 y)) p).1 in
     sym (number_back x h) ∙ ap (of_bits binary64) e ∙ number_back y g
 
 pub same_number : (x y : Float) → same_bits x y ≡ true → is_nan x ≡ false
 unfolding same_bits
-same_number x y p = not-true (is_nan x) (and_left (not (is_nan x)) (not (is_nan y)) (and_left (not (is_nan x) && not (is_nan y)) (eqb (to_bits binary64 x) (to_bits binary64 y)) p))
+same_number x y p = not-true (is_nan x) (and_parts (not (is_nan x)) (not (is_nan y)) (and_parts (not (is_nan x) && not (is_nan y)) (eqb (to_bits binary64 x) (to_bits binary64 y)) p).0).0
 
 -- ---- each of them
 pub every_at : (n : ℕ) (p : ℕ → Bool) (i : ℕ) → every n p ≡ true → i < n → p i ≡ true
@@ -74,7 +73,7 @@ unfolding every turns
 every_at zero p i e h = absurd (omega arith)
 every_at (suc n) p i e h =
     let i-le : i ≤ n = omega arith in
-    ⊎_elim (λ r. rw r (and_right (every n p) (p n) e)) (λ r. every_at n p i (and_left (every n p) (p n) e) r) (eq-or-lt_of_le i-le)
+    ⊎_elim (λ r. rw r (and_parts (every n p) (p n) e).1) (λ r. every_at n p i (and_parts (every n p) (p n) e).0 r) (eq-or-lt_of_le i-le)
 
 pub record Component-numbers (c : Component) : Type 0 where
   pub sigma : is_nan c.sigma ≡ false
@@ -90,13 +89,13 @@ component_numbers c p =
     let d = lt (decimal false 3 0) c.la in
     let e = lt c.la c.lr in
     let f = le c.lr (decimal false 64 0) in
-    let ab = and_left (a && b) (d && e && f) p in
-    let def = and_right (a && b) (d && e && f) p in
+    let ab = (and_parts (a && b) (d && e && f) p).0 in
+    let def = (and_parts (a && b) (d && e && f) p).1 in
     record {
-      sigma = limits_number (decimal false 5 1) (decimal false 16 0) c.sigma (and_left a b ab);
-      epsilon_k = limits_number (decimal false 1 1) (decimal false 5000 0) c.epsilon_k (and_right a b ab);
-      lr = le_number c.lr (decimal false 64 0) (and_right (d && e) f def);
-      la = lt_number c.la c.lr (and_right d e (and_left (d && e) f def));
+      sigma = limits_number (decimal false 5 1) (decimal false 16 0) c.sigma (and_parts a b ab).0;
+      epsilon_k = limits_number (decimal false 1 1) (decimal false 5000 0) c.epsilon_k (and_parts a b ab).1;
+      lr = le_number c.lr (decimal false 64 0) (and_parts (d && e) f def).1;
+      la = lt_number c.la c.lr (and_parts d e (and_parts (d && e) f def).0).1;
     }
 
 components_at : (n : ℕ) (c : ℕ → Component) (i : ℕ) → components_within n c ≡ true → i < n → Component-numbers (c i)
@@ -126,7 +125,7 @@ pairs_of n k p =
     let within : (i j : ℕ) → i < n → j < n → pair_within k i j ≡ true = λ i j h g. every_at n (λ j. pair_within k i j) j (every_at n (λ i. every n (λ j. pair_within k i j)) i p h) g in
     record {
       end = λ i h. rw (eq-eqb i i refl) at (within i i h h);
-      swap = λ i j h g z. and_right (in_limits (neg (decimal false 9 1)) (decimal false 9 1) (k i j)) (same_bits (k i j) (k j i)) (rw (ne_eqb i j z) at (within i j h g));
+      swap = λ i j h g z. (and_parts (in_limits (neg (decimal false 9 1)) (decimal false 9 1) (k i j)) (same_bits (k i j) (k j i)) (rw (ne_eqb i j z) at (within i j h g))).1;
     }
 
 -- ---- an m of 1.0
@@ -136,8 +135,8 @@ one_is = refl
 
 one_value : (s : Bool) (m : ℕ) (e : ℤ) → (eqb (m * up e * 1) (1 * 1 * down e) && (beq s false || eqb (m * up e * 1) 0)) ≡ true → HasValue (fin s m e) false 1 1
 one_value s m e p =
-    let a = eqb-true (m * up e * 1) (1 * 1 * down e) (and_left (eqb (m * up e * 1) (1 * 1 * down e)) (beq s false || eqb (m * up e * 1) 0) p) in
-    let b = and_right (eqb (m * up e * 1) (1 * 1 * down e)) (beq s false || eqb (m * up e * 1) 0) p in
+    let a = eqb-true (m * up e * 1) (1 * 1 * down e) (and_parts (eqb (m * up e * 1) (1 * 1 * down e)) (beq s false || eqb (m * up e * 1) 0) p).0 in
+    let b = (and_parts (eqb (m * up e * 1) (1 * 1 * down e)) (beq s false || eqb (m * up e * 1) 0) p).1 in
     let d = down_pos e in
     let z = ne_eqb (m * up e * 1) 0 (λ q. omega (arith, a, d, q)) in
     (sign s (rw z at b), a)
@@ -222,14 +221,14 @@ quantum_tested x b p =
     let two = passes 2 (components_within n c && masses_within n (at x.mass) && pairs_within n k && pairs_within n l) _ b refl one.rest in
     let three = passes 3 (all_one n (at x.m)) _ b refl two.rest in
     let four = passed_walk (Quantum.order_walk n x.fh) _ b (λ m q. walk_6 n m x.fh q) three.rest in
-    let cmk = and_left (components_within n c && masses_within n (at x.mass) && pairs_within n k) (pairs_within n l) two.test in
-    let cm = and_left (components_within n c && masses_within n (at x.mass)) (pairs_within n k) cmk in
+    let cmk = (and_parts (components_within n c && masses_within n (at x.mass) && pairs_within n k) (pairs_within n l) two.test).0 in
+    let cm = (and_parts (components_within n c && masses_within n (at x.mass)) (pairs_within n k) cmk).0 in
     record {
       lengths = quantum_lengths x one.test;
-      component = λ i h. components_at n c i (and_left (components_within n c) (masses_within n (at x.mass)) cm) h;
-      mass = λ i h. masses_at n (at x.mass) i (and_right (components_within n c) (masses_within n (at x.mass)) cm) h;
-      k_ij = pairs_of n k (and_right (components_within n c && masses_within n (at x.mass)) (pairs_within n k) cmk);
-      l_ij = pairs_of n l (and_right (components_within n c && masses_within n (at x.mass) && pairs_within n k) (pairs_within n l) two.test);
+      component = λ i h. components_at n c i (and_parts (components_within n c) (masses_within n (at x.mass)) cm).0 h;
+      mass = λ i h. masses_at n (at x.mass) i (and_parts (components_within n c) (masses_within n (at x.mass)) cm).1 h;
+      k_ij = pairs_of n k (and_parts (components_within n c && masses_within n (at x.mass)) (pairs_within n k) cmk).1;
+      l_ij = pairs_of n l (and_parts (components_within n c && masses_within n (at x.mass) && pairs_within n k) (pairs_within n l) two.test).1;
       m = λ i h. ones_at n (at x.m) i three.test h;
       fh = λ i h. order_small n x.fh four.0 four.1 i h;
     }
@@ -250,12 +249,12 @@ mie_tested x b p =
     let l = square n x.gamma_ij in
     let one = passes 1 (Mie.right_lengths x) _ b refl p in
     let two = passes 2 (components_within n c && segments_within n (at x.m) && pairs_within n k && pairs_within n l) _ b refl one.rest in
-    let cmk = and_left (components_within n c && segments_within n (at x.m) && pairs_within n k) (pairs_within n l) two.test in
-    let cm = and_left (components_within n c && segments_within n (at x.m)) (pairs_within n k) cmk in
+    let cmk = (and_parts (components_within n c && segments_within n (at x.m) && pairs_within n k) (pairs_within n l) two.test).0 in
+    let cm = (and_parts (components_within n c && segments_within n (at x.m)) (pairs_within n k) cmk).0 in
     record {
       lengths = mie_lengths_told x one.test;
-      component = λ i h. components_at n c i (and_left (components_within n c) (segments_within n (at x.m)) cm) h;
-      m = λ i h. segments_at n (at x.m) i (and_right (components_within n c) (segments_within n (at x.m)) cm) h;
-      k_ij = pairs_of n k (and_right (components_within n c && segments_within n (at x.m)) (pairs_within n k) cmk);
-      gamma_ij = pairs_of n l (and_right (components_within n c && segments_within n (at x.m) && pairs_within n k) (pairs_within n l) two.test);
+      component = λ i h. components_at n c i (and_parts (components_within n c) (segments_within n (at x.m)) cm).0 h;
+      m = λ i h. segments_at n (at x.m) i (and_parts (components_within n c) (segments_within n (at x.m)) cm).1 h;
+      k_ij = pairs_of n k (and_parts (components_within n c && segments_within n (at x.m)) (pairs_within n k) cmk).1;
+      gamma_ij = pairs_of n l (and_parts (components_within n c && segments_within n (at x.m) && pairs_within n k) (pairs_within n l) two.test).1;
     }

@@ -10,12 +10,13 @@ use lib.Ieee.{Float, nan}
 use lib.ListN.{length, set, length-set}
 use lib.Seq.{get_or-set_same, get_or-set_other}
 use borrow.Author.Tests.{eqb-true, ltb-true, ltb-false, lt-ltb, eq-eqb}
+use Rattle.std.proofs.lemmas.Bool.{and_parts}
 use Rattle.number.specs.Ans.{Ans, held, refused, ◌>>=◌, demand}
 use Rattle.number.specs.Lists.{at}
-use Rattle.number.proofs.Walk.{then_held, held_inj}
+use Rattle.number.proofs.Walk.{demanded, then_held, held_inj}
 use Rattle.sizes.specs.Sizes.{side, sheet}
 use Rattle.limits.specs.Limits.{count_within, index_within, temperature_within, shares_within, state_within}
-use Rattle.mie_parameters.proofs.Laws.{and_left, and_right, Inside}
+use Rattle.mie_parameters.proofs.Laws.{Inside}
 use Rattle.saftvrqmie_parameters.specs.declared.SaftVRQMiePars.{SaftVRQMiePars}
 use Rattle.saftvrqmie.specs.Table.{Lent, blank, work_turn, work_pairs, table_finite, right_lists}
 use Rattle.saftvrqmie.proofs.Laws as Table
@@ -35,14 +36,6 @@ use Rattle.desk.proofs.Pairs.{Alike, both, neither, turn_alike, SoFar, far_next,
 
 -- ---- what the door has let pass
 
-pub demanded : (n : ℕ) (t b : Bool) → demand n t ≡ held b → t ≡ true
-unfolding demand
-demanded n true b p = refl
-demanded n false b p = absurd (never p)
-  where
-    never : refused n ≡ held b → ⊥
-    never p = let z : ◌≡◌ {A = ℕ} 0 1 = cc in omega arith
-
 pub record Passed (q : Query) : Type 0 where
   pub count : count_within q.lists.count ≡ true
   pub read : quantum_lengths q.lists.m q.lists.sheets q.lists.orders ≡ true
@@ -58,7 +51,7 @@ unfolding state_lengths
 state_lengths_told n x rho h =
     let a = eqb (length x) n in
     let b = eqb (length rho) n in
-    (eqb-true (length x) n (and_left a b h), eqb-true (length rho) n (and_right a b h))
+    (eqb-true (length x) n (and_parts a b h).0, eqb-true (length rho) n (and_parts a b h).1)
 
 warm_in : (n : ℕ) (t : Float) (x rho : List Float) → state_within n t x rho ≡ true → temperature_within t ≡ true
 unfolding state_within
@@ -66,7 +59,7 @@ warm_in n t x rho h =
     let a = temperature_within t in
     let b = shares_within n (at x) in
     let c = shares_within n (at rho) in
-    and_left a b (and_left (a && b) c h)
+    (and_parts a b (and_parts (a && b) c h).0).0
 
 read_is : (l : QuantumLists) → count_within l.count ≡ true → quantum_lengths l.m l.sheets l.orders ≡ true → orders_within l.count l.orders ≡ true → quantum_set true l ≡ held (quantum_read l)
 unfolding quantum_set demand ◌>>=◌
@@ -85,17 +78,17 @@ door_passed q b h =
     let two = demanded 2 _ b e.2 in
     let a = count_within l.count in
     let c = quantum_lengths l.m l.sheets l.orders in
-    let ac = and_left (a && c) s one in
-    let st = state_lengths_told l.count q.fractions q.densities (and_right (a && c) s one) in
+    let ac = (and_parts (a && c) s one).0 in
+    let st = state_lengths_told l.count q.fractions q.densities (and_parts (a && c) s one).1 in
     record {
-      count = and_left a c ac;
-      read = and_right a c ac;
-      parts = lengths l.m l.sheets l.orders (and_right a c ac);
+      count = (and_parts a c ac).0;
+      read = (and_parts a c ac).1;
+      parts = lengths l.m l.sheets l.orders (and_parts a c ac).1;
       fractions = st.0;
       densities = st.1;
       warm = warm_in l.count q.temperature q.fractions q.densities two;
       state = two;
-      set_is = read_is l (and_left a c ac) (and_right a c ac) four;
+      set_is = read_is l (and_parts a c ac).0 (and_parts a c ac).1 four;
     }
 
 through : {X : Type 0} {a : Ans X} {x : X} {t : Bool} → a ≡ held x → t ≡ true → (a >>= λ _. demand 2 t) ≡ held true
@@ -375,7 +368,7 @@ module _ (q : Query) (p : Lists) (u : ℕ) (w : Whole p) (h : Holds q p u) where
 
     last_both : last_pair b ≡ true → (i + 1 ≡ n) × (j + 1 ≡ n)
     unfolding last_pair
-    last_both e = (eqb-true (i + 1) n (and_left (eqb (i + 1) n) (eqb (j + 1) n) e), eqb-true (j + 1) n (and_right (eqb (i + 1) n) (eqb (j + 1) n) e))
+    last_both e = (eqb-true (i + 1) n (and_parts (eqb (i + 1) n) (eqb (j + 1) n) e).0, eqb-true (j + 1) n (and_parts (eqb (i + 1) n) (eqb (j + 1) n) e).1)
 
     settle : (t : Bool) → last_pair b ≡ t → Goes (Holds q) (directly q) u (settled (record { floats = stored; bytes = b }))
     unfolding settled

@@ -6,14 +6,13 @@ use mathlib.Core.List.{List}
 use mathlib.Core.Option.{some}
 use lib.ListN.{length}
 use Rattle.number.specs.Ans.{held, demand}
-use Rattle.number.proofs.Walk.{then_held}
+use Rattle.number.proofs.Walk.{demanded, then_held}
 use Rattle.round_robin.specs.Desk.{places, Entered, Call, serves, outcome, submit}
 use Rattle.round_robin.proofs.Bound.{finished_within, accepted}
 use Rattle.desk_place.specs.Layout.{Lists}
 use Rattle.desk_place.specs.Place.{Query}
 use Rattle.desk.specs.Desk.{right_desk, occupied_in, shelf, quantum, directly, submitted}
 use Rattle.desk.proofs.Shelf.{Right, desk_right, apart}
-use Rattle.desk.proofs.Held.{demanded}
 use Rattle.desk.proofs.Promised.{promised}
 
 -- an accepted query found a desk of the right lengths

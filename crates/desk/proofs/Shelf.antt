@@ -10,7 +10,7 @@ use lib.Ieee.{Float}
 use lib.ListN.{length, get_or, set, length-set}
 use lib.Seq.{get_or-set_same}
 use borrow.Author.Tests.{ltb-true, ltb-false, eqb-true}
-use Rattle.mie_parameters.proofs.Laws.{and_left, and_right}
+use Rattle.std.proofs.lemmas.Bool.{and_parts}
 use Rattle.round_robin.specs.Desk.{places}
 use Rattle.round_robin.proofs.Bound.{Apart}
 use Rattle.desk_place.specs.Layout.{part, over, Lists, place_floats, place_bytes}
@@ -31,7 +31,7 @@ unfolding right_desk
 desk_right l h =
     let a = eqb (length l.floats) (place_floats * places) in
     let b = eqb (length l.bytes) (last_at + 1) in
-    record { floats = eqb-true (length l.floats) (place_floats * places) (and_left a b h); bytes = eqb-true (length l.bytes) (last_at + 1) (and_right a b h) }
+    record { floats = eqb-true (length l.floats) (place_floats * places) (and_parts a b h).0; bytes = eqb-true (length l.bytes) (last_at + 1) (and_parts a b h).1 }
 
 pub lists_are : (a b : List Float) (c d : List ℕ) → a ≡ b → c ≡ d → ◌≡◌ {A = Lists} (record { floats = a; bytes = c }) (record { floats = b; bytes = d })
 lists_are a b c d p q = rw (p, q)

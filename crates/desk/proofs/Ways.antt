@@ -27,7 +27,7 @@ use Rattle.desk_place.specs.Place.{Query, enter, unit, place_left, step_told}
 use Rattle.desk_place.proofs.Parts.{back, back_over}
 use Rattle.desk.specs.Desk.{last_at, right_desk, occupied_in, place_of, placed, found, shelf, quantum, state_lengths, door, begun, submitted, served_once, told_of, desk_of, place_told, entered_of}
 use Rattle.desk.proofs.Shelf.{lists_are, Right, Whole, whole_at}
-use Rattle.desk.proofs.Held.{demanded, unit_whole}
+use Rattle.desk.proofs.Held.{unit_whole}
 use Rattle.desk.proofs.Entering.{g5, le}
 use Rattle.round_robin.proofs.Bound.{left_in}
 use Rattle.round_robin.proofs.Seek.{seek_most}
@@ -37,7 +37,6 @@ use Rattle.desk_place.proofs.Parts.{part_length}
 use Rattle.desk_place.proofs.Steps.{part_to}
 use Rattle.sizes.specs.Sizes.{side}
 use Rattle.set_lists.proofs.Sets.{Lengths, not_right}
-use Rattle.mie_parameters.proofs.Laws.{and_right}
 use Rattle.set_lists.specs.Sets.{quantum_lengths}
 use Rattle.limits.specs.Limits.{count_within}
 use Rattle.number.proofs.Walk.{then_held}

@@ -1,5 +1,6 @@
 -- The operations behind the boundary, test by test, over plain values. Assumes nothing.
 use Prim.Native.Nat.{ℕ, ◌*◌}
+use Rattle.std.proofs.lemmas.Bool.{and_parts}
 use Rattle.std.specs.Prelude.{Err, Ok, Result}
 use Rattle.std.specs.Result.{ForOk, IsOkAnd, MatchResult, is_ok}
 use Rattle.number.specs.Answer.{answer, answer_by, code}
@@ -9,7 +10,6 @@ use lib.Dec.{eqb}
 use lib.Ieee.{Float}
 use lib.ListN.{length}
 use borrow.Author.Tests.{eqb-true}
-use Rattle.mie_parameters.proofs.Laws.{and_left, and_right}
 use mathlib.Core.List.{List}
 use mathlib.Core.Path.{◌≡◌, refl, sym, ap, ◌∙◌, subst}
 use mathlib.Core.Bool.{Bool, true, false}
@@ -140,7 +140,7 @@ unfolding radii_lengths
 radii_lengths_told l p =
     let a = eqb (length l.values) 6 in
     let b = eqb (length l.numbers) 3 in
-    (eqb-true (length l.values) 6 (and_left a b p), eqb-true (length l.numbers) 3 (and_right a b p))
+    (eqb-true (length l.values) 6 (and_parts a b p).0, eqb-true (length l.numbers) 3 (and_parts a b p).1)
 
 module _ (n : ℕ) (l : List ℕ) where
   pub counts_1 : eqb (length l) 3 ≡ false → order_counts_out n l ≡ refused 1

@@ -1,4 +1,5 @@
 -- Laws of answers that `?` takes apart, and of the count's limits. Assumes nothing.
+use Rattle.std.proofs.lemmas.Bool.{and_parts}
 use Rattle.std.proofs.Common.{◌≡◌, ℕ, ◌+◌, ◌*◌, ◌<◌, ◌≤◌, Bool, true, false, ◌&&◌, ltb, leb, refl, ap, ◌∙◌, mul-le-mul, ltb-true, leb-true}
 use Rattle.std.specs.Prelude.{Err, Ok, Result, List, Float}
 use Rattle.number.specs.declared.refusal.Refusal.{Refusal}
@@ -10,15 +11,6 @@ use Rattle.limits.specs.Limits.{count_within, index_within}
 use Rattle.number.specs.Answer.{answer, code}
 use Rattle.mie_parameters.specs.Answer.{outcome}
 use Rattle.mie_parameters.specs.Sheets.{store_row, sheets_turn}
-
-pub and_left : (a b : Bool) → (a && b) ≡ true → a ≡ true
-and_left true b p = refl
-and_left false b p = p
-
-pub and_right : (a b : Bool) → (a && b) ≡ true → b ≡ true
-and_right true b p = p
-and_right false true p = refl
-and_right false false p = p
 
 -- a turn of a walk whose answer is taken apart by `?`
 module _ {S : Type 0} (f : ℕ → S → Ans S) (s : S) where
@@ -40,11 +32,11 @@ module _ {P : Type 0} (row : P → List Float) (n : ℕ) (pair : ℕ → ℕ →
 
 pub count_low : (n : ℕ) → count_within n ≡ true → 1 ≤ n
 unfolding count_within
-count_low n p = leb-true _ _ (and_left _ _ p)
+count_low n p = leb-true _ _ (and_parts _ _ p).0
 
 pub count_high : (n : ℕ) → count_within n ≡ true → n ≤ side
 unfolding count_within
-count_high n p = leb-true n side (and_right (leb 1 n) (leb n side) p)
+count_high n p = leb-true n side (and_parts (leb 1 n) (leb n side) p).1
 
 pub count_square : (n : ℕ) → count_within n ≡ true → n * n ≤ sheet
 count_square n p = mul-le-mul (count_high n p) (count_high n p)
@@ -65,9 +57,9 @@ pub record Inside (n i j : ℕ) : Type 0 where
 pub inside : (n i j : ℕ) → index_within n i j ≡ true → Inside n i j
 unfolding index_within
 inside n i j p =
-    let q = and_left (count_within n && ltb i n) (ltb j n) p in
+    let q = (and_parts (count_within n && ltb i n) (ltb j n) p).0 in
     record {
-      high = count_high n (and_left (count_within n) (ltb i n) q);
-      row = ltb-true i n (and_right (count_within n) (ltb i n) q);
-      column = ltb-true j n (and_right (count_within n && ltb i n) (ltb j n) p);
+      high = count_high n (and_parts (count_within n) (ltb i n) q).0;
+      row = ltb-true i n (and_parts (count_within n) (ltb i n) q).1;
+      column = ltb-true j n (and_parts (count_within n && ltb i n) (ltb j n) p).1;
     }

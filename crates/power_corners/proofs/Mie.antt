@@ -13,18 +13,18 @@ use borrow.Author.Tests.{eq-eqb, eqb-true}
 use lib.Ieee.{Float, fin, binary64, fits, of_bits, to_bits, is_nan}
 use lib.Ieee.Bits.{of_bits-to_bits}
 use lib.Ieee.Fits.{sub-fits}
+use Rattle.std.proofs.lemmas.Bool.{and_parts}
 use Rattle.number.specs.Ans.{Ans, held, demand}
 use Rattle.number.specs.Arith.{floats, decimal, bits, zero64, one64}
 use Rattle.number.specs.Functions.{calls}
 use Rattle.number.specs.Lists.{at}
 use Rattle.number.specs.Walk.{turns, every}
-use Rattle.number.proofs.Walk.{held_inj, then_held}
+use Rattle.number.proofs.Walk.{demanded, held_inj, then_held}
 use Rattle.sizes.specs.Sizes.{side, sheet, cell}
 use Rattle.elementary.specs.Port.{port}
 use Rattle.limits.specs.declared.Component.{Component}
 use Rattle.limits.specs.Limits.{square, same_bits, pair_within, pairs_within, components_within, segments_within}
 use Rattle.mie_parameters.specs.Combine.{lambda_ij, c_ij}
-use Rattle.mie_parameters.proofs.Laws.{and_left, and_right}
 use Rattle.saftvrmie_parameters.specs.Combine.{lr_ij}
 use Rattle.saftvrmie_parameters.specs.Parameters.{Lists, right_lengths, component_of, within_in, within_limits, pair_parameters, saft_vr_mie_pars}
 use Rattle.mie_parameters.specs.Sheets.{sheets_turn, sheets_row, sheets_of}
@@ -34,7 +34,7 @@ use Rattle.saftvrmie_parameters.proofs.Laws.{lengths, sheets_in}
 use Rattle.power_corners.specs.Corners.{ComponentsAt, MieSet}
 use Rattle.power_corners.proofs.Sheets.{Stands, rows}
 use Rattle.power_corners.proofs.Only.{only_one}
-use Rattle.power_corners.proofs.Numbers.{c_12_6, lambda_6, lr_12, lr_by, zero_leaves, demanded}
+use Rattle.power_corners.proofs.Numbers.{c_12_6, lambda_6, lr_12, lr_by, zero_leaves}
 
 -- the sheets' order
 abbrev entry : PairParameters → ℕ → Float
@@ -70,23 +70,23 @@ module _ (a b : Component) (k gamma : Float) (p : PairParameters) (h : pair_para
 every_at : (n : ℕ) (p : ℕ → Bool) (i : ℕ) → i < n → every n p ≡ true → p i ≡ true
 unfolding every turns
 every_at zero p i l h = absurd (not-suc-le-zero l)
-every_at (suc n) p i l h = go (eq-or-lt_of_le (le_of_suc-le-suc l)) (λ k. every_at n p i k (and_left (every n p) (p n) h))
+every_at (suc n) p i l h = go (eq-or-lt_of_le (le_of_suc-le-suc l)) (λ k. every_at n p i k (and_parts (every n p) (p n) h).0)
   where
     go : (i ≡ n) ⊎ (i < n) → (i < n → p i ≡ true) → p i ≡ true
-    go (inl e) before = rw e (and_right (every n p) (p n) h)
+    go (inl e) before = rw e (and_parts (every n p) (p n) h).1
     go (inr k) before = before k
 
 gammas_within : (l : Lists) → within_in l ≡ true → pairs_within l.count (square l.count l.gamma_ij) ≡ true
 unfolding within_limits
 gammas_within l h =
     let n = l.count in
-    and_right (components_within n (component_of l) && segments_within n (at l.m) && pairs_within n (square n l.k_ij)) (pairs_within l.count (square l.count l.gamma_ij)) h
+    (and_parts (components_within n (component_of l) && segments_within n (at l.m) && pairs_within n (square n l.k_ij)) (pairs_within l.count (square l.count l.gamma_ij)) h).1
 
 same_zero : (x : Float) → T (fits binary64 x) → same_bits x (decimal false 0 0) ≡ true → x ≡ fin false 0 (pos 0)
 unfolding same_bits decimal of_bits to_bits
 same_zero x f h =
     let zero_bits = to_bits binary64 (decimal false 0 0) in
-    sym (of_bits-to_bits binary64 x f) ∙ ap (of_bits binary64) (eqb-true (to_bits binary64 x) zero_bits (and_right (not (is_nan x) && not (is_nan (decimal false 0 0))) (eqb (to_bits binary64 x) zero_bits) h))
+    sym (of_bits-to_bits binary64 x f) ∙ ap (of_bits binary64) (eqb-true (to_bits binary64 x) zero_bits (and_parts (not (is_nan x) && not (is_nan (decimal false 0 0))) (eqb (to_bits binary64 x) zero_bits) h).1)
 
 leaves : (gamma : ℕ → ℕ → Float) (n i : ℕ) → i < n → T (fits binary64 (gamma i i)) → pairs_within n gamma ≡ true → floats.sub one64 (gamma i i) ≡ one64
 unfolding pairs_within pair_within

@@ -17,15 +17,6 @@ use Rattle.power.proofs.Corners.{exponent_one}
 use Rattle.mie_parameters.specs.Combine.{lambda_ij, c_ij}
 use Rattle.saftvrmie_parameters.specs.Combine.{lr_ij}
 
--- a test that was passed
-pub demanded : (n : ℕ) (t x : Bool) → demand n t ≡ held x → t ≡ true
-unfolding demand
-demanded n true x h = refl
-demanded n false x h = absurd (never h)
-  where
-    never : refused n ≡ held x → ⊥
-    never e = let z : ◌≡◌ {A = ℕ} 0 1 = cc in omega arith
-
 two_inside : T (base_inside (bits 0x4000_0000_0000_0000))
 unfolding base_inside Ieee.of_bits Ieee.le Ieee.lt Ieee.eq
 two_inside = tt

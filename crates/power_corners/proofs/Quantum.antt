@@ -10,7 +10,7 @@ use Rattle.number.specs.Ans.{Ans, held, demand}
 use Rattle.number.specs.Arith.{floats, decimal, bits, zero64}
 use Rattle.number.specs.Functions.{calls}
 use Rattle.number.specs.Lists.{at}
-use Rattle.number.proofs.Walk.{held_inj, then_held}
+use Rattle.number.proofs.Walk.{demanded, held_inj, then_held}
 use Rattle.sizes.specs.Sizes.{side, sheet, cell}
 use Rattle.elementary.specs.Port.{port}
 use Rattle.limits.specs.declared.Component.{Component}
@@ -23,7 +23,7 @@ use Rattle.saftvrqmie_parameters.specs.declared.SaftVRQMiePars.{SaftVRQMiePars}
 use Rattle.saftvrqmie_parameters.proofs.Laws.{lengths, sheets_in}
 use Rattle.power_corners.specs.Corners.{ComponentsAt, QuantumSet}
 use Rattle.power_corners.proofs.Sheets.{Stands, rows}
-use Rattle.power_corners.proofs.Numbers.{c_12_6, lambda_12, lambda_6, demanded}
+use Rattle.power_corners.proofs.Numbers.{c_12_6, lambda_12, lambda_6}
 
 -- the sheets' order
 abbrev entry : PairParameters → ℕ → Float

@@ -1,5 +1,6 @@
 -- The operation, test by test, over plain values. Assumes nothing.
 use Prim.Native.Nat.{ℕ, ◌≤◌}
+use Rattle.std.proofs.lemmas.Bool.{and_parts}
 use Rattle.std.specs.Prelude.{Err, Ok, Result}
 use Rattle.number.specs.declared.refusal.Refusal.TheVariants.{Length, Limit, NotFinite}
 use Rattle.number.specs.declared.refusal.Refusal.{Refusal}
@@ -17,7 +18,7 @@ use Rattle.sizes.specs.Sizes.{side}
 use Rattle.number.specs.Walk.{filled}
 use Rattle.number.proofs.Walk.{via}
 use Rattle.limits.specs.Limits.{count_within, temperature_within}
-use Rattle.mie_parameters.proofs.Laws.{and_left, and_right, count_high}
+use Rattle.mie_parameters.proofs.Laws.{count_high}
 use Rattle.mie_parameters.specs.Answer.{outcome, verdict, stored}
 use Rattle.saftvrmie.specs.Diameters.{diameter_at, diameter_turn, worked, diameters_finite, right_length, diameters}
 
@@ -34,11 +35,11 @@ module _ (sheets : List Float) (t : Float) (i : ℕ) (x : List Float) (a : Resul
 -- what the test of the count and of the length says
 pub count_small : (n len : ℕ) → right_length n len ≡ true → n ≤ side
 unfolding right_length
-count_small n len p = count_high n (and_left (count_within n) (eqb len n) p)
+count_small n len p = count_high n (and_parts (count_within n) (eqb len n) p).0
 
 pub length_is : (n len : ℕ) → right_length n len ≡ true → len ≡ n
 unfolding right_length
-length_is n len p = eqb-true len n (and_right (count_within n) (eqb len n) p)
+length_is n len p = eqb-true len n (and_parts (count_within n) (eqb len n) p).1
 
 -- the returns of `diameters_of`
 module _ (n : ℕ) (sheets : List Float) (t : Float) (l : List Float) where

@@ -10,6 +10,7 @@ use lib.Ieee.{of_bits, to_bits, le}
 use mathlib.Core.Path.{◌≡◌, refl, sym, ap, ◌∙◌}
 use mathlib.Core.Bool.{Bool, true, false, ◌&&◌, cond}
 use mathlib.Core.List.{List, [], ◌∷◌}
+use Rattle.std.proofs.lemmas.Bool.{and_parts}
 use Rattle.std.specs.Prelude.{Result, Ok, Err}
 use Rattle.number.specs.declared.refusal.Refusal.{Refusal}
 use Rattle.number.specs.Answer.{answer, answer_by}
@@ -53,14 +54,6 @@ filled_next P k l x q h p j z i = ways (ltb j k) refl
         rw (s, get_or-set_same l k x z q) p
 
 -- ---- a power where its base and its exponent were tested
-and_left : (a b : Bool) → (a && b) ≡ true → a ≡ true
-and_left true b p = refl
-and_left false b p = p
-
-and_right : (a b : Bool) → (a && b) ≡ true → b ≡ true
-and_right true b p = p
-and_right false b p = absurd (mathlib.Core.Bool.false≢true p)
-
 exponent_tested : {N : Type 0} (b e : Bool) (x : N) (a : Ans N) → a ≡ cond (b && e) (held x) (refused 6) → e ≡ true → a ≡ cond b (held x) (refused 6)
 exponent_tested true e x a p q = rw q at p
 exponent_tested false e x a p q = p
@@ -74,7 +67,7 @@ module _ (A : Arith) (F : Functions A.Num) (la lr c r0 : A.Num) where
       (g : F.powf (inverse_at A F r0 k) la ≡ cond (base && ea) (held pla) (refused 6)) where
     node_is : (er && ea) ≡ true → (u d : Num) (a : Ans Num) → u ≡ beta_u_from A plr pla c → a ≡ node_at A F r0 k base u d → node_turn A F la lr c r0 k d ≡ a
     unfolding node_turn beta_u_mie inverse_at node_at demand ◌>>=◌
-    node_is e u d a i j = ways base refl (exponent_tested base er plr _ h (and_left er ea e)) (exponent_tested base ea pla _ g (and_right er ea e)) j
+    node_is e u d a i j = ways base refl (exponent_tested base er plr _ h (and_parts er ea e).0) (exponent_tested base ea pla _ g (and_parts er ea e).1) j
       where
         ways : (b : Bool) → base ≡ b → F.powf (inverse_at A F r0 k) lr ≡ cond b (held plr) (refused 6) → F.powf (inverse_at A F r0 k) la ≡ cond b (held pla) (refused 6)
             → a ≡ node_at A F r0 k b u d → node_turn A F la lr c r0 k d ≡ a

@@ -8,6 +8,7 @@ use mathlib.Core.List.{List}
 use mathlib.Core.Path.{◌≡◌, refl}
 use mathlib.Core.Bool.{Bool, true, false, ◌&&◌}
 use borrow.Author.Tests.{eqb-true}
+use Rattle.std.proofs.lemmas.Bool.{and_parts}
 use Rattle.number.specs.Ans.{Ans, held, refused, ◌>>=◌, demand}
 use Rattle.std.specs.Prelude.{Result, Ok, Err, cond}
 use Rattle.number.specs.Answer.{answer, answer_by, if_finite}
@@ -17,7 +18,7 @@ use Rattle.number.specs.Functions.{calls}
 use Rattle.sizes.specs.Sizes.{side}
 use Rattle.elementary.specs.Port.{port}
 use Rattle.limits.specs.Limits.{count_within, state_within}
-use Rattle.mie_parameters.proofs.Laws.{and_left, and_right, count_high}
+use Rattle.mie_parameters.proofs.Laws.{count_high}
 use Rattle.saftvrmie_parameters.specs.declared.SaftVRMiePars.{SaftVRMiePars}
 use Rattle.saftvrmie_energies.specs.Energies.{state_lengths, energy_run, energy_by, energy}
 
@@ -25,19 +26,19 @@ use Rattle.saftvrmie_energies.specs.Energies.{state_lengths, energy_run, energy_
 module _ (n x rho d : ℕ) (p : state_lengths n x rho d ≡ true) where
   pub right_high : n ≤ side
   unfolding state_lengths
-  right_high = count_high n (and_left (count_within n) (eqb x n) (and_left _ (eqb rho n) (and_left _ (eqb d n) p)))
+  right_high = count_high n (and_parts (count_within n) (eqb x n) (and_parts _ (eqb rho n) (and_parts _ (eqb d n) p).0).0).0
 
   pub right_x : x ≡ n
   unfolding state_lengths
-  right_x = eqb-true x n (and_right (count_within n) (eqb x n) (and_left _ (eqb rho n) (and_left _ (eqb d n) p)))
+  right_x = eqb-true x n (and_parts (count_within n) (eqb x n) (and_parts _ (eqb rho n) (and_parts _ (eqb d n) p).0).0).1
 
   pub right_rho : rho ≡ n
   unfolding state_lengths
-  right_rho = eqb-true rho n (and_right (count_within n && eqb x n) (eqb rho n) (and_left _ (eqb d n) p))
+  right_rho = eqb-true rho n (and_parts (count_within n && eqb x n) (eqb rho n) (and_parts _ (eqb d n) p).0).1
 
   pub right_d : d ≡ n
   unfolding state_lengths
-  right_d = eqb-true d n (and_right ((count_within n && eqb x n) && eqb rho n) (eqb d n) p)
+  right_d = eqb-true d n (and_parts ((count_within n && eqb x n) && eqb rho n) (eqb d n) p).1
 
 -- ---- 1, then 2: both tests pass, or the first that does not is told
 pub first_passed : (a b : Bool) → cond a (cond b (held true) (refused 2)) (refused 1) ≡ held true → a ≡ true

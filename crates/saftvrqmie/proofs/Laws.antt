@@ -1,5 +1,6 @@
 -- The table, test by test; copies into parts of a list. Assumes nothing.
 use Prim.Native.Nat.{ℕ, ◌+◌, ◌*◌, ◌≤◌}
+use Rattle.std.proofs.lemmas.Bool.{and_parts}
 use Rattle.std.specs.Prelude.{Err, Ok, Result}
 use Rattle.number.specs.declared.refusal.Refusal.{Refusal}
 use native.Mathlib.Omega.{arith}
@@ -20,7 +21,7 @@ use Rattle.sizes.specs.Sizes.{side, sheet, cell}
 use Rattle.number.proofs.Walk.{via, walk_keeps, then_held, held_inj}
 use Rattle.elementary.specs.Port.{port}
 use Rattle.limits.specs.Limits.{count_within, temperature_within}
-use Rattle.mie_parameters.proofs.Laws.{and_left, and_right, count_high}
+use Rattle.mie_parameters.proofs.Laws.{count_high}
 use Rattle.saftvrqmie_parameters.specs.declared.OrderRecord.{OrderRecord}
 use Rattle.saftvrqmie_parameters.specs.declared.SaftVRQMiePars.{SaftVRQMiePars}
 use Rattle.saftvrqmie_potential.specs.Potential.{FloatPair, pair_in, pair_at_entry}
@@ -144,11 +145,11 @@ pub lengths : (n a b : ℕ) → right_lists n a b ≡ true → Right n a b
 unfolding right_lists
 lengths n a b p =
     let c = count_within n in
-    let q = and_left (c && eqb a (4 * sheet)) (eqb b (3 * sheet)) p in
+    let q = (and_parts (c && eqb a (4 * sheet)) (eqb b (3 * sheet)) p).0 in
     record {
-      high = count_high n (and_left c (eqb a (4 * sheet)) q);
-      first = eqb-true a (4 * sheet) (and_right c (eqb a (4 * sheet)) q);
-      second = eqb-true b (3 * sheet) (and_right (c && eqb a (4 * sheet)) (eqb b (3 * sheet)) p);
+      high = count_high n (and_parts c (eqb a (4 * sheet)) q).0;
+      first = eqb-true a (4 * sheet) (and_parts c (eqb a (4 * sheet)) q).1;
+      second = eqb-true b (3 * sheet) (and_parts (c && eqb a (4 * sheet)) (eqb b (3 * sheet)) p).1;
     }
 
 -- the part of l from a on, replaced by that of v

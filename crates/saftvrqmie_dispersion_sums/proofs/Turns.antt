@@ -16,16 +16,6 @@ use Rattle.mie_parameters.specs.Sums.{weighted, orders_sum}
 use Rattle.saftvrqmie_dispersion_sums.specs.State.{SheetsIn}
 use Rattle.saftvrqmie_dispersion_sums.specs.Dispersion.{MixtureIn, segment_fractions, alphas, first, second, third, mixture, dispersion, alpha_turn, first_turn, second_pair_turn, third_turn, dispersion_pair_at, lead_at}
 
--- a turn of a loop that begins at i, counted from 0
-pub of_none : (i : ℕ) → i - i ≡ 0
-of_none i = omega arith
-
-pub from_start : (i j : ℕ) → i ≤ j → j ≡ i + (j - i)
-from_start i j p = omega (arith, p)
-
-pub from_next : (i j : ℕ) → i ≤ j → j + 1 - i ≡ (j - i) + 1
-from_next i j p = omega (arith, p)
-
 module _ (A : Arith) (F : Functions A.Num) where
   open A use {Num, add as ◌⊕◌, mul as ◌⊗◌}
 

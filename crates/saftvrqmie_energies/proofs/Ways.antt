@@ -7,11 +7,12 @@ use mathlib.Core.List.{List}
 use mathlib.Core.Path.{◌≡◌}
 use mathlib.Core.Bool.{Bool, true, false, ◌&&◌}
 use borrow.Author.Tests.{eqb-true}
+use Rattle.std.proofs.lemmas.Bool.{and_parts}
 use Rattle.number.specs.Ans.{Ans, held, refused, ◌>>=◌, demand}
 use Rattle.number.specs.Arith.{Arith}
 use Rattle.sizes.specs.Sizes.{side, sheet}
 use Rattle.limits.specs.Limits.{count_within, state_within}
-use Rattle.mie_parameters.proofs.Laws.{and_left, and_right, count_low, count_high}
+use Rattle.mie_parameters.proofs.Laws.{count_low, count_high}
 use Rattle.saftvrqmie_parameters.specs.declared.SaftVRQMiePars.{SaftVRQMiePars}
 use Rattle.saftvrqmie_energies.specs.Energies.{EnergiesIn, each_in, energies_finite, state_lengths, tested}
 
@@ -30,14 +31,14 @@ right n x rho table p =
     let b = eqb (length x) n in
     let c = eqb (length rho) n in
     let d = eqb (length table) (4 * sheet) in
-    let q = and_left (a && b && c) d p in
-    let r = and_left (a && b) c q in
+    let q = (and_parts (a && b && c) d p).0 in
+    let r = (and_parts (a && b) c q).0 in
     record {
-      low = count_low n (and_left a b r);
-      high = count_high n (and_left a b r);
-      fractions = eqb-true (length x) n (and_right a b r);
-      densities = eqb-true (length rho) n (and_right (a && b) c q);
-      places = eqb-true (length table) (4 * sheet) (and_right (a && b && c) d p);
+      low = count_low n (and_parts a b r).0;
+      high = count_high n (and_parts a b r).0;
+      fractions = eqb-true (length x) n (and_parts a b r).1;
+      densities = eqb-true (length rho) n (and_parts (a && b) c q).1;
+      places = eqb-true (length table) (4 * sheet) (and_parts (a && b && c) d p).1;
     }
 
 module _ (A : Arith) (s : SaftVRQMiePars) (t : Float) (x rho table : List Float) (run : Ans (EnergiesIn A.Num)) where

@@ -8,6 +8,7 @@ use lib.ListN.{length}
 use lib.Ieee.{Float}
 use mathlib.Core.List.{List}
 use borrow.Author.Tests.{lt-leb, le-leb, eq-eqb, ne_eqb, eqb-true}
+use Rattle.std.proofs.lemmas.Bool.{and_parts}
 use Rattle.number.specs.Ans.{Ans, held, refused, ◌>>=◌, demand}
 use Rattle.number.specs.Arith.{floats}
 use Rattle.number.specs.Lists.{at}
@@ -15,7 +16,7 @@ use Rattle.sizes.specs.Sizes.{side}
 use Rattle.limits.specs.Limits.{square, count_within, all_one}
 use Rattle.saftvrqmie_parameters.specs.declared.OrderRecord.{OrderRecord}
 use Rattle.mie_parameters.specs.Places.{in_places}
-use Rattle.mie_parameters.proofs.Laws.{and_left, and_right, count_low, count_high}
+use Rattle.mie_parameters.proofs.Laws.{count_low, count_high}
 use Rattle.saftvrqmie_parameters.specs.Parameters.{Lists, Fitting, pair_orders, sheets_of, right_lengths, within_in, component_of, order_walk, orders_of, saft_vrq_mie_pars}
 
 module _ (a b : ℕ) where
@@ -68,27 +69,27 @@ lengths l p9 =
     let c8 = c7 && e8 in
     let e9 = eqb (length l.l_ij) (n * n) in
     let c9 = c8 && e9 in
-    let p8 = and_left c8 e9 p9 in
-    let p7 = and_left c7 e8 p8 in
-    let p6 = and_left c6 e7 p7 in
-    let p5 = and_left c5 e6 p6 in
-    let p4 = and_left c4 e5 p5 in
-    let p3 = and_left c3 e4 p4 in
-    let p2 = and_left c2 e3 p3 in
-    let p1 = and_left c1 e2 p2 in
-    let p0 = and_left c0 e1 p1 in
+    let p8 = (and_parts c8 e9 p9).0 in
+    let p7 = (and_parts c7 e8 p8).0 in
+    let p6 = (and_parts c6 e7 p7).0 in
+    let p5 = (and_parts c5 e6 p6).0 in
+    let p4 = (and_parts c4 e5 p5).0 in
+    let p3 = (and_parts c3 e4 p4).0 in
+    let p2 = (and_parts c2 e3 p3).0 in
+    let p1 = (and_parts c1 e2 p2).0 in
+    let p0 = (and_parts c0 e1 p1).0 in
     record {
       low = count_low n p0;
       high = count_high n p0;
-      m = eqb-true (length l.m) n (and_right c0 e1 p1);
-      sigma = eqb-true (length l.sigma) n (and_right c1 e2 p2);
-      epsilon_k = eqb-true (length l.epsilon_k) n (and_right c2 e3 p3);
-      lr = eqb-true (length l.lr) n (and_right c3 e4 p4);
-      la = eqb-true (length l.la) n (and_right c4 e5 p5);
-      mass = eqb-true (length l.mass) n (and_right c5 e6 p6);
-      fh = eqb-true (length l.fh) n (and_right c6 e7 p7);
-      k_ij = eqb-true (length l.k_ij) (n * n) (and_right c7 e8 p8);
-      l_ij = eqb-true (length l.l_ij) (n * n) (and_right c8 e9 p9);
+      m = eqb-true (length l.m) n (and_parts c0 e1 p1).1;
+      sigma = eqb-true (length l.sigma) n (and_parts c1 e2 p2).1;
+      epsilon_k = eqb-true (length l.epsilon_k) n (and_parts c2 e3 p3).1;
+      lr = eqb-true (length l.lr) n (and_parts c3 e4 p4).1;
+      la = eqb-true (length l.la) n (and_parts c4 e5 p5).1;
+      mass = eqb-true (length l.mass) n (and_parts c5 e6 p6).1;
+      fh = eqb-true (length l.fh) n (and_parts c6 e7 p7).1;
+      k_ij = eqb-true (length l.k_ij) (n * n) (and_parts c7 e8 p8).1;
+      l_ij = eqb-true (length l.l_ij) (n * n) (and_parts c8 e9 p9).1;
     }
 
 pub fitting : (l : Lists) → right_lengths l ≡ true → Fitting l

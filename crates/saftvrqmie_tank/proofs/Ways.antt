@@ -1,5 +1,6 @@
 -- The tank, test by test and layer by layer, over plain values. Assumes nothing.
 use Prim.Native.Nat.{ℕ, ◌+◌, ◌*◌, ◌-◌, ◌≤◌, ◌<◌}
+use Rattle.std.proofs.lemmas.Bool.{and_parts}
 use Rattle.std.specs.Prelude.{Err, Ok, Result}
 use Rattle.number.specs.declared.refusal.Refusal.{Refusal}
 use native.Mathlib.Nat.{mul-le-mul_left, mul-le-mul, mul-add}
@@ -22,7 +23,7 @@ use Rattle.number.specs.Walk.{walk}
 use Rattle.number.proofs.Walk.{walk_next, walk_stop}
 use Rattle.sizes.specs.Sizes.{side}
 use Rattle.limits.specs.Limits.{count_within}
-use Rattle.mie_parameters.proofs.Laws.{and_left, and_right, count_high, held_at, refused_at}
+use Rattle.mie_parameters.proofs.Laws.{count_high, held_at, refused_at}
 use Rattle.mie_parameters.specs.Answer.{outcome, verdict, stored}
 use Rattle.saftvrqmie_parameters.specs.declared.SaftVRQMiePars.{SaftVRQMiePars}
 use Rattle.saftvrqmie.specs.Table.{Lent, blank, temperature_table, pairs_of}
@@ -56,20 +57,20 @@ long n q p =
     let c = eqb (length q.fractions) (n * q.layers) in
     let d = eqb (length q.densities) (n * q.layers) in
     let e = eqb (length q.volumes) q.layers in
-    let abcd = and_left (a && b && c && d) e p in
-    let abc = and_left (a && b && c) d abcd in
-    let ab = and_left (a && b) c abc in
+    let abcd = (and_parts (a && b && c && d) e p).0 in
+    let abc = (and_parts (a && b && c) d abcd).0 in
+    let ab = (and_parts (a && b) c abc).0 in
     record {
-      high = count_high n (and_left a b ab);
-      temperatures = eqb-true (length q.temperatures) q.layers (and_right a b ab);
-      fractions = eqb-true (length q.fractions) (n * q.layers) (and_right (a && b) c abc);
-      densities = eqb-true (length q.densities) (n * q.layers) (and_right (a && b && c) d abcd);
-      volumes = eqb-true (length q.volumes) q.layers (and_right (a && b && c && d) e p);
+      high = count_high n (and_parts a b ab).0;
+      temperatures = eqb-true (length q.temperatures) q.layers (and_parts a b ab).1;
+      fractions = eqb-true (length q.fractions) (n * q.layers) (and_parts (a && b) c abc).1;
+      densities = eqb-true (length q.densities) (n * q.layers) (and_parts (a && b && c) d abcd).1;
+      volumes = eqb-true (length q.volumes) q.layers (and_parts (a && b && c && d) e p).1;
     }
 
 pub layers_high : (k : ℕ) → layers_within k ≡ true → k ≤ most_layers
 unfolding layers_within
-layers_high k p = leb-true k most_layers (and_right (leb 1 k) (leb k most_layers) p)
+layers_high k p = leb-true k most_layers (and_parts (leb 1 k) (leb k most_layers) p).1
 
 pub row_small : (n l k : ℕ) → n ≤ side → k ≤ most_layers → l < k → n * l + n ≤ side * most_layers
 row_small n l k p q b = omega (arith, product_small n k p q, row_within n l k b)

@@ -1,5 +1,6 @@
 -- Sets taken apart at the boundary, test by test, over plain values. Assumes nothing.
 use Prim.Native.Nat.{ℕ, ◌*◌, ◌≤◌}
+use Rattle.std.proofs.lemmas.Bool.{and_parts}
 use Rattle.std.specs.Prelude.{Err, Ok, Result}
 use Rattle.number.specs.declared.refusal.Refusal.{Refusal}
 use lib.Dec.{eqb, leb}
@@ -14,7 +15,6 @@ use Rattle.sizes.specs.Sizes.{side, sheet}
 use Rattle.limits.specs.Limits.{count_within}
 use Rattle.mie_parameters.specs.Answer.{outcome, verdict}
 use Rattle.number.specs.Answer.{code}
-use Rattle.mie_parameters.proofs.Laws.{and_left, and_right}
 use Rattle.saftvrqmie_parameters.specs.declared.OrderRecord.{OrderRecord}
 use Rattle.saftvrqmie_parameters.specs.declared.SaftVRQMiePars.{SaftVRQMiePars}
 use Rattle.saftvrmie_parameters.specs.declared.SaftVRMiePars.{SaftVRMiePars}
@@ -32,16 +32,16 @@ lengths m sheets orders p =
     let a = eqb (length m) side in
     let b = eqb (length sheets) (6 * sheet) in
     let c = eqb (length orders) sheet in
-    let q = and_left (a && b) c p in
+    let q = (and_parts (a && b) c p).0 in
     record {
-      places = eqb-true (length m) side (and_left a b q);
-      flat = eqb-true (length sheets) (6 * sheet) (and_right a b q);
-      records = eqb-true (length orders) sheet (and_right (a && b) c p);
+      places = eqb-true (length m) side (and_parts a b q).0;
+      flat = eqb-true (length sheets) (6 * sheet) (and_parts a b q).1;
+      records = eqb-true (length orders) sheet (and_parts (a && b) c p).1;
     }
 
 pub count_small : (n : ℕ) → count_within n ≡ true → n ≤ side
 unfolding count_within
-count_small n p = leb-true n side (and_right (leb 1 n) (leb n side) p)
+count_small n p = leb-true n side (and_parts (leb 1 n) (leb n side) p).1
 
 pub record MieLengths (lists sheets : List Float) : Type 0 where
   pub places : length lists ≡ 5 * side
@@ -52,7 +52,7 @@ unfolding mie_lengths
 mie_lengths_told lists sheets p =
     let a = eqb (length lists) (5 * side) in
     let b = eqb (length sheets) (6 * sheet) in
-    record { places = eqb-true (length lists) (5 * side) (and_left a b p); flat = eqb-true (length sheets) (6 * sheet) (and_right a b p) }
+    record { places = eqb-true (length lists) (5 * side) (and_parts a b p).0; flat = eqb-true (length sheets) (6 * sheet) (and_parts a b p).1 }
 
 -- the returns of `quantum_answer`
 module _ (l : QuantumLists) where

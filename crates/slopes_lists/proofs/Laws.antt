@@ -5,9 +5,10 @@ use lib.ListN.{length}
 use mathlib.Core.Path.{◌≡◌}
 use mathlib.Core.Bool.{true, ◌&&◌}
 use borrow.Author.Tests.{eqb-true}
+use Rattle.std.proofs.lemmas.Bool.{and_parts}
 use Rattle.sizes.specs.Sizes.{side}
 use Rattle.limits.specs.Limits.{count_within}
-use Rattle.mie_parameters.proofs.Laws.{and_left, and_right, count_low, count_high}
+use Rattle.mie_parameters.proofs.Laws.{count_low, count_high}
 use Rattle.slopes_lists.specs.Lists.{SlopedList, SlopedState, right_lengths, sloped_lengths}
 
 pub record Long (n : ℕ) (l : SlopedList) : Type 0 where
@@ -19,7 +20,7 @@ unfolding right_lengths
 long n l p =
     let a = eqb (length l.values) n in
     let b = eqb (length l.slopes) n in
-    record { values = eqb-true (length l.values) n (and_left a b p); slopes = eqb-true (length l.slopes) n (and_right a b p) }
+    record { values = eqb-true (length l.values) n (and_parts a b p).0; slopes = eqb-true (length l.slopes) n (and_parts a b p).1 }
 
 pub record Right (n : ℕ) (q : SlopedState) : Type 0 where
   pub within : count_within n ≡ true
@@ -34,6 +35,6 @@ right n q p =
     let a = count_within n in
     let b = right_lengths n q.fractions in
     let c = right_lengths n q.densities in
-    let r = and_left (a && b) c p in
-    let w = and_left a b r in
-    record { within = w; low = count_low n w; high = count_high n w; fractions = long n q.fractions (and_right a b r); densities = long n q.densities (and_right (a && b) c p) }
+    let r = (and_parts (a && b) c p).0 in
+    let w = (and_parts a b r).0 in
+    record { within = w; low = count_low n w; high = count_high n w; fractions = long n q.fractions (and_parts a b r).1; densities = long n q.densities (and_parts (a && b) c p).1 }

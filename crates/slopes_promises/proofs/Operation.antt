@@ -6,14 +6,14 @@ use mathlib.Core.Path.{◌≡◌}
 use mathlib.Core.List.{List}
 use mathlib.Core.Bool.{Bool, true, ◌&&◌}
 use borrow.Author.Tests.{eq-eqb}
+use Rattle.std.proofs.lemmas.Bool.{and_parts}
 use Rattle.number.specs.Ans.{Ans, held, ◌>>=◌, demand}
 use Rattle.number.specs.Lists.{at}
-use Rattle.number.proofs.Walk.{then_held}
+use Rattle.number.proofs.Walk.{demanded, then_held}
 use Rattle.sizes.specs.Sizes.{sheet}
 use Rattle.elementary.specs.Port.{port}
 use Rattle.dual.specs.Dual.{DualOf}
 use Rattle.limits.specs.Limits.{count_within, shares_within, temperature_within, state_within}
-use Rattle.mie_parameters.proofs.Laws.{and_left}
 use Rattle.slopes_lists.specs.Lists.{SlopedList, SlopedState, sloped_lengths, supplied_finite}
 use Rattle.slopes_lists.proofs.Laws.{right}
 use Rattle.saftvrqmie_parameters.specs.declared.SaftVRQMiePars.{SaftVRQMiePars}
@@ -22,7 +22,7 @@ use Rattle.saftvrqmie_energies.specs.Energies.{EnergiesIn, state_lengths, energi
 use Rattle.saftvrqmie_table_slopes.specs.Table.{table_slopes}
 use Rattle.saftvrqmie_energies_slopes.specs.Energies.{energies_slope_at}
 use Rattle.saftvrqmie_slopes.specs.Operation.{energies_slopes_by, energies_slopes}
-use Rattle.slopes_promises.proofs.Table.{demanded, table_kept, table_long}
+use Rattle.slopes_promises.proofs.Table.{table_kept, table_long}
 use Rattle.slopes_values.specs.Energies.{duals_values}
 use Rattle.slopes_values.proofs.Energies.{energies_are_kept}
 
@@ -40,7 +40,7 @@ unfolding state_within
 temperature_right n t x rho p =
     let a = temperature_within t in
     let b = shares_within n (at x) in
-    and_left a b (and_left (a && b) (shares_within n (at rho)) p)
+    (and_parts a b (and_parts (a && b) (shares_within n (at rho)) p).0).0
 
 -- ---- the call, taken apart
 module _ (s : SaftVRQMiePars) (q : SlopedState) (wanted : Bool) (e : EnergiesIn (DualOf Float)) where

@@ -6,13 +6,13 @@ use lib.ListN.{length}
 use mathlib.Core.Path.{◌≡◌, refl, sym, subst, ap, ◌∙◌}
 use mathlib.Core.List.{List}
 use mathlib.Core.Bool.{Bool, true, false}
+use Rattle.std.proofs.lemmas.Bool.{and_parts}
 use Rattle.number.specs.Ans.{Ans, held, refused, ◌>>=◌, demand}
-use Rattle.number.proofs.Walk.{then_held, held_inj}
+use Rattle.number.proofs.Walk.{demanded, then_held, held_inj}
 use Rattle.sizes.specs.Sizes.{sheet, cell}
 use Rattle.elementary.specs.Port.{port}
 use Rattle.dual.specs.Dual.{DualOf}
 use Rattle.limits.specs.Limits.{temperature_within}
-use Rattle.mie_parameters.proofs.Laws.{and_left}
 use Rattle.slopes_lists.specs.Lists.{SlopedList}
 use Rattle.saftvrqmie_parameters.specs.declared.OrderRecord.{OrderRecord}
 use Rattle.saftvrqmie_parameters.specs.declared.SaftVRQMiePars.{SaftVRQMiePars}
@@ -30,14 +30,6 @@ use Rattle.slopes_values.proofs.Values.{values_kept}
 kept_of : {S T : Type 0} (a : Ans S) (b : Ans T) (f : S → T) → ((x : S) → a ≡ held x → b ≡ held (f x)) → Kept (λ x y. y ≡ f x) a b
 kept_of (held x) b f h = subst (λ (c : Ans _). Kept (λ x y. y ≡ f x) (held x) c) (sym (h x refl)) (kept_held refl)
 kept_of (refused n) b f h = kept_refused
-
-pub demanded : (n : ℕ) (t b : Bool) → demand n t ≡ held b → t ≡ true
-unfolding demand
-demanded n true b e = refl
-demanded n false b e = absurd (never n b e)
-  where
-    never : (n : ℕ) (b : Bool) → refused n ≡ held b → ⊥
-    never n b p = let z : ◌≡◌ {A = ℕ} 0 1 = cc in omega arith
 
 -- ---- the same values so far
 abbrev Same : SlopedList → Lent → Type 0
@@ -72,7 +64,7 @@ accepted n s o t w e =
 
 finite_values : (w : SlopedList) → slopes_finite w ≡ true → table_finite w.values ≡ true
 unfolding slopes_finite
-finite_values w p = and_left (table_finite w.values) (table_finite w.slopes) p
+finite_values w p = (and_parts (table_finite w.values) (table_finite w.slopes) p).0
 
 with_values : (a : Ans Lent) (y : Lent) (v : List Float) → v ≡ y.values → a ≡ held y → a ≡ held (record { values = v; numbers = y.numbers })
 with_values a y v p e = rw p e

@@ -8,7 +8,7 @@ use Rattle.number.proofs.Walk.{via, walk_none, walk_next, walk_stop, walk_end, h
 use Rattle.saftvrqmie_dispersion_sums.specs.Dispersion.{alpha_row}
 use Rattle.std.proofs.lemmas.List.{map-set}
 use Rattle.saftvrqmie_dispersion_sums.proofs.Turns.{alpha_held_at, alpha_outside}
-use Rattle.saftvrqmie_dispersion_sums.proofs.Turns.{of_none, from_start, from_next}
+use Rattle.number.proofs.Turns.{of_none, from_start, from_next}
 use Rattle.saftvrqmie_dispersion_sums.proofs.alpha_row.Goals as goal
 
 pub loop-j-init : goal.loop-j-init

@@ -10,7 +10,8 @@ use Rattle.number.specs.Answer.{answer_by}
 use Rattle.number.proofs.Walk.{handed_on}
 use Rattle.saftvrqmie_hard_sphere.proofs.Sums.{walked_none, walked_next, walked_stop, walked_end}
 use Rattle.saftvrqmie_dispersion_sums.specs.Dispersion.{second_row}
-use Rattle.saftvrqmie_dispersion_sums.proofs.Turns.{of_none, from_start, from_next, second_held, second_outside}
+use Rattle.number.proofs.Turns.{of_none, from_start, from_next}
+use Rattle.saftvrqmie_dispersion_sums.proofs.Turns.{second_held, second_outside}
 use Rattle.saftvrqmie_dispersion_sums.proofs.second_row.Goals as goal
 
 pub loop-j-init : goal.loop-j-init
