@@ -1,5 +1,5 @@
 // One desk for quantum queries over two lent lists: begin, submit, serve. Any two lists are taken, and nothing outside them is touched.
-// The lists stay two here, in desk_place, which says why, and in desk_calls.
+// The lists stay two here, in desk_place, which says why, and in desk_calls. Casts narrow, and are proved to lose no digit: TryFrom would answer a refusal that cannot come.
 #![tactic(auto)]
 
 ghost use Rattle.std.specs.Prelude.{ℕ, Bool, ◌≡◌, true, ◌+◌, ◌*◌, ◌<◌, ◌≤◌, length};
@@ -85,6 +85,7 @@ pub fn begin(floats: &mut [f64], bytes: &mut [u8]) -> Result<(), Refusal>
     Ok(())
 }
 
+// The lengths of the desk's 1: the direct call's has the table's too.
 fn right_state(n: usize, fractions: &[f64], densities: &[f64]) -> bool
     ensures { result ≡ state_lengths n fractions.now densities.now }
 {

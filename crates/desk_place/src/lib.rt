@@ -1,5 +1,6 @@
 // A place of the desk: a query comes in, a pair is read and stored where it lies, the energies are worked from the whole table.
 // Its floats and bytes are two lists, as the desk's are at the C boundary. A struct of both would be no plainer: of one that holds a `&mut`, clauses say what is left as `p.exit.0.now` and `p.exit.1.0.now`.
+// Casts narrow, and are proved to lose no digit: TryFrom would answer a refusal that cannot come.
 // n ≤ side and e < sheet stand plain: each bounds one number, and a name for it would be no shorter.
 #![tactic(auto)]
 
@@ -66,7 +67,7 @@ fn pair_here(floats: &[f64], bytes: &[u8], e: usize) -> FloatPair
     }
 }
 
-// A pair's four numbers into the table.
+// A pair's four numbers into the table, as saftvrqmie's Room stores them beside counts and the table with slopes twice: a function of all would be handed the four by name, in as many lines.
 fn store(table: &mut [f64], e: usize, p: FloatProperties)
     requires { (length table.old ≡ 4 * sheet) × (e < sheet) }
     ensures { table.new ≡ (store (record { values = table.old; numbers = [] }) e (pair_properties_in p)).values }
@@ -165,7 +166,7 @@ pub fn unit(floats: &mut [f64], bytes: &mut [u8]) -> Option<Result<QuantumEnergi
     }
 }
 
-// Whether a place has a query waiting.
+// Whether a place has a query waiting. Its three bytes are read again: in_hand's struct says that they are within, which is asked here.
 pub fn waits(bytes: &[u8]) -> bool
     requires { length bytes.now ≡ place_bytes }
     ensures { result ≡ waits_in bytes.now }

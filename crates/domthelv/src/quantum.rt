@@ -34,7 +34,7 @@ pub fn domthelv_vrq_record_m(m: f64) -> u8
     mie_parameters::number(answer)
 }
 
-// What the definition writes into a list of as many places: here and below.
+// What the definition writes into a list of as many places: here and below. Not From for the array: the clause is this call's, which the struct's crate does not know.
 fn counts_list(c: OrderCounts) -> [u64; 3]
     ensures { (length result ≡ 3) × ((l : List ℕ) → length l ≡ 3 → counts_written c l ≡ result) }
 {

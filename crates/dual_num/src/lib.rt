@@ -416,6 +416,7 @@ impl DualNum for f64 {
         Arithmetic::cube(self)
     }
 
+    // Without ends nothing that is worked on the way counts.
     fn after(self, _u: f64) -> f64 {
         self
     }
@@ -814,6 +815,7 @@ impl DualNum for Dual {
         Dual::cube(self)
     }
 
+    // Without ends nothing that is worked on the way counts.
     fn after(self, _u: Dual) -> Dual {
         self
     }

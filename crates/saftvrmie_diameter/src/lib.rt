@@ -1,5 +1,5 @@
 // The temperature-dependent diameter of SAFT-VR Mie (saftvrmie/parameters.rs): lower limit by Halley's method, 10-node rule.
-// A pair's numbers come one by one: PairParameters is of SAFT-VR Mie's set, which this crate does not need.
+// A pair's numbers come one by one: PairParameters is of SAFT-VR Mie's set, which this crate does not need, and a struct of this crate would be filled from it field by field in each call.
 #![tactic(auto)]
 
 ghost use Rattle.std.specs.Prelude.{◌≡◌, Bool, ◌<◌, ℕ, slice_index_or};
@@ -146,7 +146,7 @@ fn beta_u_mie<D: DualNum>(e: Exponents<D::Exponent>, c_eps_t: D, base: D::Base) 
 }
 
 // The nodes' work goes stage by stage, each stage for all ten: so it goes side by side. Node by node the diameter takes 29 % longer in floats.
-// By index: k says which node, and of what an adapter of iter_mut writes a proof knows nothing.
+// By index, here and below: k says which node, and of what an adapter of iter_mut writes a proof knows nothing.
 fn bases_of<D: InverseBase>(r0: D, bases: &mut [D::Base; 10])
     ensures { (w : Bool) (k : ℕ) (b : D.Base) → k < 10 → let ri = inverse_at (D.beside w) (D.functions w) (D.of w r0) k in
         D.power_at w (slice_index_or bases.new k b) ≡ (D.functions w).powf ri }
@@ -182,7 +182,7 @@ fn node<D: PlainNum>(r0: D, k: usize, base: D::Base, u: D, d: D) -> Result<D, Re
     Ok(d + width * (-e) * weight::<D>(k))
 }
 
-// A pair's diameter from its reduced lower limit, in any run. Bases and betas are room: an array of any run's numbers has no known size.
+// A pair's diameter from its reduced lower limit, in any run. Bases and betas are room: a run of any numbers cannot lend an array of its own, whose size below 2^63 bytes is known only where it is among the parameters or is the result.
 pub fn diameter_staged<D: InverseBase>(
     la: D::Plain,
     lr: D::Plain,

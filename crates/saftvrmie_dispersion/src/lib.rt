@@ -37,7 +37,7 @@ pub struct Bar<D> {
     pub zx8: D,
 }
 
-// What the sums work of an exponent alone: lambda - 3, lambda - 4, and the rows of C at 1 / lambda. Fields with numbers, here and below, not an array: each is worked by a text of its own, and a generic function cannot own an array of its numbers.
+// What the sums work of an exponent alone: lambda - 3, lambda - 4, and the rows of C at 1 / lambda. Fields with numbers, here and below, not an array: each is worked by a text of its own and read by its name.
 #[derive(Clone, Copy)]
 pub struct Lambda<P> {
     pub l3: P,

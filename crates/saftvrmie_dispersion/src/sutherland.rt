@@ -150,7 +150,7 @@ fn powers_held<D: DualNum>(x0: D::Base, lambda: D::Plain) -> bool
     D::base_inside(x0) & (n & (n3 & n4))
 }
 
-// And those of all five sums.
+// And those of all five sums, whose exponents stand in five_sums, here and in five_dual: a function of them would hand out five numbers.
 pub fn five_held<D: DualNum>(x0: D::Base, la: D::Plain, lr: D::Plain) -> bool
     ensures { (w : Bool) → result ≡ five_held (D.beside w) (D.power_at w x0) (D.plain w la) (D.plain w lr) }
 {

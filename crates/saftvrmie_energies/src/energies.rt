@@ -47,6 +47,7 @@ fn helmholtz_energy_density_disp<D: PlainNum>(s: &State, xs: &mut [D; SIDE]) -> 
     Ok(after_ks(q.k, all * mean * orders))
 }
 
+// What both begin with is the Rust's in each: a function of it would hand out six values.
 fn helmholtz_energy_density_disp_chain<S: ChainNum>(
     s: &State,
     xs: &mut [S::Re; SIDE],
@@ -83,7 +84,7 @@ fn helmholtz_energy_density_disp_chain<S: ChainNum>(
 
 // ---- the operation
 
-// With or without chain, in any run; xs is room: a run of any numbers cannot lend an array of its own, whose size below 2^63 bytes is known only where it is among the parameters or is the result.
+// With or without chain, in any run. The flag is the C call's, of one operation, and is asked here alone. xs is room: a run of any numbers cannot lend an array of its own, whose size below 2^63 bytes is known only where it is among the parameters or is the result.
 pub fn energy_run<S: ChainNum>(
     s: &State,
     chain: bool,
@@ -99,7 +100,7 @@ pub fn energy_run<S: ChainNum>(
     helmholtz_energy_density_disp(s, xs)
 }
 
-// The Helmholtz energy density of dispersion, with or without chain, from a list of diameters. 1, 2, 6, 7.
+// The Helmholtz energy density of dispersion, with or without chain, from a list of diameters. 1, 2, 6, 7. Beside it dispersion_ends: the room and how it ends are each run's own.
 pub fn dispersion(s: &State, chain: bool) -> Result<f64, Refusal>
     ensures { let s = s.now in
         answer result ≡ energy (set_of s.set) s.temperature s.fractions.now s.densities.now s.diameters.now chain }

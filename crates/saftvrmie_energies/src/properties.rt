@@ -39,6 +39,7 @@ pub fn weighted<D: PlainNum>(v: &[f64], m: &[f64; SIDE]) -> D
     ensures { (w : Bool) → D.of w result ≡ weighted (D.beside w) (length v.now) (entries (D.beside w) v.now) (entries (D.beside w) m.now) }
 {
     let mut s = D::entered(0.0);
+    // By index, here and below: m has a place for each component of the side, and the definition's turn is of an index.
     for (i, x) in v.iter().enumerate() {
         s = s + D::entered(*x) * D::Plain::lit(m[i]);
     }

@@ -177,6 +177,7 @@ impl<'a> PairLists for ComponentLists<'a> {
     }
 }
 
+// The models have other lists; the tests are the definition's, one by one.
 fn right_lengths(l: &ComponentLists) -> bool
     ensures { result ≡ right_lengths (lists_of l.now) }
 {

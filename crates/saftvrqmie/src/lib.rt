@@ -27,7 +27,7 @@ use sizes::table::{EPSILON_K_EFF, HS_DIAMETER, QUANTUM_D, SIGMA_EFF};
 use sizes::{COUNTS, SHEET, SIDE, TABLE};
 pub use walk::{PairStore, PairsAt, work_pairs};
 
-// What the three searches of a pair give, each with its count.
+// What the three searches of a pair give, each with its count. Values and counts apart: C's two lists take them so.
 #[derive(Clone, Copy)]
 pub struct PairSearches {
     pub sigma: FloatSearch,

@@ -18,7 +18,7 @@ use saftvrqmie_properties::PairProperties;
 use saftvrqmie_searches::WithoutEnds;
 use sizes::{SHEET, SHEETS, SIDE};
 
-// The pairs of a set's count, at a temperature that may carry a slope.
+// The pairs of a set's count, at a temperature that may carry a slope. n is not known to be within here: table_of refuses it with 1, so the walk's clauses ask for n ≤ side.
 #[derive(Clone, Copy)]
 pub struct PairsAt<'a, D> {
     pub n: usize,

@@ -17,6 +17,7 @@ fn alpha_mie<D: DualNum>(la: D::Plain, lr: D::Plain, ra: D, rr: D) -> D
     ra / (la - three) - rr / (lr - three)
 }
 
+// The terms of the first and of the second order: in the second other powers and factors, so two formulas.
 fn alpha_q1<D: DualNum>(l: D::Plain, s: D, r: D) -> D
     ensures { (w : Bool) → D.of w result ≡ alpha_q1 (D.beside w) (D.plain w l) (D.of w s) (D.of w r) }
 {

@@ -75,6 +75,7 @@ pub fn dispersion_pair<D: DualNum>(
     }
 }
 
+// The terms of the first and of the second order: in the second other powers and factors, so two formulas.
 fn quantum_1<D: DualNum>(dq: D, l: D::Plain) -> D
     ensures { (w : Bool) → D.of w result ≡ quantum1 (D.beside w) (D.of w dq) (D.plain w l) }
 {
@@ -295,7 +296,7 @@ fn second_closed<D: DualNum>(p: &DispersionPair<D, D::Plain>, g: Quantum<D>, a2:
     v.after(g.qr2).after(g.qa2).after(g.qr1).after(g.qa1)
 }
 
-// The sum begins at a plain +0, which the first turn takes as a D.
+// The sum begins at a plain +0, which the first turn takes as a D; the hard sphere's `zero` stands in a crate beside this one.
 fn second_order_at<D: DualNum, const ONE: bool>(
     p: &DispersionPair<D, D::Plain>,
     t: &PairTerms<D>,
@@ -312,6 +313,7 @@ fn second_order_at<D: DualNum, const ONE: bool>(
     Ok(second_closed(p, g, a2))
 }
 
+// At ONE false it has no caller here: what landed promises mixed, and the energies stand on mixed_one.
 pub fn second_order_perturbation_ij<D: DualNum, const ONE: bool>(
     p: &DispersionPair<D, D::Plain>,
 ) -> Result<D, Refusal>

@@ -84,7 +84,7 @@ fn packing_row<D: DualNum>(s: &State<D>, xs: &[D; SIDE], from: usize, i: usize, 
     r
 }
 
-// `zeta_saft_vrq_mie` of the sheet that starts at `from`.
+// `zeta_saft_vrq_mie` of the sheet that starts at `from`, as sizes names it.
 fn packing<D: DualNum>(s: &State<D>, xs: &[D; SIDE], from: usize, rho_s: D) -> D
     requires { Right D.has s.now × (from ≤ 3 * sheet) }
     ensures { let A = D.beside true in

@@ -41,6 +41,7 @@ pub struct StateLists<'a> {
     pub fractions: &'a [f64],
     pub densities: &'a [f64],
     pub table: &'a [f64],
+    // A flag: the C call hands it so, and what is not wanted is +0, a number as any other.
     pub non_additive: bool,
 }
 

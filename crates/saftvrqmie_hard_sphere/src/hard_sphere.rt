@@ -13,7 +13,7 @@ use number::{Arithmetic, Refusal};
 use sizes::SIDE;
 use sizes::table::HS_DIAMETER;
 
-// The four sums of `zeta`. Fields, not an array: a generic function cannot own an array of its numbers.
+// The four sums of `zeta`. Fields, not an array: each is worked by a text of its own and read by its name.
 #[derive(Clone, Copy)]
 pub struct Zetas<D> {
     pub z0: D,

@@ -25,6 +25,7 @@ pub enum FeynmanHibbsOrder {
     FH2,
 }
 
+// A record of one field: document 01's set has records that each hold an order.
 #[derive(Clone, Copy)]
 pub struct OrderRecord {
     pub order: FeynmanHibbsOrder,
@@ -231,6 +232,7 @@ fn orders_of(fh: &[u8]) -> [OrderRecord; SHEET]
     orders
 }
 
+// The models have other lists; the tests are the definition's, one by one.
 fn right_lengths(l: &ComponentLists) -> bool
     ensures { result ≡ right_lengths (lists_of l.now) }
 {

@@ -44,7 +44,7 @@ pub fn places(list: &[f64], from: usize) -> [f64; SIDE]
     read
 }
 
-// The six sheets of a set from a list of their length.
+// The six sheets of a set from a list of their length: a whole list, so that a caller names no part.
 pub fn flat(sheets: &[f64]) -> [f64; SHEETS]
     requires { length sheets.now ≡ 6 * sheet }
     ensures { result ≡ taken (6 * sheet) sheets.now 0 }
@@ -54,6 +54,7 @@ pub fn flat(sheets: &[f64]) -> [f64; SHEETS]
     read
 }
 
+// The length stands in each clause, here and below: the lists are the C call's, whose lengths quantum_lengths tests.
 fn row_within(n: usize, l: &[u8], i: usize) -> bool
     requires { (n ≤ side) × (i < n) × (length l.now ≡ sheet) }
     ensures { result ≡ row_within n l.now i }

@@ -21,6 +21,7 @@ fn write(d: &[f64], l: &mut [f64], to: usize)
 fn order_byte(order: FeynmanHibbsOrder) -> u8
     ensures { result ≡ order_number order }
 {
+    // An enum's number is read by as: it has no From.
     order as u8
 }
 

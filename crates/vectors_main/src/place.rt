@@ -1,4 +1,4 @@
-// The places of lists, by numbers that are the same whatever the side of a sheet: a million times what a place is of, 10000 for each sheet, 100 for each row, 1 for each column.
+// The places of lists, by numbers that are the same whatever the side of a sheet: a million times what a place is of, 10000 for each sheet, 100 for each row, 1 for each column. Casts between u64 and usize are by as: neither has a From of the other.
 ghost use Rattle.std.specs.Prelude.{◌≤◌};
 
 use sizes::{SHEET, SIDE};
