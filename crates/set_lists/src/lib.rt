@@ -102,7 +102,7 @@ pub fn quantum_answer(s: &QuantumSet) -> Result<(), Refusal>
     Ok(())
 }
 
-// The quantum set of lists whose lengths were tested.
+// The quantum set of lists whose lengths were tested. Its callers ask quantum_answer in a line of their own: one function for both would hand the set on through one Result more, and a set that is handed on is copied.
 pub fn quantum_set(s: &QuantumSet) -> SaftVRQMiePars
     requires { quantum_lengths s.now.m.now s.now.sheets.now s.now.orders.now ≡ true }
     ensures { result ≡ quantum_read (quantum_lists s.now) }
