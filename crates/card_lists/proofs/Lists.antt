@@ -5,7 +5,7 @@ use native.Mathlib.Numerals.{add-one}
 use native.Mathlib.Omega.{arith}
 use lib.ListN.{length, get_or, take, set, replicate}
 use lib.Seq.{take-suc-set}
-use Rattle.std.proofs.lemmas.List.{take_at, length-replicate, replicate_more}
+use Rattle.std.proofs.lemmas.List.{take-replicate, replicate_more}
 use mathlib.Core.Path.{◌≡◌, refl, sym, ap, ◌∙◌}
 use mathlib.Core.List.{List, [], ◌∷◌, ◌++◌, append_assoc, append-nil}
 use Rattle.number.specs.Walk.{turns}
@@ -22,8 +22,8 @@ unfolding joined
 each_one x zero = refl
 each_one {S} x (suc n) = (rw add-one at (sym (replicate_more n x))) ∙ ap (λ (s : List S). s ++ x ∷ []) (each_one x n)
 
-pub all_one : {S : Type 0} (x : S) (l rest : List S) (n m : ℕ) → m ≡ n → l ≡ replicate m x → take n (l ++ rest) ≡ joined n (λ _. x ∷ [])
-all_one x l rest n m e p = take_at l rest n (rw (p, length-replicate m x) e) ∙ p ∙ rw e (each_one x n)
+pub all_one : {S : Type 0} (x : S) (n m : ℕ) → n ≤ m → take n (replicate m x) ≡ joined n (λ _. x ∷ [])
+all_one x n m h = take-replicate n m x h ∙ each_one x n
 
 -- one entry more
 module _ {S : Type 0} (f : ℕ → S) where

@@ -5,7 +5,7 @@
 ghost use Rattle.std.specs.Prelude.{◌≡◌, [], ◌∷◌, ◌++◌, ◌+◌, ◌*◌, ◌-◌, ◌<◌, ◌≤◌, length, take};
 ghost use Rattle.sizes.specs.Sizes.{side};
 ghost use Rattle.card.specs.Fields.{joined};
-ghost use Rattle.card_lists.specs.Lists.{column, orders, ones, pairs_before, pair_entry, pair_list};
+ghost use Rattle.card_lists.specs.Lists.{column, orders, pairs_before, pair_entry, pair_list};
 
 use card::quantum;
 use sizes::{SHEET, SIDE};
@@ -31,16 +31,6 @@ pub fn orders(values: &[u64], n: usize) -> [u8; SIDE]
     for i in 0usize..n {
         list[i] = (values[i * quantum::SIZE + quantum::ORDER] % 4) as u8;
     }
-    list
-}
-
-// An m of 1 for each component; the count is a card's, which was tested.
-pub fn ones(n: usize) -> [f64; SIDE]
-    requires { n ≤ side }
-    ensures { take n result ≡ ones n }
-{
-    let mut list = [0.0; SIDE];
-    list[..n].fill(1.0);
     list
 }
 

@@ -1,17 +1,25 @@
 -- The lists that the code hands to the parameters are the card's. Assumes nothing.
-use Prim.Native.Nat.{ℕ, ◌*◌, ◌-◌}
+use Prim.Native.Nat.{ℕ, ◌*◌, ◌-◌, ◌≤◌}
 use native.Mathlib.Omega.{arith}
 use lib.Ieee.{Float}
-use lib.ListN.{take, drop}
+use lib.ListN.{take, drop, replicate}
 use mathlib.Core.Path.{◌≡◌}
 use mathlib.Core.List.{List}
 use Rattle.saftvrqmie_parameters.specs.Parameters as Quantum
 use Rattle.saftvrmie_parameters.specs.Parameters as Mie
+use Rattle.number.specs.Arith.{decimal}
+use mathlib.Core.Bool.{false}
+use Rattle.card_lists.proofs.Lists.{all_one}
 use Rattle.card_lists.specs.Lists.{column, orders, ones, pair_list, quantum_lists, mie_lists}
 
 -- a part of an array from its beginning
 pub part : {S : Type 0} (n : ℕ) (l x : List S) → take n l ≡ x → take (n - 0) (drop 0 l) ≡ x
 part n l x p = let e : n - 0 ≡ n = omega arith in rw e p
+
+-- m of the quantum model
+pub ones_is : (n m : ℕ) → n ≤ m → take n (replicate m (decimal false 1 0)) ≡ ones n
+unfolding ones
+ones_is n m h = all_one (decimal false 1 0) n m h
 
 module _ (values : List ℕ) (n : ℕ) where
   pub quantum_is : (m sigma epsilon_k lr la mass : List Float) (fh : List ℕ) (k_ij l_ij : List Float)

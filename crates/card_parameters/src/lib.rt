@@ -17,6 +17,7 @@ use card_lists::PairNumbers;
 use number::Refusal;
 use saftvrmie_parameters::SaftVRMiePars;
 use saftvrqmie_parameters::SaftVRQMiePars;
+use sizes::SIDE;
 
 // The quantum set of a card's numbers, whose count was tested. A function for each model: it names the lists of that model's struct one by one, so that a trait's method would be all of it.
 fn quantum_set(values: &[u64], n: usize) -> Result<SaftVRQMiePars, Refusal>
@@ -25,7 +26,7 @@ fn quantum_set(values: &[u64], n: usize) -> Result<SaftVRQMiePars, Refusal>
         answer result ≡ Quantum.saft_vrq_mie_pars (quantum_lists c) }
 {
     let square = n * n;
-    let m = card_lists::ones(n);
+    let m = [1.0; SIDE];
     let sigma = card_lists::column(values, quantum::SIZE, n, quantum::SIGMA);
     let epsilon_k = card_lists::column(values, quantum::SIZE, n, quantum::EPSILON_K);
     let lr = card_lists::column(values, quantum::SIZE, n, quantum::LR);

@@ -3,7 +3,7 @@ use Prim.Native.Nat.{◌+◌, ◌*◌, ◌<◌}
 use native.Mathlib.Omega.{arith}
 use mathlib.Core.Path.{◌≡◌}
 use lib.ListN.{length, length-set, replicate}
-use Rattle.card_lists.specs.Lists.{number_at, column, orders, ones}
+use Rattle.card_lists.specs.Lists.{number_at, column}
 use Rattle.sizes.specs.Sizes.{side}
 use Rattle.card_lists.proofs.Lists.{fill_none, fill_next}
 use Rattle.number.specs.Arith.{zero64}
@@ -17,5 +17,5 @@ pub loop-i-preserved : goal.loop-i-preserved
 loop-i-preserved c = let g : c.loop-i.i < length c.loop-i.list = omega arith in (search rules, simp length-set c.loop-i.invariant.1, fill_next (λ i. number_at c.args.values.now (i * c.args.size + c.args.e)) c.loop-i.list c.loop-i.i _ g c.loop-i.invariant.2 c.of_bits.ensures)
 
 pub returns : goal.returns
-unfolding column orders ones
+unfolding column
 returns c = let e : ◌≡◌ c.loop-i.i c.args.n = omega arith in rw e at c.loop-i.invariant.2

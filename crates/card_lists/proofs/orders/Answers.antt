@@ -3,7 +3,7 @@ use Prim.Native.Nat.{◌+◌, ◌*◌, ◌%◌, ◌<◌}
 use native.Mathlib.Omega.{arith}
 use mathlib.Core.Path.{◌≡◌, refl}
 use lib.ListN.{length, get_or, length-set, replicate}
-use Rattle.card_lists.specs.Lists.{column, orders, ones}
+use Rattle.card_lists.specs.Lists.{orders}
 use Rattle.sizes.specs.Sizes.{side}
 use Rattle.card_lists.proofs.Lists.{fill_none, fill_next}
 use borrow.Author.Rules.{rules}
@@ -16,5 +16,5 @@ pub loop-i-preserved : goal.loop-i-preserved
 loop-i-preserved c = let g : c.loop-i.i < length c.loop-i.list = omega arith in (search rules, simp length-set c.loop-i.invariant.1, fill_next (λ i. get_or c.args.values.now (i * 6 + 5) 0 % 4) c.loop-i.list c.loop-i.i _ g c.loop-i.invariant.2 refl)
 
 pub returns : goal.returns
-unfolding column orders ones
+unfolding orders
 returns c = let e : ◌≡◌ c.loop-i.i c.args.n = omega arith in rw e at c.loop-i.invariant.2

@@ -1,6 +1,5 @@
 -- `card_parameters::mie_set` meets its contract. Assumes nothing.
 use Prim.Native.Nat.{◌*◌}
-use Prim.Native.Nat.{◌*◌}
 use mathlib.Core.Path.{ap, ◌∙◌}
 use Rattle.card_parameters.proofs.Lists.{part, mie_is}
 use Rattle.saftvrmie_parameters.specs.Parameters as Mie
