@@ -56,10 +56,10 @@ impl Kind {
 }
 
 // Any number stands for a kind, 0 for quantum and every other for SAFT-VR Mie: who has a number k hands `Kind::from(k)`, whose fields are those of k (`layout_any`, `count_any` in proofs/Fields).
-impl From<usize> for Kind {
+impl From<u64> for Kind {
     ghost from_gives = { λ n r. r ≡ kind_of n };
 
-    fn from(n: usize) -> Kind {
+    fn from(n: u64) -> Kind {
         match n {
             0 => Kind::Quantum,
             _ => Kind::Mie,
@@ -247,8 +247,7 @@ fn kind_of(form: Form, model: u64) -> Kind
     requires { (form_of (is_newer form)).first ≤ model }
     ensures { result ≡ kind_of (model - (form_of (is_newer form)).first) }
 {
-    let number = model - form.first();
-    Kind::from(number as usize)
+    Kind::from(model - form.first())
 }
 
 // A card's heading, its numbers in an array that is lent; of a card that is refused the array holds what was read before.
