@@ -129,7 +129,7 @@ fn plain(card: &[u8], at: usize, width: usize) -> Result<FieldValue, Refusal>
     requires { (at < 2 ^ 16) × IsWidth width }
     ensures { (field_answer card.now result ≡ read_plain width (drop at (bits_of card.now))) × (end_of result ≤ at + width) }
 {
-    if card.len() < (at + width + 7) / 8 {
+    if card.len() < (at + width).div_ceil(8) {
         return Err(Refusal::Short);
     }
     let value = bit_fields::field(card, at, width);
@@ -232,7 +232,7 @@ fn filling(card: &[u8], end: usize) -> bool
     requires { end < 2 ^ 16 }
     ensures { result ≡ filling (drop end (bits_of card.now)) }
 {
-    let bytes = (end + 7) / 8;
+    let bytes = end.div_ceil(8);
     if bytes < card.len() {
         return false;
     }

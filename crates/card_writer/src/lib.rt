@@ -88,7 +88,7 @@ pub fn store(
         (outcome result true ≡ verdict q) × (card.exit.now ≡ (stored l q).card) × (told.new ≡ (stored l q).length) }
 {
     let bits = card_length(head, values);
-    let bytes = (bits + 7) / 8;
+    let bytes = bits.div_ceil(8);
     if card.len() < bytes {
         return Err(Refusal::Room);
     }
