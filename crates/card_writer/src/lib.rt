@@ -115,9 +115,8 @@ pub fn moved(card: &[u8], form: Form, to: &mut [u8], told: &mut usize) -> Result
     }
     let total = head.value_count();
     let moved = Heading {
-        kind: head.kind,
-        count: head.count,
         form: other,
+        ..head
     };
     store(moved, &values[0..total], to, told)
 }
