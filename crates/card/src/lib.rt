@@ -1,4 +1,5 @@
 // The fuel card, read as patterns of 64 bits: field by field, by its list of fields.
+// usize and u64 have no From of each other: they are cast.
 #![tactic(auto)]
 
 ghost use Rattle.std.specs.Prelude.{◌≡◌, not, ◌+◌, ◌*◌, ◌-◌, ◌^◌, ◌<◌, ◌≤◌, get_or, drop};
@@ -251,6 +252,7 @@ fn kind_of(form: Form, model: u64) -> Kind
 }
 
 // A card's heading, its numbers in an array that is lent; of a card that is refused the array holds what was read before.
+// How many they are is the heading's: no heap, and it is known once the heading is read.
 pub fn read(card: &[u8], form: Form, values: &mut [u64; VALUES]) -> Result<Heading, Refusal>
     ensures { (card_answer values.new result ≡ read_card (form_of (is_newer form)) card.now) × (form_read form result ≡ form) }
 {

@@ -1,5 +1,6 @@
 // A card's numbers as component lists: floats from patterns, and pairs in their square.
 // n ≤ side and i < n stand plain: each bounds one index, and a name would be longer.
+// The cast here narrows, and is proved to lose no digit: TryFrom would answer a refusal that cannot come.
 #![tactic(auto)]
 
 ghost use Rattle.std.specs.Prelude.{◌≡◌, [], ◌∷◌, ◌++◌, ◌+◌, ◌*◌, ◌-◌, ◌<◌, ◌≤◌, length, take};

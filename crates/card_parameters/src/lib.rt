@@ -1,5 +1,6 @@
 // The operation from a card to the parameters of either model.
 // n ≤ side stands plain: it bounds one index, and a name would be longer.
+// An enum's number is read by `as`; it has no From.
 #![tactic(auto)]
 
 ghost use Rattle.std.specs.Prelude.{◌≡◌, true, ◌+◌, ◌*◌, ◌-◌, ◌≤◌, length};

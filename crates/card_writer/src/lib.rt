@@ -1,4 +1,5 @@
 // The fuel card, written by the list of fields that it is read by, and moved from one form to the other.
+// An enum's number is read by `as`, since it has no From, and u64 has none of usize.
 #![tactic(auto)]
 
 ghost use Rattle.std.specs.Prelude.{true, ◌≡◌, not, ◌++◌, ◌+◌, ◌*◌, ◌^◌, ◌<◌, ◌≤◌, length, drop};
@@ -55,7 +56,7 @@ fn write_field(card: &mut [u8], at: usize, field: Field, value: u64) -> usize
     at + field.width
 }
 
-// The numbers behind a heading, of a card that is long enough.
+// The numbers behind a heading, of a card that is long enough. It goes along the fields as card_length does, which goes first: nothing is written to a list that is too short.
 fn write_values(card: &mut [u8], head: Heading, values: &[u64])
     requires { (6 + length (write_fields (fields_of head) values.now) ≤ 8 * length card.old) × Complete head values.now }
     ensures { bits_of card.new ≡ over 6 (write_fields (fields_of head) values.now) (bits_of card.old) }
