@@ -101,6 +101,27 @@ pub less_one : (n : ℕ) → n * (n - 1) + n ≡ n * n
 less_one zero = omega arith
 less_one (suc m) = let e : suc m - 1 ≡ m = omega arith in rw (e, mul-suc (suc m) m)
 
+-- the pairs' numbers before a row, and those of all rows
+pub before_none : (n : ℕ) → pairs_before n 0 ≡ 0
+unfolding pairs_before turns
+before_none n = refl
+
+pub before_next : (n i : ℕ) → pairs_before n (i + 1) ≡ pairs_before n i + (n - 1 - i)
+unfolding pairs_before turns
+before_next n i = rw add-one refl
+
+pub before_within : (n i : ℕ) → i ≤ n → 2 * pairs_before n i ≤ n * (n - 1)
+before_within n i h =
+    let d = n - i in
+    let e : i + d ≡ n = omega arith in
+    let p = twice_before n i h in
+    let a = rw e at (square_of i d) in
+    let b = rw e at (product_of i d) in
+    omega (arith, p, a, b, le_square d, less_one n)
+
+pub before_all : (n : ℕ) → 2 * pairs_before n n ≡ n * (n - 1)
+before_all n = omega (arith, twice_before n n (omega arith), less_one n)
+
 -- the numbers of a pair lie among those of all pairs
 pub pair_below : (n i j : ℕ) → i < j → j < n → 2 * (pairs_before n i + (j - 1 - i)) + 1 < n * (n - 1)
 unfolding pairs_before turns

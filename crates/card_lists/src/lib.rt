@@ -35,8 +35,8 @@ pub fn orders(values: &[u64], n: usize) -> [u8; SIDE]
     list
 }
 
-// Row i is one of at most twelve.
-fn pairs_before(n: usize, i: usize) -> usize
+// How many pairs stand before row i, which is one of at most twelve.
+pub fn pairs_before(n: usize, i: usize) -> usize
     requires { (n ≤ side) × (i < n) }
     ensures { result ≡ pairs_before n i }
 {

@@ -1,12 +1,12 @@
 -- Laws of numbers stored one after the other. Assumes nothing.
-use Prim.Native.Nat.{ℕ, zero, suc, ◌+◌, ◌*◌, ◌-◌, ◌≤◌, ◌<◌}
+use Prim.Native.Nat.{ℕ, suc, ◌+◌, ◌*◌, ◌-◌, ◌≤◌, ◌<◌}
 use native.Mathlib.Nat.{mul-le-mul, le_refl, suc-mul, mul_comm}
 use native.Mathlib.Numerals.{add-one}
 use native.Mathlib.Omega.{arith}
 use lib.Ieee.{Float}
 use lib.ListN.{length, take, get_or, set, length-set}
 use lib.Seq.{take-suc-set}
-use mathlib.Core.Path.{◌≡◌, sym, ap, ◌∙◌}
+use mathlib.Core.Path.{◌≡◌, sym, ◌∙◌}
 use mathlib.Core.List.{List, [], ◌∷◌, ◌++◌, append_assoc, append-nil}
 use Rattle.card.specs.Fields.{joined}
 use Rattle.number.specs.Lists.{at}
@@ -109,35 +109,6 @@ rows_none l at g = sym (append-nil (take at l))
 pub rows_next : (l new l₀ : List ℕ) (at more start i : ℕ) (g : ℕ → List ℕ) → take at l ≡ take start l₀ ++ joined i g → take (at + more) new ≡ take at l ++ g i → take (at + more) new ≡ take start l₀ ++ joined (i + 1) g
 unfolding joined
 rows_next l new l₀ at more start i g p q = rw (add-one i) (q ∙ rw p (append_assoc (take start l₀) (joined i g) (g i)))
-
--- how many numbers are left: two for each pair of the rows from i on
-row_less : (m : ℕ) → (m + 1) * m ≡ 2 * m + m * (m - 1)
-row_less zero = omega arith
-row_less (suc m) =
-    let e : suc m - 1 ≡ m = omega arith in
-    let a = suc-mul (m + 1) (suc m) in
-    let b : (m + 1) * suc m ≡ suc m * suc m = ap (λ (x : ℕ). x * suc m) (add-one m) in
-    let d : suc m + 1 ≡ suc (m + 1) = omega arith in
-    let c = suc-mul m (suc m) in
-    let f = mul_comm (suc m) m in
-    rw (e, d) (omega (arith, a, b, c, f))
-
-pub left_less : (n i : ℕ) → i < n → (n - i) * (n - 1 - i) ≡ 2 * (n - 1 - i) + (n - (i + 1)) * (n - 1 - (i + 1))
-left_less n i h =
-    let m = n - 1 - i in
-    let a : n - i ≡ m + 1 = omega arith in
-    let b : n - (i + 1) ≡ m = omega arith in
-    let c : n - 1 - (i + 1) ≡ m - 1 = omega arith in
-    rw (a, b, c) (row_less m)
-
-pub left_all : (n : ℕ) → (n - 0) * (n - 1 - 0) ≡ n * (n - 1)
-left_all n =
-    let a : n - 0 ≡ n = omega arith in
-    let b : n - 1 - 0 ≡ n - 1 = omega arith in
-    rw (a, b)
-
-pub left_none : (n i : ℕ) → n ≤ i → (n - i) * (n - 1 - i) ≡ 0
-left_none n i h = let a : n - i ≡ 0 = omega arith in rw a (omega arith)
 
 pub cell_below : (n i j : ℕ) → i < n → j < n → n * i + j < n * n
 cell_below n i j h g =

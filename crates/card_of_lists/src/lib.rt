@@ -75,10 +75,8 @@ impl<'a> Pairs<'a> {
         requires { (start ≤ 72) × Squares self.n self.k.now self.second.now }
         ensures { let p = self.entry in take (start + p.n * (p.n - 1)) values.new ≡ take start values.old ++ pair_rows p.n p.k.now p.second.now }
     {
-        let mut at = start;
         for i in 0usize..self.n {
-            self.row(i, values, at);
-            at = at + 2 * (self.n - 1 - i);
+            self.row(i, values, start + 2 * card_lists::pairs_before(self.n, i));
         }
     }
 }
