@@ -1,12 +1,11 @@
 -- Slip 6: 'From the component lists write the card into a lent list and say how many bytes it took'
-use Rattle.std.specs.Prelude.{◌≡◌, ◌≤◌, ℕ, ◌+◌, ◌*◌, ◌-◌, eqb, leb, Float, length, get_or, Bool, true, cond, List, [], ◌∷◌, ◌++◌, Option, None, Some}
+use Rattle.std.specs.Prelude.{ℕ, ◌+◌, ◌-◌, eqb, leb, Float, get_or, Bool, true, cond, List, [], ◌∷◌, ◌++◌, Option, None, Some}
 use Rattle.number.specs.declared.refusal.Refusal.{Refusal}
 use Rattle.number.specs.Answer.{code}
 use Rattle.std.specs.Float.Ieee.{to_bits}
 use Rattle.std.specs.Float.{binary64}
 use Rattle.number.specs.Ans.{Ans, held, refused, ◌>>=◌, demand}
 use Rattle.number.specs.Lists.{at}
-use Rattle.sizes.specs.Sizes.{side}
 use Rattle.limits.specs.Limits.{square}
 use Rattle.saftvrqmie_parameters.specs.Parameters as Quantum
 use Rattle.saftvrmie_parameters.specs.Parameters as Mie
@@ -39,10 +38,6 @@ pair_row n k l i = joined (n - 1 - i) (λ d. pattern (square n k i (i + 1 + d)) 
 
 unfoldable pub pair_rows : ℕ → List Float → List Float → List ℕ
 pair_rows n k l = joined n (pair_row n k l)
-
--- the pairs' numbers of n components, each kind of them in its square
-abbrev pub Squares : ℕ → List Float → List Float → Type 0
-Squares n k l = (n ≤ side) × (length k ≡ n * n) × (length l ≡ n * n)
 
 -- what the card of component lists says; the quantum model's m is no field of it
 unfoldable pub quantum_card : Quantum.Lists → Card

@@ -10,7 +10,8 @@ ghost use Rattle.card.specs.Card.{Card, number_of, older, size, most_values};
 ghost use Rattle.card.specs.Fields.{joined};
 ghost use Rattle.card_writer.specs.Writing.{card_bytes, CardRoom, card_stored};
 ghost use Rattle.number.specs.Ans.{◌>>=◌ as bound_to, demand};
-ghost use Rattle.card_of_lists.specs.Cards.{quantum_component_of, mie_component_of, pair_row, pair_rows, Squares, passed_by, vrq_card, vr_card};
+ghost use Rattle.card_of_lists.specs.Squares.{Squares};
+ghost use Rattle.card_of_lists.specs.Cards.{quantum_component_of, mie_component_of, pair_row, pair_rows, passed_by, vrq_card, vr_card};
 
 use card::{Form, Heading, Kind, MOST, VALUES, mie, pair, quantum};
 use number::Refusal;
