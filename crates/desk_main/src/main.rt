@@ -5,23 +5,26 @@ use desk::{BYTES, DeskQuery, FLOATS};
 use number::bits_of;
 use records::{Records, part};
 use set_lists::QuantumSet;
-use sizes::quantum_set::{C_IJ, EPSILON_K_IJ, LAMBDA_A_IJ, LAMBDA_R_IJ, MASS_IJ};
 use sizes::{SHEET, SHEETS, SIDE};
+use std::array;
 use std::fs::File;
 use std::io::{self, Read};
 
-// All pairs alike, but for one place of sigma; c is 4, the exponents 12 and 6. f is the record's words as floats.
-fn sheets_of(record: &[u8; 64], f: &[f64; 8]) -> [f64; SHEETS] {
-    let mut sheets = [f[4]; SHEETS];
-    if let Some(sigma) = sheets[..EPSILON_K_IJ].get_mut(usize::from(record[6])) {
-        *sigma = f[7];
+// All pairs alike, but for one place of sigma; c is 4, the exponents 12 and 6. f is the record's words as floats. A sheet by its number: filled by their names, the six ranges of a list give goals that search gives up at.
+fn entry(record: &[u8; 64], f: &[f64; 8], k: usize) -> f64 {
+    match k / SHEET {
+        0 => {
+            if k == usize::from(record[6]) {
+                return f[7];
+            }
+            f[4]
+        }
+        1 => f[5],
+        2 => 4.0,
+        3 => 12.0,
+        4 => 6.0,
+        _ => f[6],
     }
-    sheets[EPSILON_K_IJ..C_IJ].fill(f[5]);
-    sheets[C_IJ..LAMBDA_R_IJ].fill(4.0);
-    sheets[LAMBDA_R_IJ..LAMBDA_A_IJ].fill(12.0);
-    sheets[LAMBDA_A_IJ..MASS_IJ].fill(6.0);
-    sheets[MASS_IJ..].fill(f[6]);
-    sheets
 }
 
 fn begin(rt: &impl Print, floats: &mut [f64], bytes: &mut [u8]) -> io::Result<()> {
@@ -37,7 +40,7 @@ fn submit(
     bytes: &mut [u8],
 ) -> io::Result<()> {
     let f: [f64; 8] = records::floats(record);
-    let sheets = sheets_of(record, &f);
+    let sheets: [f64; SHEETS] = array::from_fn(|k| entry(record, &f, k));
     let orders = [record[5]; SHEET];
     let m = [1.0; SIDE];
     let fractions = [f[2]; SIDE];
