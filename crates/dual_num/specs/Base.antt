@@ -7,6 +7,7 @@ use Rattle.enclosure.specs.Enclosure.{enclosures}
 use Rattle.number.specs.Domain.{base_inside, exponent_inside}
 use Rattle.binary_log.specs.BinaryLog.{log_of}
 use Rattle.power.specs.Power as Power
+use Rattle.dual.specs.declared.Dual.{Dual}
 use Rattle.slopes.specs.Mixed.{Mixed, plain, sloped}
 use Rattle.slopes.specs.Staged.{slope_inside, slope_exponent_of, raised_of}
 use Rattle.dual_num.specs.declared.FloatBase.{FloatBase}
@@ -19,6 +20,12 @@ use Rattle.dual_num.specs.declared.DualExponent.{DualExponent}
 -- the logarithm holds where the base is inside the power's domain
 abbrev pub float_base_of : Float → FloatBase
 float_base_of x = record { log = log_of x; inside = base_inside x }
+
+abbrev pub enclosure_base_of : Enclosure → EnclosureBase
+enclosure_base_of x = record { x = x; base = float_base_of x.value }
+
+abbrev pub dual_base_of : Dual → DualBase
+dual_base_of x = record { base = float_base_of x.re; slope = x.eps }
 
 unfoldable pub float_power : FloatBase → Float → Ans Float
 float_power b y = demand 6 b.inside >>= λ _. Power.powf_at b.log y

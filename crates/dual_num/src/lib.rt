@@ -17,7 +17,7 @@ ghost use Rattle.dual_num.specs.Way.{mixed_way};
 ghost use Rattle.enclosure.specs.Enclosed.{IsEnclosed};
 ghost use Rattle.dual_num.specs.Constants.{constant_of};
 ghost use Rattle.dual_num.specs.declared.DualBase.{DualBase};
-ghost use Rattle.dual_num.specs.Base.{float_base_of, float_power, enclosure_power, dual_power, float_exponent_of, float_raised, float_power_by, enclosure_raised, enclosure_power_by, dual_raised, dual_power_by};
+ghost use Rattle.dual_num.specs.Base.{float_base_of, enclosure_base_of, dual_base_of, float_power, enclosure_power, dual_power, float_exponent_of, float_raised, float_power_by, enclosure_raised, enclosure_power_by, dual_raised, dual_power_by};
 ghost use Rattle.dual_num.specs.Laws.{float_power_is, enclosure_power_is, dual_power_is, float_six, enclosure_six, mixed_six, float_epsilon, enclosure_epsilon, mixed_epsilon};
 
 use binary_log::Log;
@@ -109,6 +109,9 @@ pub trait DualNum: Copy
 
     ghost power_by: { (w : Bool) → Self.Base → Self.Exponent → Ans (beside w).Num };
 
+    // The base of a number.
+    ghost base_of: { Self → Self.Base };
+
     // Where a power is refused, and what it is elsewhere.
     ghost base_in: { Self.Base → Bool };
 
@@ -129,7 +132,8 @@ pub trait DualNum: Copy
         ensures { (w : Bool) → of w result ≡ taken w (plain w c) };
 
     fn base(self) -> Self::Base
-        ensures { (w : Bool) → power_at w result ≡ (functions w).powf (of w self) };
+        ensures power { (w : Bool) → power_at w result ≡ (functions w).powf (of w self) }
+        ensures value { result ≡ base_of self };
 
     fn powf_at(base: Self::Base, e: Self::Plain) -> Result<Self, Refusal>
         ensures { (w : Bool) → answer_by (of w) result ≡ power_at w base (plain w e) }
@@ -360,6 +364,8 @@ impl DualNum for f64 {
 
     ghost power_by = { λ w b n. float_power_by b n };
 
+    ghost base_of = { λ x. float_base_of x };
+
     ghost base_in = { λ b. b.inside };
 
     ghost exponent_in = { λ n. n.inside };
@@ -522,7 +528,8 @@ impl DualNum for f64 {
 }
 
 fn enclosure_base(x: Enclosure) -> EnclosureBase
-    ensures { enclosure_power result ≡ (calls enclosures port).powf x }
+    ensures power { enclosure_power result ≡ (calls enclosures port).powf x }
+    ensures value { result ≡ enclosure_base_of x }
 {
     EnclosureBase {
         x,
@@ -557,6 +564,8 @@ impl DualNum for Enclosure {
     ghost power_at = { λ w b y. enclosure_power b y };
 
     ghost power_by = { λ w b n. enclosure_power_by b n };
+
+    ghost base_of = { λ x. enclosure_base_of x };
 
     ghost base_in = { λ b. b.base.inside };
 
@@ -720,7 +729,8 @@ impl DualNum for Enclosure {
 }
 
 fn dual_base(x: Dual) -> DualBase
-    ensures { dual_power result ≡ (mixed_functions port).powf (sloped (dual_of x)) }
+    ensures power { dual_power result ≡ (mixed_functions port).powf (sloped (dual_of x)) }
+    ensures value { result ≡ dual_base_of x }
 {
     DualBase {
         base: float_base(x.re),
@@ -755,6 +765,8 @@ impl DualNum for Dual {
     ghost power_at = { λ w b y. dual_power b y };
 
     ghost power_by = { λ w b n. dual_power_by b n };
+
+    ghost base_of = { λ x. dual_base_of x };
 
     ghost base_in = { λ b. b.base.inside };
 

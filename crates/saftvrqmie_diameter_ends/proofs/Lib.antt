@@ -1,3 +1,2 @@
 pub mod Encloses
 pub mod Nodes
-pub mod Same

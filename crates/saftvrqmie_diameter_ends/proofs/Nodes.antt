@@ -18,7 +18,7 @@ use Rattle.enclosure.specs.Enclosure.{enclosures, point, add_e, sub_e, mul_e, di
 use Rattle.saftvrqmie_potential.specs.Potential.{PairIn, PotentialIn, potential}
 use Rattle.saftvrqmie_searches.specs.Diameter.{width_from, abscissas, weights, node_turn, diameter_by, diameter}
 use Rattle.saftvrqmie_alone_ends.specs.Alone.{u_after}
-use Rattle.saftvrqmie_diameter_ends.proofs.Same.{Same, same, add_same, mul_same, neg_same, one_flag, flags}
+use Rattle.saftvrqmie_alone_ends.proofs.Same.{Same, same, add_same, mul_same, neg_same, one_flag, flags}
 
 pub diameter_none : (p : PairIn Enclosure) (sigma_eff r0 : Enclosure) (n : ℕ) → ((r : Enclosure) → potential enclosures (calls enclosures port) p r ≡ refused n) → refused n ≡ diameter enclosures (calls enclosures port) p sigma_eff r0
 unfolding diameter diameter_by node_turn ◌>>=◌

@@ -7,6 +7,7 @@ mod sums;
 
 pub use alpha::{alpha_ij, chi, third_order_perturbation_ij};
 pub use perturbation::{
-    DispersionPair, dispersion_pair, first_order_perturbation_ij, k, second_order_perturbation_ij,
+    DispersionPair, Factors, Quantum, dispersion_pair, first_order_perturbation_ij, k,
+    second_order_perturbation_ij,
 };
 pub use sums::{lead, orders_sum};

@@ -27,19 +27,19 @@ pub struct DispersionPair<D, P> {
 
 // The quantum contributions of first and second order to the two exponents.
 #[derive(Clone, Copy)]
-struct Quantum<D> {
-    qa1: D,
-    qr1: D,
-    qa2: D,
-    qr2: D,
+pub struct Quantum<D> {
+    pub qa1: D,
+    pub qr1: D,
+    pub qa2: D,
+    pub qr2: D,
 }
 
 // The factors of a turn of the second order.
 #[derive(Clone, Copy)]
-struct Factors<D> {
-    afac: D,
-    rfac: D,
-    arfac: D,
+pub struct Factors<D> {
+    pub afac: D,
+    pub rfac: D,
+    pub arfac: D,
 }
 
 // The isothermal hard sphere compressibility factor of the second order.
@@ -100,7 +100,10 @@ fn quantum_of<D: DualNum>(p: &DispersionPair<D, D::Plain>) -> Quantum<D>
     }
 }
 
-fn first_mie<D: DualNum>(p: &DispersionPair<D, D::Plain>, t: &PairTerms<D>) -> Result<D, Refusal>
+fn first_mie<D: DualNum>(
+    p: &DispersionPair<D, D::Plain>,
+    t: &PairTerms<D, D::Plain, D::Base>,
+) -> Result<D, Refusal>
     ensures { (w : Bool) → answer_by (D.of w) result ≡ first_mie (D.beside w) (dispersion_by (D.plain w) (D.of w) p.now) (terms_by (D.beside w) (D.plain w) (D.of w) (D.power_at w) t.now) }
 {
     let int_a = saftvrqmie_dispersion_terms::combine_at(t, p.la)?;
@@ -111,7 +114,7 @@ fn first_mie<D: DualNum>(p: &DispersionPair<D, D::Plain>, t: &PairTerms<D>) -> R
 // A quantum correction: `more` is what the exponents grow by, qa and qr are the factors of both.
 fn first_quantum<D: DualNum>(
     p: &DispersionPair<D, D::Plain>,
-    t: &PairTerms<D>,
+    t: &PairTerms<D, D::Plain, D::Base>,
     v: D,
     more: f64,
     qa: D,
@@ -135,7 +138,7 @@ fn first_closed<D: DualNum>(p: &DispersionPair<D, D::Plain>, v: D) -> D
 
 fn first_order_at<D: DualNum>(
     p: &DispersionPair<D, D::Plain>,
-    t: &PairTerms<D>,
+    t: &PairTerms<D, D::Plain, D::Base>,
 ) -> Result<D, Refusal>
     ensures { (w : Bool) → answer_by (D.of w) result ≡ first_order_by (D.beside w) (dispersion_by (D.plain w) (D.of w) p.now) (terms_by (D.beside w) (D.plain w) (D.of w) (D.power_at w) t.now) }
 {
@@ -264,7 +267,7 @@ fn factors_of<D: DualNum, const ONE: bool>(
 
 fn second_turn<D: DualNum, const ONE: bool>(
     p: &DispersionPair<D, D::Plain>,
-    t: &PairTerms<D>,
+    t: &PairTerms<D, D::Plain, D::Base>,
     g: Quantum<D>,
     q: u32,
     a2: D,
@@ -299,7 +302,7 @@ fn second_closed<D: DualNum>(p: &DispersionPair<D, D::Plain>, g: Quantum<D>, a2:
 // The sum begins at a plain +0, which the first turn takes as a D; the hard sphere's `zero` stands in a crate beside this one.
 fn second_order_at<D: DualNum, const ONE: bool>(
     p: &DispersionPair<D, D::Plain>,
-    t: &PairTerms<D>,
+    t: &PairTerms<D, D::Plain, D::Base>,
 ) -> Result<D, Refusal>
     ensures { answer_by (D.of ONE) result ≡ second_order_by (D.beside ONE) (dispersion_by (D.plain ONE) (D.of ONE) p.now) (terms_by (D.beside ONE) (D.plain ONE) (D.of ONE) (D.power_at ONE) t.now) }
 {

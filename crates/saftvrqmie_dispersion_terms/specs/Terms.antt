@@ -98,6 +98,6 @@ module _ (A : Arith) where
   combine_sutherland_and_b F epsilon_k zeta x0 x0_eff lambda = combine lambda epsilon_k zeta (factor_i zeta) (factor_j zeta) (F.powf x0) (F.powf x0_eff)
 
 -- a pair's terms as a function of the exponent, from what all exponents share: plain numbers read by `plain`, others by `of`, and the powers of a base by `power_at`
-module _ (A : Arith) {D P B E : Type 0} (plain : P → A.Num) (of : D → A.Num) (power_at : B → A.Num → Ans A.Num) where
-  unfoldable pub terms_by : PairTerms D P B E → A.Num → Ans A.Num
+module _ (A : Arith) {D P B : Type 0} (plain : P → A.Num) (of : D → A.Num) (power_at : B → A.Num → Ans A.Num) where
+  unfoldable pub terms_by : PairTerms D P B → A.Num → Ans A.Num
   terms_by t lambda = combine A lambda (plain t.epsilon_k) (of t.zeta) (of t.factor_i) (of t.factor_j) (power_at t.x0) (power_at t.x0_eff)

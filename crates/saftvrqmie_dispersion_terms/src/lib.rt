@@ -10,15 +10,15 @@ use dual_num::DualNum;
 use mie_parameters::LAM_COEFF;
 use number::{Arithmetic, Refusal};
 
-// What all exponents of a pair share.
-#[derive(Drop)]
-pub struct PairTerms<D: DualNum> {
-    pub epsilon_k: D::Plain,
+// What all exponents of a pair share. Its types are parameters, since a struct that holds an associated type cannot be Copy.
+#[derive(Clone, Copy)]
+pub struct PairTerms<D, P, B> {
+    pub epsilon_k: P,
     pub zeta: D,
     pub factor_i: D,
     pub factor_j: D,
-    pub x0: D::Base,
-    pub x0_eff: D::Base,
+    pub x0: B,
+    pub x0_eff: B,
 }
 
 // A row of LAM_COEFF with the inverse powers of lambda.
@@ -93,9 +93,17 @@ fn b_of<D: DualNum>(epsilon_k: D::Plain, fi: D, fj: D, i: D, j: D, p: D) -> D
     p * (fi * i + fj * j) * D::Plain::lit(6.0) * epsilon_k
 }
 
-pub fn terms_of<D: DualNum>(epsilon_k: D::Plain, zeta: D, x0: D, x0_eff: D) -> PairTerms<D>
-    ensures { (w : Bool) → terms_by (D.beside w) (D.plain w) (D.of w) (D.power_at w) result
+pub fn terms_of<D: DualNum>(
+    epsilon_k: D::Plain,
+    zeta: D,
+    x0: D,
+    x0_eff: D,
+) -> PairTerms<D, D::Plain, D::Base>
+    ensures formula { (w : Bool) → terms_by (D.beside w) (D.plain w) (D.of w) (D.power_at w) result
         ≡ combine_sutherland_and_b (D.beside w) (D.functions w) (D.plain w epsilon_k) (D.of w zeta) (D.of w x0) (D.of w x0_eff) }
+    ensures handed { (result.epsilon_k ≡ epsilon_k) × (result.zeta ≡ zeta) }
+    ensures factors { (w : Bool) → (D.of w result.factor_i ≡ factor_i (D.beside w) (D.of w zeta)) × (D.of w result.factor_j ≡ factor_j (D.beside w) (D.of w zeta)) }
+    ensures bases { (result.x0 ≡ D.base_of x0) × (result.x0_eff ≡ D.base_of x0_eff) }
 {
     PairTerms {
         epsilon_k,
@@ -108,7 +116,10 @@ pub fn terms_of<D: DualNum>(epsilon_k: D::Plain, zeta: D, x0: D, x0_eff: D) -> P
 }
 
 // The terms at an exponent.
-pub fn combine_at<D: DualNum>(t: &PairTerms<D>, lambda: D::Plain) -> Result<D, Refusal>
+pub fn combine_at<D: DualNum>(
+    t: &PairTerms<D, D::Plain, D::Base>,
+    lambda: D::Plain,
+) -> Result<D, Refusal>
     ensures { (w : Bool) → answer_by (D.of w) result ≡ terms_by (D.beside w) (D.plain w) (D.of w) (D.power_at w) t.now (D.plain w lambda) }
 {
     let p = D::powf_at(t.x0, lambda)?;

@@ -6,7 +6,7 @@ use Rattle.number.specs.Ans.{Ans, held, refused, ◌>>=◌}
 use Rattle.number.specs.Arith.{Arith}
 use Rattle.number.specs.Functions.{Functions}
 use Rattle.saftvrqmie_potential.specs.Potential.{PairIn, PotentialIn, first_order, second_order, quantum_d, q1, q2, u_mie, ur_mie, urr_mie, u_quantum, ur_first, urr_first, ur_second, urr_second, corrected, scaled, line, mie, add_first, add_second, after_shared, potential}
-use Rattle.saftvrqmie_potential.specs.Shared.{Stands, Sharing, both_inside, exponents_inside, powers_by, alone, mie_from, first_from, second_from, after_factors, finished_from}
+use Rattle.saftvrqmie_potential.specs.Shared.{Stands, Sharing, both_inside, exponents_inside, powers_by, alone, mie_from, first_from, second_from, after_factors, finished_from, potential_from}
 use Rattle.saftvrqmie_potential.specs.declared.LinePowers.{LinePowers}
 use Rattle.saftvrqmie_potential.specs.declared.Shared.{Shared}
 use Rattle.saftvrqmie_potential.proofs.Lines.{both, line_by, line_refused}
@@ -44,7 +44,7 @@ module _ {N : Type 0} (v w : N) where
 
 module _ {A : Arith} {F : Functions A.Num} {D P B E : Type 0} {plain : P → A.Num} {power_at : B → A.Num → Ans A.Num} {power_by : B → E → Ans A.Num} {of : D → A.Num} {exponent_in : E → Bool}
     (base_in : B → Bool) (raised : B → E → A.Num) (law : (b : B) (n : E) → power_by b n ≡ cond (base_in b && exponent_in n) (held (raised b n)) (refused 6))
-    {p : PairIn A.Num} {s : Shared D P B E} (h : Sharing A F plain power_at power_by of exponent_in p s) {r : A.Num} {b : B} (is-b : power_at b ≡ F.powf r) where
+    {p : PairIn A.Num} {s : Shared D P E} (h : Sharing A F plain power_at power_by of exponent_in p s) {r : A.Num} {b : B} (is-b : power_at b ≡ F.powf r) where
   abbrev sr : A.Num
   sr = plain s.r.power
 
@@ -142,20 +142,20 @@ module _ {A : Arith} {F : Functions A.Num} {D P B E : Type 0} {plain : P → A.N
     alone_is = rw potential_held
 
     module _ {l0 l1 l2 : LinePowers D} (q0 : Powers s.r.e0 s.a.e0 l0) (q1 : Powers s.r.e1 s.a.e1 l1) (q2 : Powers s.r.e2 s.a.e2 l2)
-        {v res : PotentialIn A.Num} (is-v : v ≡ mie_from A plain of s l0 l1 l2) where
+        {v res : PotentialIn A.Num} (is-v : v ≡ mie_from A plain of s (powers_by of l0) (powers_by of l1) (powers_by of l2)) where
       pub order_0 : first_order s.order ≡ false → res ≡ finished_from A plain of s v → held res ≡ potential A F p r
       unfolding scaled after_shared mie_from after_factors finished_from
       order_0 k is-res =
           let t = rw h.order at k in
           rw (is-res, is-v, rr q0, ra q0, rr q1, ra q1, rr q2, ra q2, after_factors, h.r.lambda, h.a.lambda, h.r.q1, h.a.q1, h.r.q2, h.a.q2, h.d, h.ce) (sym (rw (t, not_first _ t) at potential_held))
 
-      module _ (k : first_order s.order ≡ true) {l3 l4 : LinePowers D} (q3 : Powers s.r.e3 s.a.e3 l3) (q4 : Powers s.r.e4 s.a.e4 l4) {v1 : PotentialIn A.Num} (is-v1 : v1 ≡ first_from A plain of s l2 l3 l4 v) where
+      module _ (k : first_order s.order ≡ true) {l3 l4 : LinePowers D} (q3 : Powers s.r.e3 s.a.e3 l3) (q4 : Powers s.r.e4 s.a.e4 l4) {v1 : PotentialIn A.Num} (is-v1 : v1 ≡ first_from A plain of s (powers_by of l2) (powers_by of l3) (powers_by of l4) v) where
         pub order_1 : second_order s.order ≡ false → res ≡ finished_from A plain of s v1 → held res ≡ potential A F p r
         unfolding scaled after_shared mie_from first_from after_factors finished_from
         order_1 k' is-res =
             rw (is-res, is-v1, is-v, rr q0, ra q0, rr q1, ra q1, rr q2, ra q2, rr q3, ra q3, rr q4, ra q4, after_factors, h.r.lambda, h.a.lambda, h.r.q1, h.a.q1, h.r.q2, h.a.q2, h.d, h.ce) (sym (rw (rw h.order at k, rw h.order at k') at potential_held))
 
-        pub order_2 : second_order s.order ≡ true → {l5 l6 : LinePowers D} → Powers s.r.e5 s.a.e5 l5 → Powers s.r.e6 s.a.e6 l6 → {v2 : PotentialIn A.Num} → v2 ≡ second_from A plain of s l4 l5 l6 v1 → res ≡ finished_from A plain of s v2 → held res ≡ potential A F p r
+        pub order_2 : second_order s.order ≡ true → {l5 l6 : LinePowers D} → Powers s.r.e5 s.a.e5 l5 → Powers s.r.e6 s.a.e6 l6 → {v2 : PotentialIn A.Num} → v2 ≡ second_from A plain of s (powers_by of l4) (powers_by of l5) (powers_by of l6) v1 → res ≡ finished_from A plain of s v2 → held res ≡ potential A F p r
         unfolding scaled after_shared mie_from first_from second_from after_factors finished_from
         order_2 k' q5 q6 is-v2 is-res =
             rw (is-res, is-v2, is-v1, is-v, rr q0, ra q0, rr q1, ra q1, rr q2, ra q2, rr q3, ra q3, rr q4, ra q4, rr q5, ra q5, rr q6, ra q6, after_factors, h.r.lambda, h.a.lambda, h.r.q1, h.a.q1, h.r.q2, h.a.q2, h.d, h.d2, h.ce) (sym (rw (rw h.order at k, rw h.order at k') at potential_held))
@@ -178,3 +178,53 @@ module _ {A : Arith} {F : Functions A.Num} {D P B E : Type 0} {plain : P → A.N
         unfolding after_shared scaled after_factors ◌>>=◌
         alone_2 k' q4 is-u₂ is-res =
             rw (is-res, is-u₂, is-u₁, is-u, rr q0, ra q0, rr q2, ra q2, rr q4, ra q4, after_factors, h.r.q1, h.a.q1, h.r.q2, h.a.q2, h.d, h.d2, h.ce) (rw (rw h.order at k, rw h.order at k') at alone_is)
+
+-- ---- the potential from what is shared, whatever that is
+module _ (A : Arith) {D P B E : Type 0} (plain : P → A.Num) (of : D → A.Num) (base_in : B → Bool) (raised : B → E → A.Num) (s : Shared D P E) (b : B) where
+  pub from_outside : (base_in b && s.inside) ≡ false → refused 6 ≡ potential_from A plain of base_in raised s b
+  unfolding potential_from
+  from_outside k = rw k
+
+  pub alone_from_outside : (base_in b && s.inside) ≡ false → refused 6 ≡ alone (potential_from A plain of base_in raised s b)
+  unfolding potential_from ◌>>=◌
+  alone_from_outside k = rw k
+
+  abbrev Line : E → E → LinePowers D → Type 0
+  Line n m l = powers_by of l ≡ (raised b n, raised b m)
+
+  module _ (in-all : (base_in b && s.inside) ≡ true) where
+    module _ (l0 l1 l2 : LinePowers D) (q0 : Line s.r.e0 s.a.e0 l0) (q1 : Line s.r.e1 s.a.e1 l1) (q2 : Line s.r.e2 s.a.e2 l2)
+        (v res : PotentialIn A.Num) (is-v : v ≡ mie_from A plain of s (powers_by of l0) (powers_by of l1) (powers_by of l2)) where
+      pub from_0 : first_order s.order ≡ false → res ≡ finished_from A plain of s v → held res ≡ potential_from A plain of base_in raised s b
+      unfolding potential_from
+      from_0 k is-res = rw (is-res, is-v, q0, q1, q2, in-all, k)
+
+      module _ (k : first_order s.order ≡ true) (l3 l4 : LinePowers D) (q3 : Line s.r.e3 s.a.e3 l3) (q4 : Line s.r.e4 s.a.e4 l4) (v1 : PotentialIn A.Num) (is-v1 : v1 ≡ first_from A plain of s (powers_by of l2) (powers_by of l3) (powers_by of l4) v) where
+        pub from_1 : second_order s.order ≡ false → res ≡ finished_from A plain of s v1 → held res ≡ potential_from A plain of base_in raised s b
+        unfolding potential_from
+        from_1 k' is-res = rw (is-res, is-v1, is-v, q0, q1, q2, q3, q4, in-all, k, k')
+
+        pub from_2 : second_order s.order ≡ true → (l5 l6 : LinePowers D) → Line s.r.e5 s.a.e5 l5 → Line s.r.e6 s.a.e6 l6 → (v2 : PotentialIn A.Num) → v2 ≡ second_from A plain of s (powers_by of l4) (powers_by of l5) (powers_by of l6) v1 → res ≡ finished_from A plain of s v2 → held res ≡ potential_from A plain of base_in raised s b
+        unfolding potential_from
+        from_2 k' l5 l6 q5 q6 v2 is-v2 is-res = rw (is-res, is-v2, is-v1, is-v, q0, q1, q2, q3, q4, q5, q6, in-all, k, k')
+
+    -- u alone
+    line_rr : (n m : E) (l : LinePowers D) → Line n m l → of l.rr ≡ raised b n
+    line_rr n m l q = ap (λ (z : A.Num × A.Num). z.0) q
+
+    line_ra : (n m : E) (l : LinePowers D) → Line n m l → of l.ra ≡ raised b m
+    line_ra n m l q = ap (λ (z : A.Num × A.Num). z.1) q
+
+    module _ (l0 : LinePowers D) (q0 : Line s.r.e0 s.a.e0 l0) (u res : A.Num) (is-u : u ≡ u_mie A (of l0.rr) (plain s.r.power) (of l0.ra) (plain s.a.power)) where
+      pub alone_from_0 : first_order s.order ≡ false → res ≡ after_factors A plain of s (A.mul u (plain s.ce)) → held res ≡ alone (potential_from A plain of base_in raised s b)
+      unfolding potential_from finished_from mie_from scaled ◌>>=◌
+      alone_from_0 k is-res = rw (is-res, is-u, line_rr _ _ l0 q0, line_ra _ _ l0 q0, in-all, k)
+
+      module _ (k : first_order s.order ≡ true) (l2 : LinePowers D) (q2 : Line s.r.e2 s.a.e2 l2) (u₁ : A.Num) (is-u₁ : u₁ ≡ A.add u (A.mul (of s.d) (u_quantum A (plain s.r.q1) (plain s.a.q1) (of l2.rr) (plain s.r.power) (of l2.ra) (plain s.a.power)))) where
+        pub alone_from_1 : second_order s.order ≡ false → res ≡ after_factors A plain of s (A.mul u₁ (plain s.ce)) → held res ≡ alone (potential_from A plain of base_in raised s b)
+        unfolding potential_from finished_from mie_from first_from scaled ◌>>=◌
+        alone_from_1 k' is-res = rw (is-res, is-u₁, is-u, line_rr _ _ l0 q0, line_ra _ _ l0 q0, line_rr _ _ l2 q2, line_ra _ _ l2 q2, in-all, k, k')
+
+        pub alone_from_2 : second_order s.order ≡ true → (l4 : LinePowers D) → Line s.r.e4 s.a.e4 l4 → (u₂ : A.Num) → u₂ ≡ A.add u₁ (A.mul (of s.d2) (u_quantum A (plain s.r.q2) (plain s.a.q2) (of l4.rr) (plain s.r.power) (of l4.ra) (plain s.a.power))) → res ≡ after_factors A plain of s (A.mul u₂ (plain s.ce)) → held res ≡ alone (potential_from A plain of base_in raised s b)
+        unfolding potential_from finished_from mie_from first_from second_from scaled ◌>>=◌
+        alone_from_2 k' l4 q4 u₂ is-u₂ is-res = rw (is-res, is-u₂, is-u₁, is-u, line_rr _ _ l0 q0, line_ra _ _ l0 q0, line_rr _ _ l2 q2, line_ra _ _ l2 q2, line_rr _ _ l4 q4, line_ra _ _ l4 q4, in-all, k, k')

@@ -29,7 +29,7 @@ module _ (A : Arith) (F : Functions A.Num) (p : PairIn A.Num) (r sr sa : A.Num) 
   line_is e e' f = made (F.powf r e) (F.powf r e') f
 
 module _ {A : Arith} {F : Functions A.Num} {D P B E : Type 0} {plain : P → A.Num} {power_at : B → A.Num → Ans A.Num} {power_by : B → E → Ans A.Num} {of : D → A.Num} {exponent_in : E → Bool}
-    {p : PairIn A.Num} {s : Shared D P B E} (h : Sharing A F plain power_at power_by of exponent_in p s) {r : A.Num} {b : B} (is-b : power_at b ≡ F.powf r) where
+    {p : PairIn A.Num} {s : Shared D P E} (h : Sharing A F plain power_at power_by of exponent_in p s) {r : A.Num} {b : B} (is-b : power_at b ≡ F.powf r) where
   at : {n : E} {e : A.Num} → Stands power_at power_by n e → F.powf r e ≡ power_by b n
   at {e = e} k = sym (k b ∙ ap (λ (f : A.Num → Ans A.Num). f e) is-b)
 

@@ -6,7 +6,6 @@ use Rattle.number.specs.Ans.{Ans, held, refused, ◌>>=◌}
 use Rattle.number.specs.Arith.{Arith, floats, whole}
 use Rattle.number.specs.Functions.{Functions, calls}
 use Rattle.elementary.specs.Port.{port}
-use Rattle.dual_num.specs.declared.FloatBase.{FloatBase}
 use Rattle.dual_num.specs.declared.FloatExponent.{FloatExponent}
 use Rattle.dual_num.specs.Base.{float_power, float_power_by}
 use Rattle.saftvrqmie_parameters.specs.declared.FeynmanHibbsOrder.{FeynmanHibbsOrder}
@@ -28,7 +27,7 @@ abbrev pub both_inside : {E : Type 0} → (E → Bool) → E → E → Bool
 both_inside exponent_in er ea = exponent_in er && exponent_in ea
 
 -- those of the lines that the order has
-unfoldable pub exponents_inside : {D P B E : Type 0} → (E → Bool) → FeynmanHibbsOrder → Term D P B E → Term D P B E → Bool
+unfoldable pub exponents_inside : {P E : Type 0} → (E → Bool) → FeynmanHibbsOrder → Term P E → Term P E → Bool
 exponents_inside exponent_in order r a =
     let inside = both_inside exponent_in in
     (inside r.e0 a.e0 && (inside r.e1 a.e1 && inside r.e2 a.e2))
@@ -41,9 +40,9 @@ module _ {B E N : Type 0} where
   Stands power_at power_by n e = (b : B) → power_by b n ≡ power_at b e
 
 -- ---- what is shared: plain numbers read by `plain`, others by `of`, and the powers of a base at a number or by an exponent
-module _ (A : Arith) (F : Functions A.Num) {D P B E : Type 0} (plain : P → A.Num) (power_at : B → A.Num → Ans A.Num) (power_by : B → E → Ans A.Num) where
+module _ (A : Arith) (F : Functions A.Num) {P B E : Type 0} (plain : P → A.Num) (power_at : B → A.Num → Ans A.Num) (power_by : B → E → Ans A.Num) where
   -- the term of the exponent l
-  pub record TermOf (sigma l : A.Num) (t : Term D P B E) : Type 0 where
+  pub record TermOf (sigma l : A.Num) (t : Term P E) : Type 0 where
     pub lambda : plain t.lambda ≡ l
     pub q1 : plain t.q1 ≡ q1 A l
     pub q2 : plain t.q2 ≡ q2 A l
@@ -56,12 +55,12 @@ module _ (A : Arith) (F : Functions A.Num) {D P B E : Type 0} (plain : P → A.N
     pub e5 : Stands power_at power_by t.e5 (A.add l (whole A 5))
     pub e6 : Stands power_at power_by t.e6 (A.add l (whole A 6))
 
-  abbrev pub IsTerm : A.Num → A.Num → Result (Term D P B E) Refusal → Type 0
+  abbrev pub IsTerm : A.Num → A.Num → Result (Term P E) Refusal → Type 0
   IsTerm sigma l (Ok t) = TermOf sigma l t
   IsTerm sigma l (Err e) = F.powf sigma l ≡ refused (code e)
 
-  module _ (of : D → A.Num) (exponent_in : E → Bool) where
-    pub record Sharing (p : PairIn A.Num) (s : Shared D P B E) : Type 0 where
+  module _ {D : Type 0} (of : D → A.Num) (exponent_in : E → Bool) where
+    pub record Sharing (p : PairIn A.Num) (s : Shared D P E) : Type 0 where
       pub r : TermOf p.sigma p.lr s.r
       pub a : TermOf p.sigma p.la s.a
       pub d : of s.d ≡ quantum_d A F p.mass p.temperature
@@ -71,13 +70,13 @@ module _ (A : Arith) (F : Functions A.Num) {D P B E : Type 0} (plain : P → A.N
       pub inside : s.inside ≡ exponents_inside exponent_in s.order s.r s.a
 
     -- what is shared, or that no radius has a potential
-    abbrev pub Shares : PairIn A.Num → Result (Shared D P B E) Refusal → Type 0
+    abbrev pub Shares : PairIn A.Num → Result (Shared D P E) Refusal → Type 0
     Shares p (Ok s) = Sharing p s
     Shares p (Err e) = (r : A.Num) → potential A F p r ≡ refused (code e)
 
 -- in floats
 abbrev pub FloatShared : Type 0
-FloatShared = Shared Float Float FloatBase FloatExponent
+FloatShared = Shared Float Float FloatExponent
 
 abbrev pub FloatSharing : PairIn Float → FloatShared → Type 0
 FloatSharing = Sharing floats (calls floats port) (λ x. x) float_power float_power_by (λ x. x) (λ n. n.inside)
@@ -86,7 +85,7 @@ abbrev pub FloatShares : PairIn Float → Result FloatShared Refusal → Type 0
 FloatShares = Shares floats (calls floats port) (λ x. x) float_power float_power_by (λ x. x) (λ n. n.inside)
 
 -- ---- the potential from what is shared, and from the powers of its lines
-module _ (A : Arith) {D P B E : Type 0} (plain : P → A.Num) (of : D → A.Num) (s : Shared D P B E) where
+module _ (A : Arith) {D P E : Type 0} (plain : P → A.Num) (of : D → A.Num) (s : Shared D P E) where
   abbrev lr : A.Num
   lr = plain s.r.lambda
 
@@ -99,30 +98,63 @@ module _ (A : Arith) {D P B E : Type 0} (plain : P → A.Num) (of : D → A.Num)
   abbrev sa : A.Num
   sa = plain s.a.power
 
-  unfoldable pub mie_from : LinePowers D → LinePowers D → LinePowers D → PotentialIn A.Num
+  unfoldable pub mie_from : A.Num × A.Num → A.Num × A.Num → A.Num × A.Num → PotentialIn A.Num
   mie_from l0 l1 l2 =
       record {
-        u = u_mie A (of l0.rr) sr (of l0.ra) sa;
-        u_r = ur_mie A lr la (of l1.rr) sr (of l1.ra) sa;
-        u_rr = urr_mie A lr la (of l2.rr) sr (of l2.ra) sa;
+        u = u_mie A l0.0 sr l0.1 sa;
+        u_r = ur_mie A lr la l1.0 sr l1.1 sa;
+        u_rr = urr_mie A lr la l2.0 sr l2.1 sa;
       }
 
-  unfoldable pub first_from : LinePowers D → LinePowers D → LinePowers D → PotentialIn A.Num → PotentialIn A.Num
+  unfoldable pub first_from : A.Num × A.Num → A.Num × A.Num → A.Num × A.Num → PotentialIn A.Num → PotentialIn A.Num
   first_from l2 l3 l4 v =
       corrected A (of s.d) v
-      (u_quantum A (plain s.r.q1) (plain s.a.q1) (of l2.rr) sr (of l2.ra) sa)
-      (ur_first A lr la (plain s.r.q1) (plain s.a.q1) (of l3.rr) sr (of l3.ra) sa)
-      (urr_first A lr la (plain s.r.q1) (plain s.a.q1) (of l4.rr) sr (of l4.ra) sa)
+      (u_quantum A (plain s.r.q1) (plain s.a.q1) l2.0 sr l2.1 sa)
+      (ur_first A lr la (plain s.r.q1) (plain s.a.q1) l3.0 sr l3.1 sa)
+      (urr_first A lr la (plain s.r.q1) (plain s.a.q1) l4.0 sr l4.1 sa)
 
-  unfoldable pub second_from : LinePowers D → LinePowers D → LinePowers D → PotentialIn A.Num → PotentialIn A.Num
+  unfoldable pub second_from : A.Num × A.Num → A.Num × A.Num → A.Num × A.Num → PotentialIn A.Num → PotentialIn A.Num
   second_from l4 l5 l6 v =
       corrected A (of s.d2) v
-      (u_quantum A (plain s.r.q2) (plain s.a.q2) (of l4.rr) sr (of l4.ra) sa)
-      (ur_second A lr la (plain s.r.q2) (plain s.a.q2) (of l5.rr) sr (of l5.ra) sa)
-      (urr_second A lr la (plain s.r.q2) (plain s.a.q2) (of l6.rr) sr (of l6.ra) sa)
+      (u_quantum A (plain s.r.q2) (plain s.a.q2) l4.0 sr l4.1 sa)
+      (ur_second A lr la (plain s.r.q2) (plain s.a.q2) l5.0 sr l5.1 sa)
+      (urr_second A lr la (plain s.r.q2) (plain s.a.q2) l6.0 sr l6.1 sa)
 
   unfoldable pub after_factors : A.Num → A.Num
   after_factors u = A.after (plain s.r.q1) (A.after (plain s.a.q1) (A.after (plain s.r.q2) (A.after (plain s.a.q2) (A.after (of s.d) u))))
 
   unfoldable pub finished_from : PotentialIn A.Num → PotentialIn A.Num
   finished_from v = let x = scaled A (plain s.ce) v in record { u = after_factors x.u; u_r = x.u_r; u_rr = x.u_rr }
+
+-- ---- the potential at a radius from what is shared, whatever that is, by the base of the radius's powers
+module _ (A : Arith) {D P B E : Type 0} (plain : P → A.Num) (of : D → A.Num) (base_in : B → Bool) (raised : B → E → A.Num) (s : Shared D P E) (b : B) where
+  abbrev line_from : E → E → A.Num × A.Num
+  line_from er ea = (raised b er, raised b ea)
+
+  abbrev v₀ : PotentialIn A.Num
+  v₀ = mie_from A plain of s (line_from s.r.e0 s.a.e0) (line_from s.r.e1 s.a.e1) (line_from s.r.e2 s.a.e2)
+
+  abbrev v₁ : PotentialIn A.Num
+  v₁ = first_from A plain of s (line_from s.r.e2 s.a.e2) (line_from s.r.e3 s.a.e3) (line_from s.r.e4 s.a.e4) v₀
+
+  abbrev v₂ : PotentialIn A.Num
+  v₂ = second_from A plain of s (line_from s.r.e4 s.a.e4) (line_from s.r.e5 s.a.e5) (line_from s.r.e6 s.a.e6) v₁
+
+  -- the lines of the order, 6 where the base or an exponent of the order is outside
+  unfoldable pub potential_from : Ans (PotentialIn A.Num)
+  potential_from = cond (base_in b && s.inside) (held (finished_from A plain of s (cond (first_order s.order) (cond (second_order s.order) v₂ v₁) v₀))) (refused 6)
+
+-- ---- a potential U that is given at each radius: by what is shared, or by all that the code says of what it answers
+module _ (A : Arith) (F : Functions A.Num) {D P B E : Type 0} (plain : P → A.Num) (power_at : B → A.Num → Ans A.Num) (power_by : B → E → Ans A.Num) (of : D → A.Num) (exponent_in : E → Bool)
+    (base_in : B → Bool) (raised : B → E → A.Num) (base_of : D → B) (s : Shared D P E) (U : A.Num → Ans (PotentialIn A.Num)) where
+  abbrev pub Gives : Type 0
+  Gives = (r : D) → potential_from A plain of base_in raised s (base_of r) ≡ U (of r)
+
+  abbrev pub Told : Type 0
+  Told = (r : D) (a : Ans (PotentialIn A.Num)) → ((p : PairIn A.Num) → Sharing A F plain power_at power_by of exponent_in p s → a ≡ potential A F p (of r))
+      → a ≡ potential_from A plain of base_in raised s (base_of r) → a ≡ U (of r)
+
+  -- of u alone
+  abbrev pub ToldAlone : Type 0
+  ToldAlone = (r : D) (a : Ans A.Num) → ((p : PairIn A.Num) → Sharing A F plain power_at power_by of exponent_in p s → a ≡ alone (potential A F p (of r)))
+      → a ≡ alone (potential_from A plain of base_in raised s (base_of r)) → a ≡ alone (U (of r))

@@ -6,7 +6,7 @@ ghost use Rattle.std.specs.Prelude.{◌≡◌, ◌<◌, false, Bool};
 ghost use Rattle.number.specs.Answer.{answer_by};
 ghost use Rattle.sizes.specs.Sizes.{sheet};
 ghost use Rattle.saftvrqmie_potential.specs.Potential.{PairIn, prefactor, pair_by, pair_at_entry, potential_by, first_order, second_order, quantum_d, q1, q2, u_mie, u_quantum, potential};
-ghost use Rattle.saftvrqmie_potential.specs.Shared.{alone, IsTerm, Sharing, Shares, powers_by, both_inside, exponents_inside, mie_from, first_from, second_from, after_factors, finished_from};
+ghost use Rattle.saftvrqmie_potential.specs.Shared.{alone, IsTerm, Sharing, Shares, powers_by, both_inside, exponents_inside, mie_from, first_from, second_from, after_factors, finished_from, potential_from};
 
 use dual_num::DualNum;
 use number::{Arithmetic, Refusal};
@@ -37,30 +37,30 @@ pub struct QMiePotential<D> {
     pub u_rr: D,
 }
 
-// One of the two terms: its exponent, its factors, sigma to its exponent, and the exponents of its lines. Fields, not an array: each is worked by a text of its own and read by its name.
-#[derive(Drop)]
-pub struct Term<D: DualNum> {
-    pub lambda: D::Plain,
-    pub q1: D::Plain,
-    pub q2: D::Plain,
-    pub power: D::Plain,
-    pub e0: D::Exponent,
-    pub e1: D::Exponent,
-    pub e2: D::Exponent,
-    pub e3: D::Exponent,
-    pub e4: D::Exponent,
-    pub e5: D::Exponent,
-    pub e6: D::Exponent,
+// One of the two terms: its exponent, its factors, sigma to its exponent, and the exponents of its lines. Fields, not an array: each is worked by a text of its own and read by its name. Its types are parameters, since a struct that holds an associated type cannot be Copy.
+#[derive(Clone, Copy)]
+pub struct Term<P, E> {
+    pub lambda: P,
+    pub q1: P,
+    pub q2: P,
+    pub power: P,
+    pub e0: E,
+    pub e1: E,
+    pub e2: E,
+    pub e3: E,
+    pub e4: E,
+    pub e5: E,
+    pub e6: E,
 }
 
 // What all radii of a pair share, and whether the exponents of its order lie within the power's domain. A flag: an Option of the exponents would say too much, as those that the order leaves out may lie outside. Sharing stands in the clause of each function that reads one: a ghost field cannot keep it, since numbers of any run need not have one proof of an equation.
-#[derive(Drop)]
-pub struct Shared<D: DualNum> {
-    pub r: Term<D>,
-    pub a: Term<D>,
+#[derive(Clone, Copy)]
+pub struct Shared<D, P, E> {
+    pub r: Term<P, E>,
+    pub a: Term<P, E>,
     pub d: D,
     pub d2: D,
-    pub ce: D::Plain,
+    pub ce: P,
     pub order: FeynmanHibbsOrder,
     pub inside: bool,
 }
@@ -181,7 +181,7 @@ pub fn q2_of<D: DualNum>(l: D::Plain) -> D::Plain
 }
 
 // Refuses with 6 where sigma has no power.
-fn term_of<D: DualNum>(sigma: D::Plain, l: D::Plain) -> Result<Term<D>, Refusal>
+fn term_of<D: DualNum>(sigma: D::Plain, l: D::Plain) -> Result<Term<D::Plain, D::Exponent>, Refusal>
     ensures { (w : Bool) → IsTerm (D.beside w) (D.functions w) (D.plain w) (D.power_at w) (D.power_by w) (D.plain w sigma) (D.plain w l) result }
 {
     let power = D::plain_powf(sigma, l)?;
@@ -208,7 +208,11 @@ fn both_inside<D: DualNum>(er: D::Exponent, ea: D::Exponent) -> bool
 }
 
 // Those of the lines that the order has.
-fn exponents_inside<D: DualNum>(order: FeynmanHibbsOrder, r: &Term<D>, a: &Term<D>) -> bool
+fn exponents_inside<D: DualNum>(
+    order: FeynmanHibbsOrder,
+    r: &Term<D::Plain, D::Exponent>,
+    a: &Term<D::Plain, D::Exponent>,
+) -> bool
     ensures { result ≡ exponents_inside D.exponent_in order r.now a.now }
 {
     let at2 = both_inside::<D>(r.e2, a.e2);
@@ -220,13 +224,13 @@ fn exponents_inside<D: DualNum>(order: FeynmanHibbsOrder, r: &Term<D>, a: &Term<
 }
 
 // Refuses with 6 where sigma has no power: then no radius has a potential.
-pub fn share<D: DualNum>(p: &Pair<D, D::Plain>) -> Result<Shared<D>, Refusal>
+pub fn share<D: DualNum>(p: &Pair<D, D::Plain>) -> Result<Shared<D, D::Plain, D::Exponent>, Refusal>
     ensures { (w : Bool) → Shares (D.beside w) (D.functions w) (D.plain w) (D.power_at w) (D.power_by w) (D.of w) D.exponent_in (pair_by (D.plain w) (D.of w) p.now) result }
 {
     let r = term_of::<D>(p.sigma, p.lr)?;
     let a = term_of::<D>(p.sigma, p.la)?;
     let order = p.order;
-    let inside = exponents_inside(order, &r, &a);
+    let inside = exponents_inside::<D>(order, &r, &a);
     let d = quantum_d(p.mass, p.temperature);
     Ok(Shared {
         r,
@@ -250,7 +254,7 @@ fn line_at<D: DualNum>(base: D::Base, er: D::Exponent, ea: D::Exponent) -> LineP
 }
 
 // u of order 0, and what each further order adds to it, before d or its square.
-fn u_mie<D: DualNum>(s: &Shared<D>, l: LinePowers<D>) -> D
+fn u_mie<D: DualNum>(s: &Shared<D, D::Plain, D::Exponent>, l: LinePowers<D>) -> D
     ensures { (w : Bool) → D.of w result ≡ u_mie (D.beside w) (D.of w l.rr) (D.plain w s.now.r.power) (D.of w l.ra) (D.plain w s.now.a.power) }
 {
     let sr = s.r.power;
@@ -259,7 +263,12 @@ fn u_mie<D: DualNum>(s: &Shared<D>, l: LinePowers<D>) -> D
 }
 
 // u_mie is not this at factors of 1: each product is an operation, which counts.
-fn u_quantum<D: DualNum>(s: &Shared<D>, qr: D::Plain, qa: D::Plain, l: LinePowers<D>) -> D
+fn u_quantum<D: DualNum>(
+    s: &Shared<D, D::Plain, D::Exponent>,
+    qr: D::Plain,
+    qa: D::Plain,
+    l: LinePowers<D>,
+) -> D
     ensures { (w : Bool) → D.of w result ≡ u_quantum (D.beside w) (D.plain w qr) (D.plain w qa) (D.of w l.rr) (D.plain w s.now.r.power) (D.of w l.ra) (D.plain w s.now.a.power) }
 {
     let sr = s.r.power;
@@ -269,12 +278,12 @@ fn u_quantum<D: DualNum>(s: &Shared<D>, qr: D::Plain, qa: D::Plain, l: LinePower
 
 // The lines of order 0, from their powers.
 fn mie<D: DualNum>(
-    s: &Shared<D>,
+    s: &Shared<D, D::Plain, D::Exponent>,
     l0: LinePowers<D>,
     l1: LinePowers<D>,
     l2: LinePowers<D>,
 ) -> QMiePotential<D>
-    ensures { (w : Bool) → potential_by (D.of w) result ≡ mie_from (D.beside w) (D.plain w) (D.of w) s.now l0 l1 l2 }
+    ensures { (w : Bool) → potential_by (D.of w) result ≡ mie_from (D.beside w) (D.plain w) (D.of w) s.now (powers_by (D.of w) l0) (powers_by (D.of w) l1) (powers_by (D.of w) l2) }
 {
     let one = D::Plain::lit(1.0);
     let lr = s.r.lambda;
@@ -290,13 +299,13 @@ fn mie<D: DualNum>(
 
 // The lines of the first order, added.
 fn add_first<D: DualNum>(
-    s: &Shared<D>,
+    s: &Shared<D, D::Plain, D::Exponent>,
     l2: LinePowers<D>,
     l3: LinePowers<D>,
     l4: LinePowers<D>,
     v: QMiePotential<D>,
 ) -> QMiePotential<D>
-    ensures { potential_by (D.of false) result ≡ first_from (D.beside false) (D.plain false) (D.of false) s.now l2 l3 l4 (potential_by (D.of false) v) }
+    ensures { potential_by (D.of false) result ≡ first_from (D.beside false) (D.plain false) (D.of false) s.now (powers_by (D.of false) l2) (powers_by (D.of false) l3) (powers_by (D.of false) l4) (potential_by (D.of false) v) }
 {
     let two = D::Plain::lit(2.0);
     let three = D::Plain::lit(3.0);
@@ -319,13 +328,13 @@ fn add_first<D: DualNum>(
 
 // The lines of the second order, added. Beside the first order's they differ in two numbers and in where the first line's minus stands, which the roundings follow.
 fn add_second<D: DualNum>(
-    s: &Shared<D>,
+    s: &Shared<D, D::Plain, D::Exponent>,
     l4: LinePowers<D>,
     l5: LinePowers<D>,
     l6: LinePowers<D>,
     v: QMiePotential<D>,
 ) -> QMiePotential<D>
-    ensures { (w : Bool) → potential_by (D.of w) result ≡ second_from (D.beside w) (D.plain w) (D.of w) s.now l4 l5 l6 (potential_by (D.of w) v) }
+    ensures { (w : Bool) → potential_by (D.of w) result ≡ second_from (D.beside w) (D.plain w) (D.of w) s.now (powers_by (D.of w) l4) (powers_by (D.of w) l5) (powers_by (D.of w) l6) (potential_by (D.of w) v) }
 {
     let four = D::Plain::lit(4.0);
     let five = D::Plain::lit(5.0);
@@ -347,7 +356,7 @@ fn add_second<D: DualNum>(
 }
 
 // The factors are worked at every order, whether used or not.
-fn after_shared<D: DualNum>(s: &Shared<D>, u: D) -> D
+fn after_shared<D: DualNum>(s: &Shared<D, D::Plain, D::Exponent>, u: D) -> D
     ensures { (w : Bool) → D.of w result ≡ after_factors (D.beside w) (D.plain w) (D.of w) s.now (D.of w u) }
 {
     let after_q2 = u.after(s.d).after_plain(s.a.q2).after_plain(s.r.q2);
@@ -355,7 +364,10 @@ fn after_shared<D: DualNum>(s: &Shared<D>, u: D) -> D
 }
 
 // What a radius ends with, at every order.
-fn finished<D: DualNum>(s: &Shared<D>, v: QMiePotential<D>) -> QMiePotential<D>
+fn finished<D: DualNum>(
+    s: &Shared<D, D::Plain, D::Exponent>,
+    v: QMiePotential<D>,
+) -> QMiePotential<D>
     ensures { (w : Bool) → potential_by (D.of w) result ≡ finished_from (D.beside w) (D.plain w) (D.of w) s.now (potential_by (D.of w) v) }
 {
     let ce = s.ce;
@@ -367,9 +379,13 @@ fn finished<D: DualNum>(s: &Shared<D>, v: QMiePotential<D>) -> QMiePotential<D>
 }
 
 // The potential at a radius, from what the pair's radii share. All that its powers refuse is tested once. Powers that two orders have are handed on.
-pub fn potential_at<D: DualNum>(s: &Shared<D>, r: D) -> Result<QMiePotential<D>, Refusal>
-    ensures { (p : PairIn (D.beside false).Num) → Sharing (D.beside false) (D.functions false) (D.plain false) (D.power_at false) (D.power_by false) (D.of false) D.exponent_in p s.now
+pub fn potential_at<D: DualNum>(
+    s: &Shared<D, D::Plain, D::Exponent>,
+    r: D,
+) -> Result<QMiePotential<D>, Refusal>
+    ensures formula { (p : PairIn (D.beside false).Num) → Sharing (D.beside false) (D.functions false) (D.plain false) (D.power_at false) (D.power_by false) (D.of false) D.exponent_in p s.now
         → answer_by (potential_by (D.of false)) result ≡ potential (D.beside false) (D.functions false) p (D.of false r) }
+    ensures staged { answer_by (potential_by (D.of false)) result ≡ potential_from (D.beside false) (D.plain false) (D.of false) D.base_in (D.raised false) s.now (D.base_of r) }
 {
     let base = r.base();
     if !(D::base_inside(base) & s.inside) {
@@ -394,9 +410,10 @@ pub fn potential_at<D: DualNum>(s: &Shared<D>, r: D) -> Result<QMiePotential<D>,
 }
 
 // The potential alone, where nothing reads its derivatives. Their powers need not be worked: what they refuse was tested once for the pair.
-pub fn u_at<D: DualNum>(s: &Shared<D>, r: D) -> Result<D, Refusal>
-    ensures { (w : Bool) (p : PairIn (D.beside w).Num) → Sharing (D.beside w) (D.functions w) (D.plain w) (D.power_at w) (D.power_by w) (D.of w) D.exponent_in p s.now
+pub fn u_at<D: DualNum>(s: &Shared<D, D::Plain, D::Exponent>, r: D) -> Result<D, Refusal>
+    ensures formula { (w : Bool) (p : PairIn (D.beside w).Num) → Sharing (D.beside w) (D.functions w) (D.plain w) (D.power_at w) (D.power_by w) (D.of w) D.exponent_in p s.now
         → answer_by (D.of w) result ≡ alone (potential (D.beside w) (D.functions w) p (D.of w r)) }
+    ensures staged { (w : Bool) → answer_by (D.of w) result ≡ alone (potential_from (D.beside w) (D.plain w) (D.of w) D.base_in (D.raised w) s.now (D.base_of r)) }
 {
     let base = r.base();
     if !(D::base_inside(base) & s.inside) {

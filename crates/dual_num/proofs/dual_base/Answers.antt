@@ -5,4 +5,4 @@ use Rattle.dual_num.proofs.dual_base.Goals as goal
 
 pub returns : goal.returns
 unfolding dual_of
-returns c = rw c.float_base.ensures.value (dual_is _)
+returns c = record { power = rw c.float_base.ensures.value (dual_is _); value = rw c.float_base.ensures.value }

@@ -3,4 +3,4 @@ use Rattle.dual_num.proofs.Powers.{enclosure_is}
 use Rattle.dual_num.proofs.enclosure_base.Goals as goal
 
 pub returns : goal.returns
-returns c = rw c.float_base.ensures.value (enclosure_is _)
+returns c = record { power = rw c.float_base.ensures.value (enclosure_is _); value = rw c.float_base.ensures.value }

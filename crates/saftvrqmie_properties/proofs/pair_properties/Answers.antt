@@ -23,7 +23,7 @@ returns-in_err-s g c =
     let of = answer_by (counted_by (d.of false)) in
     let w = subst (Shares (d.beside false) (d.functions false) (d.plain false) (d.power_at false) (d.power_by false) (d.of false) d.exponent_in _) c.in_ok-w.was (c.share.ensures false) in
     let x = rw (c.lift.ensures false, m.plain_lit_law false _ _ c.lit.ensures) at (m.mul_plain_law false _ _ _ c.mul-sigma.ensures) in
-    rw (handed_on _ c.from_residual-in_err-s.ensures) (no_sigma _ _ _ _ _ _ _ x _ (via of (c.sigma_search.ensures _ w) c.in_err-s.was))
+    rw (handed_on _ c.from_residual-in_err-s.ensures) (no_sigma _ _ _ _ _ _ _ x _ (via of (c.sigma_search.ensures.formula _ w) c.in_err-s.was))
 
 pub returns-in_err-z : goal.returns-in_err-z
 unfolding decimal of_bits
@@ -33,9 +33,9 @@ returns-in_err-z g c =
     let of = answer_by (counted_by (d.of false)) in
     let w = subst (Shares (d.beside false) (d.functions false) (d.plain false) (d.power_at false) (d.power_by false) (d.of false) d.exponent_in _) c.in_ok-w.was (c.share.ensures false) in
     let x = rw (c.lift.ensures false, m.plain_lit_law false _ _ c.lit.ensures) at (m.mul_plain_law false _ _ _ c.mul-sigma.ensures) in
-    let s = via of (c.sigma_search.ensures _ w) c.in_ok-s.was in
+    let s = via of (c.sigma_search.ensures.formula _ w) c.in_ok-s.was in
     let sigma = radius_by (d.of false) _ _ c.radius-sigma_eff.ensures in
-    rw (handed_on _ c.from_residual-in_err-z.ensures) (no_zero _ _ _ _ _ _ _ x _ s _ sigma _ (via of (c.zero_search.ensures _ w) c.in_err-z.was))
+    rw (handed_on _ c.from_residual-in_err-z.ensures) (no_zero _ _ _ _ _ _ _ x _ s _ sigma _ (via of (c.zero_search.ensures.formula _ w) c.in_err-z.was))
 
 pub returns-in_err-d : goal.returns-in_err-d
 unfolding decimal of_bits
@@ -45,11 +45,11 @@ returns-in_err-d g c =
     let of = answer_by (counted_by (d.of false)) in
     let w = subst (Shares (d.beside false) (d.functions false) (d.plain false) (d.power_at false) (d.power_by false) (d.of false) d.exponent_in _) c.in_ok-w.was (c.share.ensures false) in
     let x = rw (c.lift.ensures false, m.plain_lit_law false _ _ c.lit.ensures) at (m.mul_plain_law false _ _ _ c.mul-sigma.ensures) in
-    let s = via of (c.sigma_search.ensures _ w) c.in_ok-s.was in
+    let s = via of (c.sigma_search.ensures.formula _ w) c.in_ok-s.was in
     let sigma = radius_by (d.of false) _ _ c.radius-sigma_eff.ensures in
-    let z = via of (c.zero_search.ensures _ w) c.in_ok-z.was in
+    let z = via of (c.zero_search.ensures.formula _ w) c.in_ok-z.was in
     let r0 = radius_by (d.of false) _ _ c.radius.ensures in
-    rw (handed_on _ c.from_residual-in_err-d.ensures) (no_diameter _ _ _ _ _ _ _ x _ s _ sigma _ z _ r0 _ (via (answer_by (d.of false)) (c.diameter_by.ensures _ w) c.in_err-d.was))
+    rw (handed_on _ c.from_residual-in_err-d.ensures) (no_diameter _ _ _ _ _ _ _ x _ s _ sigma _ z _ r0 _ (via (answer_by (d.of false)) (c.diameter_by.ensures.formula _ w) c.in_err-d.was))
 
 pub returns-in_err-e : goal.returns-in_err-e
 unfolding decimal of_bits
@@ -59,12 +59,12 @@ returns-in_err-e g c =
     let of = answer_by (counted_by (d.of false)) in
     let w = subst (Shares (d.beside false) (d.functions false) (d.plain false) (d.power_at false) (d.power_by false) (d.of false) d.exponent_in _) c.in_ok-w.was (c.share.ensures false) in
     let x = rw (c.lift.ensures false, m.plain_lit_law false _ _ c.lit.ensures) at (m.mul_plain_law false _ _ _ c.mul-sigma.ensures) in
-    let s = via of (c.sigma_search.ensures _ w) c.in_ok-s.was in
+    let s = via of (c.sigma_search.ensures.formula _ w) c.in_ok-s.was in
     let sigma = radius_by (d.of false) _ _ c.radius-sigma_eff.ensures in
-    let z = via of (c.zero_search.ensures _ w) c.in_ok-z.was in
+    let z = via of (c.zero_search.ensures.formula _ w) c.in_ok-z.was in
     let r0 = radius_by (d.of false) _ _ c.radius.ensures in
-    let y = via (answer_by (d.of false)) (c.diameter_by.ensures _ w) c.in_ok-d.was in
-    rw (handed_on _ c.from_residual-in_err-e.ensures) (no_depth _ _ _ _ _ _ _ x _ s _ sigma _ z _ r0 _ y _ (via of (c.depth_search.ensures _ w) c.in_err-e.was))
+    let y = via (answer_by (d.of false)) (c.diameter_by.ensures.formula _ w) c.in_ok-d.was in
+    rw (handed_on _ c.from_residual-in_err-e.ensures) (no_depth _ _ _ _ _ _ _ x _ s _ sigma _ z _ r0 _ y _ (via of (c.depth_search.ensures.formula _ w) c.in_err-e.was))
 
 pub returns : goal.returns
 unfolding decimal of_bits
@@ -74,9 +74,9 @@ returns g c =
     let of = answer_by (counted_by (d.of false)) in
     let w = subst (Shares (d.beside false) (d.functions false) (d.plain false) (d.power_at false) (d.power_by false) (d.of false) d.exponent_in _) c.in_ok-w.was (c.share.ensures false) in
     let x = rw (c.lift.ensures false, m.plain_lit_law false _ _ c.lit.ensures) at (m.mul_plain_law false _ _ _ c.mul-sigma.ensures) in
-    let s = via of (c.sigma_search.ensures _ w) c.in_ok-s.was in
+    let s = via of (c.sigma_search.ensures.formula _ w) c.in_ok-s.was in
     let sigma = radius_by (d.of false) _ _ c.radius-sigma_eff.ensures in
-    let z = via of (c.zero_search.ensures _ w) c.in_ok-z.was in
+    let z = via of (c.zero_search.ensures.formula _ w) c.in_ok-z.was in
     let r0 = radius_by (d.of false) _ _ c.radius.ensures in
-    let y = via (answer_by (d.of false)) (c.diameter_by.ensures _ w) c.in_ok-d.was in
-    properties_are _ _ _ _ _ _ _ x _ s _ sigma _ z _ r0 _ y (g.met.D.WithoutEnds.after_law false) _ _ _ _ (via of (c.depth_search.ensures _ w) c.in_ok-e.was) (last_by (d.of false) _ _ c.last_potential.ensures) (m.neg_law false _ _ c.neg.ensures) (c.quantum_d.ensures false)
+    let y = via (answer_by (d.of false)) (c.diameter_by.ensures.formula _ w) c.in_ok-d.was in
+    properties_are _ _ _ _ _ _ _ x _ s _ sigma _ z _ r0 _ y (g.met.D.WithoutEnds.after_law false) _ _ _ _ (via of (c.depth_search.ensures.formula _ w) c.in_ok-e.was) (last_by (d.of false) _ _ c.last_potential.ensures) (m.neg_law false _ _ c.neg.ensures) (c.quantum_d.ensures false)

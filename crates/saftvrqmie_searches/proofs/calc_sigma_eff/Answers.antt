@@ -15,4 +15,4 @@ returns-in_err-w c = rw (handed_on _ c.from_residual.ensures) (no_sigma_eff _ _ 
 
 pub returns : goal.returns
 unfolding sigma_eff decimal of_bits
-returns c = c.sigma_search.ensures _ (subst (FloatShares (pair_in c.args.pair)) c.in_ok-w.was (c.share.ensures true))
+returns c = c.sigma_search.ensures.formula _ (subst (FloatShares (pair_in c.args.pair)) c.in_ok-w.was (c.share.ensures true))

@@ -13,4 +13,4 @@ returns-in_err-w c = rw (handed_on _ c.from_residual.ensures) (no_diameter _ _ (
 
 pub returns : goal.returns
 unfolding diameter
-returns c = c.diameter_by.ensures _ (subst (FloatShares (pair_in c.args.pair)) c.in_ok-w.was (c.share.ensures true))
+returns c = c.diameter_by.ensures.formula _ (subst (FloatShares (pair_in c.args.pair)) c.in_ok-w.was (c.share.ensures true))

@@ -3,4 +3,4 @@ use mathlib.Core.Bool.{true}
 use Rattle.dual_num.proofs.EnclosureDualNum.plain_powf.Goals as goal
 
 pub returns : goal.returns
-returns c w = rw (c.powf_at.ensures true, c.enclosure_base.ensures)
+returns c w = rw (c.powf_at.ensures true, c.enclosure_base.ensures.power)

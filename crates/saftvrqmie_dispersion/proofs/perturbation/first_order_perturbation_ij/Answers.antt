@@ -4,4 +4,4 @@ use Rattle.saftvrqmie_dispersion.proofs.perturbation.first_order_perturbation_ij
 
 pub returns : goal.returns
 unfolding combine_of first_order_ij
-returns g c w = rw (c.first_order_at.ensures w, c.terms_of-t.ensures w)
+returns g c w = rw (c.first_order_at.ensures w, c.terms_of-t.ensures.formula w)

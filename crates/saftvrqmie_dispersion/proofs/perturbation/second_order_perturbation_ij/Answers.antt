@@ -4,4 +4,4 @@ use Rattle.saftvrqmie_dispersion.proofs.perturbation.second_order_perturbation_i
 
 pub returns : goal.returns
 unfolding combine_of second_order_ij
-returns g c = rw (c.second_order_at.ensures, c.terms_of-t.ensures _)
+returns g c = rw (c.second_order_at.ensures, c.terms_of-t.ensures.formula _)
