@@ -1,3 +1,4 @@
 pub mod Tame
 pub mod Raised
+pub mod Same
 pub mod Derivatives
