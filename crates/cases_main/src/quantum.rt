@@ -146,13 +146,19 @@ fn vrq_stage(f: &[f64], b: &[u8], x: &mut [f64]) -> u8 {
     )
 }
 
-// Whole numbers go in and out as the floats of their patterns.
-fn order_counts(f: &[f64], x: &mut [f64]) -> Option<u8> {
-    let mut out = [0u64; 4];
-    let lent = out.get_mut(..x.len())?;
-    for (n, x) in lent.iter_mut().zip(x.iter()) {
+// The patterns of the first floats; 0 where there are fewer.
+fn patterns(floats: &[f64]) -> [u64; 4] {
+    let mut patterns = [0u64; 4];
+    for (n, x) in patterns.iter_mut().zip(floats) {
         *n = bits_of(*x);
     }
+    patterns
+}
+
+// Whole numbers go in and out as the floats of their patterns.
+fn order_counts(f: &[f64], x: &mut [f64]) -> Option<u8> {
+    let mut out = patterns(x);
+    let lent = out.get_mut(..x.len())?;
     let answer = domthelv::domthelv_order_counts(whole_at(f, 2), lent);
     for (x, n) in x.iter_mut().zip(out) {
         *x = of_bits(n);

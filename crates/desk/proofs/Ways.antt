@@ -36,7 +36,7 @@ use Rattle.desk_place.specs.Place.{floats_entered, bytes_entered}
 use Rattle.desk_place.proofs.Parts.{part_length}
 use Rattle.desk_place.proofs.Steps.{part_to}
 use Rattle.sizes.specs.Sizes.{side}
-use Rattle.set_lists.proofs.Sets.{Lengths, not_right}
+use Rattle.set_lists.proofs.Sets.{Lengths}
 use Rattle.set_lists.specs.Sets.{quantum_lengths}
 use Rattle.limits.specs.Limits.{count_within}
 use Rattle.number.proofs.Walk.{then_held}
@@ -114,13 +114,9 @@ two_held : {t : Bool} → t ≡ true → verdict (demand 2 t) ≡ held true
 unfolding verdict demand
 two_held f = rw f
 
-pub door_1 : (q : Query) → state_lengths q.lists.count q.fractions q.densities ≡ false → refused 1 ≡ verdict (door q)
-unfolding door verdict ◌>>=◌
-door_1 q h = rw (not_right q.lists _ h)
-
-module _ (q : Query) (is : state_lengths q.lists.count q.fractions q.densities ≡ true) (r : Result (Unit {0}) Refusal) (p : outcome r true ≡ verdict (quantum_set true q.lists)) where
+module _ (q : Query) (b : Bool) (is : b ≡ state_lengths q.lists.count q.fractions q.densities) (r : Result (Unit {0}) Refusal) (p : outcome r true ≡ verdict (quantum_set b q.lists)) where
   asked : outcome r true ≡ verdict (quantum_set (state_lengths q.lists.count q.fractions q.densities) q.lists)
-  asked = p ∙ ap (λ (z : Bool). verdict (quantum_set z q.lists)) (sym is)
+  asked = p ∙ ap (λ (z : Bool). verdict (quantum_set z q.lists)) is
 
   door_step : (a : Ans SaftVRQMiePars) (t : Bool) (n : ℕ) → refused n ≡ verdict a → refused n ≡ verdict (a >>= λ _. demand 2 t)
   unfolding verdict ◌>>=◌

@@ -97,10 +97,8 @@ fn door(q: &DeskQuery) -> Result<(), Refusal>
     ensures { outcome result true ≡ verdict (door (query_of q.now)) }
 {
     let n = q.lists.count;
-    if !right_state(n, q.fractions, q.densities) {
-        return Err(Refusal::Length);
-    }
-    set_lists::quantum_answer(&q.lists)?;
+    let right = right_state(n, q.fractions, q.densities);
+    set_lists::quantum_answer(&q.lists, right)?;
     if !limits::state_within(n, q.temperature, q.fractions, q.densities) {
         return Err(Refusal::Limit);
     }

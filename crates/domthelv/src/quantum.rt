@@ -123,10 +123,8 @@ fn table_of(
         let q = vrq_table (quantum_lists s.now) temperature l in
         (outcome result true ≡ verdict q) × (table.new ≡ (stored l q).values) × (counts.new ≡ (stored l q).numbers) }
 {
-    if !saftvrqmie::right_lists(s.count, table.len(), counts.len()) {
-        return Err(Refusal::Length);
-    }
-    set_lists::quantum_answer(s)?;
+    let right = saftvrqmie::right_lists(s.count, table.len(), counts.len());
+    set_lists::quantum_answer(s, right)?;
     let flat = set_lists::flat(s.sheets);
     let records = set_lists::order_records(s.orders);
     let pairs = PairsAt {
@@ -192,10 +190,8 @@ fn write_searches(p: PairSearches, out: &mut [f64], counts: &mut [u8])
 pub fn pair_set(s: &QuantumSet, i: usize, j: usize) -> Result<SaftVRQMiePars, Refusal>
     ensures { let l = quantum_lists s.now in answer result ≡ quantum_set (index_within l.count i j) l }
 {
-    if !limits::index_within(s.count, i, j) {
-        return Err(Refusal::Length);
-    }
-    set_lists::quantum_answer(s)?;
+    let right = limits::index_within(s.count, i, j);
+    set_lists::quantum_answer(s, right)?;
     Ok(set_lists::quantum_set(s))
 }
 
@@ -276,10 +272,8 @@ impl<'a> LentSet<'a> {
 pub fn lent_set<'a>(s: &QuantumSet<'a>, q: &StateLists) -> Result<LentSet<'a>, Refusal>
     ensures { let l = quantum_lists s.now in answer_by lent_read result ≡ quantum_set (state_lengths l.count q.now.fractions.now q.now.densities.now q.now.table.now) l }
 {
-    if !saftvrqmie_energies::right_lengths(s.count, q.fractions, q.densities, q.table) {
-        return Err(Refusal::Length);
-    }
-    set_lists::quantum_answer(s)?;
+    let right = saftvrqmie_energies::right_lengths(s.count, q.fractions, q.densities, q.table);
+    set_lists::quantum_answer(s, right)?;
     let sheets = <&[f64; SHEETS]>::try_from(s.sheets).map_err(|_| Refusal::Length)?;
     Ok(LentSet {
         count: s.count,

@@ -7,11 +7,10 @@ ghost use Rattle.domthelv.specs.Tank.{vrq_tank, vrq_tank_ends};
 
 use crate::functions::deliver_list;
 use crate::{ends, quantum};
-use number::Refusal;
 use saftvrqmie_tank::Layers;
 use set_lists::QuantumSet;
 
-// The two calls stand apart: one function over what is worked, `F: FnOnce() -> Result<[f64; N], Refusal>`, with the test and the delivery, was refused: no proof is made where a bound of a closure names a const parameter.
+// The two calls stand apart: one function over what is worked, `F: FnOnce() -> Result<[f64; N], Refusal>`, with the delivery, was refused: no proof is made where a bound of a closure names a const parameter.
 // The energies of a tank: hard sphere, dispersion, non-additive. 14, 1, 4, then layer by layer 2, 6, 7, then 7 of the tank.
 pub fn domthelv_vrq_tank(
     count: usize,
@@ -52,11 +51,7 @@ pub fn domthelv_vrq_tank(
         volumes,
         non_additive,
     };
-    // Layers outside are 14, which is behind this.
-    if saftvrqmie_tank::layers_within(layers) & (out.len() != 3) {
-        return Refusal::Length.code();
-    }
-    let worked = tank_lists::listed_tank(&set, &q);
+    let worked = tank_lists::listed_tank(&set, &q, out.len() == 3);
     deliver_list(worked.map(quantum::energies_list), out)
 }
 
@@ -100,9 +95,6 @@ pub fn domthelv_vrq_tank_ends(
         volumes,
         non_additive,
     };
-    if saftvrqmie_tank::layers_within(layers) & (out.len() != 6) {
-        return Refusal::Length.code();
-    }
-    let worked = tank_lists::listed_tank_ends(&set, &q);
+    let worked = tank_lists::listed_tank_ends(&set, &q, out.len() == 6);
     deliver_list(worked.map(ends::ends_list), out)
 }

@@ -7,7 +7,7 @@ use lib.Dec.{eqb, leb}
 use lib.Ieee.{Float}
 use lib.ListN.{length}
 use mathlib.Core.List.{List}
-use mathlib.Core.Path.{◌≡◌, refl, sym, ap}
+use mathlib.Core.Path.{◌≡◌, refl, sym, ap, ◌∙◌}
 use mathlib.Core.Bool.{Bool, true, false, ◌&&◌}
 use borrow.Author.Tests.{eqb-true, leb-true}
 use Rattle.number.specs.Ans.{Ans, held, refused, ◌>>=◌, demand}
@@ -55,24 +55,28 @@ mie_lengths_told lists sheets p =
     record { places = eqb-true (length lists) (5 * side) (and_parts a b p).0; flat = eqb-true (length sheets) (6 * sheet) (and_parts a b p).1 }
 
 -- the returns of `quantum_answer`
-module _ (l : QuantumLists) where
-  pub count_1 : count_within l.count ≡ false → refused 1 ≡ verdict (quantum_set true l)
+module _ (right : Bool) (l : QuantumLists) where
+  pub count_1 : count_within l.count ≡ false → refused 1 ≡ verdict (quantum_set right l)
   unfolding quantum_set demand ◌>>=◌ verdict
   count_1 p = rw p
 
   module _ (p : count_within l.count ≡ true) where
-    pub lengths_1 : quantum_lengths l.m l.sheets l.orders ≡ false → refused 1 ≡ verdict (quantum_set true l)
+    pub lengths_1 : quantum_lengths l.m l.sheets l.orders ≡ false → refused 1 ≡ verdict (quantum_set right l)
     unfolding quantum_set demand ◌>>=◌ verdict
     lengths_1 q = rw (p, q)
 
     module _ (q : quantum_lengths l.m l.sheets l.orders ≡ true) where
-      pub orders_4 : orders_within l.count l.orders ≡ false → refused 4 ≡ verdict (quantum_set true l)
+      pub right_1 : right ≡ false → refused 1 ≡ verdict (quantum_set right l)
       unfolding quantum_set demand ◌>>=◌ verdict
-      orders_4 o = rw (p, q, o)
+      right_1 e = rw (p, q, e)
 
-      pub holds : orders_within l.count l.orders ≡ true → held true ≡ verdict (quantum_set true l)
+      pub orders_4 : right ≡ true → orders_within l.count l.orders ≡ false → refused 4 ≡ verdict (quantum_set right l)
       unfolding quantum_set demand ◌>>=◌ verdict
-      holds o = rw (p, q, o)
+      orders_4 e o = rw (p, q, e, o)
+
+      pub holds : right ≡ true → orders_within l.count l.orders ≡ true → held true ≡ verdict (quantum_set right l)
+      unfolding quantum_set demand ◌>>=◌ verdict
+      holds e o = rw (p, q, e, o)
 
 -- what the answer says to a caller
 abbrev is_held : Ans Bool → Bool
@@ -82,13 +86,18 @@ is_held (refused n) = false
 chain : Bool → Bool → Bool → Bool → SaftVRQMiePars → Ans SaftVRQMiePars
 chain a b r o x = demand 1 (a && b && r) >>= λ _. demand 4 o >>= λ _. held x
 
-chain_passed : (a b r o : Bool) (x : SaftVRQMiePars) → verdict (chain a b r o x) ≡ held true → (b ≡ true) × (chain a b r o x ≡ held x)
+record Passed (a b r o : Bool) (x : SaftVRQMiePars) : Type 0 where
+  pub lengths : b ≡ true
+  pub right : r ≡ true
+  pub set : chain a b r o x ≡ held x
+
+chain_passed : (a b r o : Bool) (x : SaftVRQMiePars) → verdict (chain a b r o x) ≡ held true → Passed a b r o x
 unfolding chain demand ◌>>=◌ verdict
 chain_passed false b r o x e = absurd (mathlib.Core.Bool.false≢true (ap is_held e))
 chain_passed true false r o x e = absurd (mathlib.Core.Bool.false≢true (ap is_held e))
 chain_passed true true false o x e = absurd (mathlib.Core.Bool.false≢true (ap is_held e))
 chain_passed true true true false x e = absurd (mathlib.Core.Bool.false≢true (ap is_held e))
-chain_passed true true true true x e = (refl, refl)
+chain_passed true true true true x e = record { lengths = refl; right = refl; set = refl }
 
 chain_refused : (a b r o : Bool) (x : SaftVRQMiePars) (n : ℕ) → verdict (chain a b r o x) ≡ refused n → chain a b r o x ≡ refused n
 unfolding chain demand ◌>>=◌ verdict
@@ -109,18 +118,24 @@ pub not_right : (l : QuantumLists) (right : Bool) → right ≡ false → quantu
 unfolding quantum_set chain
 not_right l right is = rw is (chain_false (count_within l.count) (quantum_lengths l.m l.sheets l.orders) (orders_within l.count l.orders) (quantum_read l))
 
-module _ (l : QuantumLists) (right : Bool) (is : right ≡ true) (r : Result (Unit {0}) Refusal) (p : outcome r true ≡ verdict (quantum_set true l)) where
-  pub passed_lengths : {u : Unit {0}} → r ≡ Ok u → quantum_lengths l.m l.sheets l.orders ≡ true
+module _ (l : QuantumLists) (b right : Bool) (is : b ≡ right) (r : Result (Unit {0}) Refusal) (p : outcome r true ≡ verdict (quantum_set b l)) where
+  told : {u : Unit {0}} → r ≡ Ok u → Passed (count_within l.count) (quantum_lengths l.m l.sheets l.orders) b (orders_within l.count l.orders) (quantum_read l)
   unfolding quantum_set chain
-  passed_lengths e = (chain_passed (count_within l.count) (quantum_lengths l.m l.sheets l.orders) true (orders_within l.count l.orders) (quantum_read l) (sym (rw e at p))).0
+  told e = chain_passed (count_within l.count) (quantum_lengths l.m l.sheets l.orders) b (orders_within l.count l.orders) (quantum_read l) (sym (rw e at p))
+
+  pub passed_lengths : {u : Unit {0}} → r ≡ Ok u → quantum_lengths l.m l.sheets l.orders ≡ true
+  passed_lengths e = (told e).lengths
+
+  pub passed_right : {u : Unit {0}} → r ≡ Ok u → right ≡ true
+  passed_right e = sym is ∙ (told e).right
 
   pub passed : {u : Unit {0}} → r ≡ Ok u → quantum_set right l ≡ held (quantum_read l)
   unfolding quantum_set chain
-  passed e = rw is (chain_passed (count_within l.count) (quantum_lengths l.m l.sheets l.orders) true (orders_within l.count l.orders) (quantum_read l) (sym (rw e at p))).1
+  passed e = rw (← is) (told e).set
 
   pub not_passed : {n : Refusal} → r ≡ Err n → quantum_set right l ≡ refused (code n)
   unfolding quantum_set chain
-  not_passed e = rw is (chain_refused (count_within l.count) (quantum_lengths l.m l.sheets l.orders) true (orders_within l.count l.orders) (quantum_read l) _ (sym (rw e at p)))
+  not_passed e = rw (← is) (chain_refused (count_within l.count) (quantum_lengths l.m l.sheets l.orders) b (orders_within l.count l.orders) (quantum_read l) _ (sym (rw e at p)))
 
 -- the set whole, and by its parts
 pub set_is : {S : Type 0} (q : Ans S) (x y : S) → q ≡ held x → y ≡ x → q ≡ held y

@@ -86,14 +86,17 @@ pub fn quantum_lengths(m: &[f64], sheets: &[f64], orders: &[u8]) -> bool
     (m.len() == SIDE) & (sheets.len() == SHEETS) & (orders.len() == SHEET)
 }
 
-// Whether a quantum set can be read: 1, 4. A call first asks what else of it is 1.
-pub fn quantum_answer(s: &QuantumSet) -> Result<(), Refusal>
-    ensures { outcome result true ≡ verdict (quantum_set true (quantum_lists s.now)) }
+// Whether a quantum set can be read: 1 where it cannot or the rest of the call is not `right`, then 4.
+pub fn quantum_answer(s: &QuantumSet, right: bool) -> Result<(), Refusal>
+    ensures { outcome result true ≡ verdict (quantum_set right (quantum_lists s.now)) }
 {
     if !limits::count_within(s.count) {
         return Err(Refusal::Length);
     }
     if !quantum_lengths(s.m, s.sheets, s.orders) {
+        return Err(Refusal::Length);
+    }
+    if !right {
         return Err(Refusal::Length);
     }
     if !orders_within(s.count, s.orders) {

@@ -1,7 +1,7 @@
 // Slip 10 behind the C boundary: a tank over a quantum set that crosses as its lists.
 #![tactic(auto)]
 
-ghost use Rattle.std.specs.Prelude.{◌≡◌, true};
+ghost use Rattle.std.specs.Prelude.{◌≡◌};
 ghost use Rattle.number.specs.Answer.{answer};
 ghost use Rattle.saftvrqmie_energies.specs.Energies.{energies_answer};
 ghost use Rattle.saftvrqmie_tank.specs.Tank.{lists_of};
@@ -15,33 +15,31 @@ use saftvrqmie_parameters::SaftVRQMiePars;
 use saftvrqmie_tank::Layers;
 use set_lists::QuantumSet;
 
-// The tank's set. 14, 1, 4.
-fn tank_set(s: &QuantumSet, q: &Layers) -> Result<SaftVRQMiePars, Refusal>
-    ensures { answer result ≡ tank_set (quantum_lists s.now) (lists_of q.now) true }
+// The tank's set. `right`, here and below: whether the list that the answer is written into has its length. 14, 1, 4.
+fn tank_set(s: &QuantumSet, q: &Layers, right: bool) -> Result<SaftVRQMiePars, Refusal>
+    ensures { answer result ≡ tank_set (quantum_lists s.now) (lists_of q.now) right }
 {
     if !saftvrqmie_tank::layers_within(q.layers) {
         return Err(Refusal::Layers);
     }
-    if !saftvrqmie_tank::tank_lengths(s.count, q) {
-        return Err(Refusal::Length);
-    }
-    set_lists::quantum_answer(s)?;
+    let lengths = saftvrqmie_tank::tank_lengths(s.count, q);
+    set_lists::quantum_answer(s, right & lengths)?;
     Ok(set_lists::quantum_set(s))
 }
 
-// 14, 1, 4, then layer by layer 2, 6, 7, then 7 of the tank. The 1 of the list that an answer is written into comes behind the 14 too: who lends one asks it.
+// 14, 1, 4, then layer by layer 2, 6, 7, then 7 of the tank.
 // A function each, here and below: one over a closure for the last line would be longer than both.
-pub fn listed_tank(s: &QuantumSet, q: &Layers) -> Result<QuantumEnergies, Refusal>
-    ensures { energies_answer result ≡ listed_tank (quantum_lists s.now) (lists_of q.now) q.now.non_additive true }
+pub fn listed_tank(s: &QuantumSet, q: &Layers, right: bool) -> Result<QuantumEnergies, Refusal>
+    ensures { energies_answer result ≡ listed_tank (quantum_lists s.now) (lists_of q.now) q.now.non_additive right }
 {
-    let set = tank_set(s, q)?;
+    let set = tank_set(s, q, right)?;
     saftvrqmie_tank::tank(&set, q)
 }
 
 // The same for the tank's ends. 14, 1, 4, then layer by layer 2, 6, 7, then 7 of the tank, then 8.
-pub fn listed_tank_ends(s: &QuantumSet, q: &Layers) -> Result<EnergiesEnds, Refusal>
-    ensures { energies_answer result ≡ listed_tank_ends (quantum_lists s.now) (lists_of q.now) q.now.non_additive true }
+pub fn listed_tank_ends(s: &QuantumSet, q: &Layers, right: bool) -> Result<EnergiesEnds, Refusal>
+    ensures { energies_answer result ≡ listed_tank_ends (quantum_lists s.now) (lists_of q.now) q.now.non_additive right }
 {
-    let set = tank_set(s, q)?;
+    let set = tank_set(s, q, right)?;
     saftvrqmie_tank_ends::tank_ends(&set, q)
 }

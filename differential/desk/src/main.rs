@@ -103,7 +103,7 @@ impl Query {
         if self.fractions.len() != self.count || self.densities.len() != self.count {
             return Some(Refusal::Length.code());
         }
-        match set_lists::quantum_answer(&self.lists()) {
+        match set_lists::quantum_answer(&self.lists(), true) {
             Err(r) => Some(r.code()),
             Ok(()) => (!limits::state_within(self.count, self.temperature, &self.fractions, &self.densities)).then_some(2),
         }
