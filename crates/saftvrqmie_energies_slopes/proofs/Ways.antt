@@ -1,10 +1,13 @@
 -- The ways of the energies with slopes, over plain values. Assumes nothing.
-use Prim.Native.Nat.{ℕ}
+use Prim.Native.Nat.{ℕ, ◌*◌, ◌<◌}
 use lib.Ieee.{Float}
+use lib.ListN.{length}
+use mathlib.Core.List.{List}
 use mathlib.Core.Bool.{Bool, true, false}
 use mathlib.Core.Path.{◌≡◌, ap}
 use Rattle.number.specs.Ans.{Ans, held, refused, ◌>>=◌, demand}
 use Rattle.number.proofs.Walk.{held_inj}
+use Rattle.sizes.specs.Sizes.{sheet}
 use Rattle.elementary.specs.Port.{port}
 use Rattle.dual.specs.Dual.{DualOf}
 use Rattle.slopes.specs.Mixed.{Mixed, sloped, as_dual}
@@ -12,6 +15,10 @@ use Rattle.slopes_lists.specs.Lists.{SlopedList, SlopedState}
 use Rattle.saftvrqmie_parameters.specs.declared.SaftVRQMiePars.{SaftVRQMiePars}
 use Rattle.saftvrqmie_energies.specs.Energies.{EnergiesIn, each_in, each_taken}
 use Rattle.saftvrqmie_energies_slopes.specs.Energies.{as_duals, slopes_finite, contributions_slope, energies_slope, energies_slope_at}
+
+-- whichever list of a table's length is read: what is asked of a table hangs on no list
+pub entry_within : (l : List Float) → length l ≡ 4 * sheet → (e : ℕ) → e < 4 * sheet → e < length l
+entry_within l h e p = rw h p
 
 -- a number taken as a D
 abbrev taken : Mixed → Mixed

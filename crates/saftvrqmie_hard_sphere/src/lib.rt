@@ -6,7 +6,7 @@ mod non_additive_hs;
 
 use dual_num::NumberList;
 pub use hard_sphere::{Zetas, helmholtz_energy_density, segment_density, zero, zeta};
-pub use non_additive_hs::wanted_part;
+pub use non_additive_hs::{non_additive, wanted_part};
 use saftvrqmie_parameters::OrderRecord;
 use sizes::{SHEET, SHEETS, SIDE};
 

@@ -1,6 +1,6 @@
 // The non-additive hard sphere's contribution (saftvrqmie/eos/non_additive_hs.rs).
 // Loops go by index, as in hard_sphere.rt, which says why. One sum over the pairs: a walk over a closure, as the dispersion's three orders have it, would have the column's clauses twice.
-ghost use Rattle.std.specs.Prelude.{◌≡◌, ◌<◌, ℕ, Bool, cond};
+ghost use Rattle.std.specs.Prelude.{◌≡◌, ◌<◌, ℕ, Bool, false, cond};
 ghost use Rattle.number.specs.Arith.{whole};
 ghost use Rattle.number.specs.Lists.{nth};
 ghost use Rattle.saftvrqmie_hard_sphere.specs.State.{diagonal, points, sheet_in, entries, Listed, Reads};
@@ -89,7 +89,7 @@ fn non_additive_sum<D: DualNum>(s: &State<D>, xs: &[D; SIDE], shared: Shared<D>)
     r
 }
 
-fn non_additive<D: DualNum>(s: &State<D>, z: Zetas<D>, xs: &mut [D; SIDE]) -> D
+pub fn non_additive<D: DualNum>(s: &State<D>, z: Zetas<D>, xs: &mut [D; SIDE]) -> D
     requires { Listed D.has s.now.n s.now.densities s.now.table }
     ensures { (w : Bool) → let A = D.beside w in
         let rho = entries (D.entry_of w) s.now.densities in
@@ -109,11 +109,12 @@ fn non_additive<D: DualNum>(s: &State<D>, z: Zetas<D>, xs: &mut [D; SIDE]) -> D
 // The operation has refused other counts and lists with 1.
 pub fn wanted_part<D: DualNum>(s: &State<D>, z: Zetas<D>, xs: &mut [D; SIDE], wanted: bool) -> D
     requires { Listed D.has s.now.n s.now.densities s.now.table }
-    ensures { (w : Bool) → let A = D.beside w in
+    ensures part { (w : Bool) → let A = D.beside w in
         let rho = entries (D.entry_of w) s.now.densities in
         let d = sheet_in (entries (D.entry_of w) s.now.table) 1 in
         zeta_by (D.of w) z ≡ zeta A (D.functions w) s.now.n rho (diagonal d) (points A s.now.m.now) →
         D.of w result ≡ cond wanted (non_additive A (D.functions w) s.now.n rho (points A s.now.m.now) d) (D.taken w (whole A 0)) }
+    ensures unwanted { (w : Bool) → wanted ≡ false → D.of w result ≡ D.taken w (whole (D.beside w) 0) }
 {
     if !wanted {
         return zero();

@@ -27,4 +27,4 @@ returns g c =
     let D = g.D.DualNum in
     let m = g.met.D.DualNum in
     let h = sym (hard_sphere_is _ _ _ _ _ _ _ _ (c.zeta-z.ensures true)) ∙ via (answer_by (D.of true)) (c.helmholtz_energy_density.ensures true) c.in_ok-h.was in
-    worked (D.beside true) _ _ _ _ _ _ _ _ _ h _ _ (via (answer_by (D.of true)) c.helmholtz_energy_density-2.ensures c.in_ok-d.was) (m.taken_of_law true _) (m.taken_of_law true _) (m.taken_of_law true _) (c.wanted_part-a.ensures true (c.zeta-z.ensures true))
+    worked (D.beside true) _ _ _ _ _ _ _ _ _ h _ _ (via (answer_by (D.of true)) c.helmholtz_energy_density-2.ensures c.in_ok-d.was) (m.taken_of_law true _) (m.taken_of_law true _) (m.taken_of_law true _) (c.wanted_part-a.ensures.part true (c.zeta-z.ensures true))

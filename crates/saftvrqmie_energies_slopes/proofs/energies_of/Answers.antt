@@ -1,11 +1,7 @@
 -- `saftvrqmie_energies_slopes::energies_of` meets its contract. Assumes nothing.
-use Prim.Native.Nat.{◌*◌}
 use borrow.Author.Rules.{rules}
-use lib.ListN.{length}
-use mathlib.Core.Path.{◌≡◌}
 use Rattle.number.specs.Answer.{answer_by}
 use Rattle.number.proofs.Walk.{via, told, handed_on}
-use Rattle.sizes.specs.Sizes.{sheet}
 use Rattle.dual.specs.Value.{dual_of}
 use Rattle.slopes.specs.Mixed.{sloped}
 use Rattle.slopes_lists.specs.Lists.{state_of}
@@ -13,14 +9,12 @@ use Rattle.saftvrqmie_table_slopes.specs.Table.{sloped_of}
 use Rattle.saftvrqmie_energies.specs.Energies.{each_by}
 use Rattle.saftvrqmie_energies_slopes.specs.State.{sloped_at}
 use Rattle.saftvrqmie_energies_slopes.specs.Energies.{contributions_slope}
-use Rattle.saftvrqmie_energies_slopes.proofs.Ways.{stops, refuses_7, holds}
+use Rattle.saftvrqmie_energies_slopes.proofs.Ways.{entry_within, stops, refuses_7, holds}
 use Rattle.saftvrqmie_energies_slopes.proofs.energies_of.Goals as goal
 
 pub contributions-requires : goal.contributions-requires
 contributions-requires c =
-    let t : length c.args.table.now.values ≡ 4 * sheet = search rules in
-    let u : length c.args.table.now.slopes ≡ 4 * sheet = search rules in
-    (search rules, (search rules, (c.requires.0, c.requires.1, λ e p. (rw t p, rw u p), λ i p. (rw c.requires.2 p, rw c.requires.3 p), λ i p. (rw c.requires.4 p, rw c.requires.5 p))))
+    (search rules, (search rules, (c.requires.0, c.requires.1, λ e p. (entry_within _ (search rules) e p, entry_within _ (search rules) e p), λ i p. (rw c.requires.2 p, rw c.requires.3 p), λ i p. (rw c.requires.4 p, rw c.requires.5 p))))
 
 pub returns-in_err-e : goal.returns-in_err-e
 unfolding contributions_slope sloped_at
