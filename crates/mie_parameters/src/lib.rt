@@ -18,6 +18,11 @@ pub mod sheets;
 use number::Refusal;
 use sizes::SIDE;
 
+// std::f64::consts, in the float run. What they are in each run is `constant` of its arithmetic; the formulas' code takes them of its run.
+pub const PI: f64 = 3.141592653589793;
+
+pub const FRAC_PI_6: f64 = 0.5235987755982989;
+
 // Lafitte et al. 2013, for both models; SAFT-VR Mie calls LAM_COEFF C.
 pub const PHI: [[f64; 7]; 6] = [
     [

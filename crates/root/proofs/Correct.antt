@@ -1,5 +1,6 @@
 -- The root is correctly rounded, as `Nearest` says, for every float that it accepts; and only one value is. Assumes nothing.
 use mathlib.Core.Path.{◌≡◌, refl, sym, ap, ◌∙◌, subst}
+use mathlib.Core.Logic.{◌⊎◌, inl, inr}
 use mathlib.Core.Bool.{Bool, true, false}
 use Prim.Native.Nat.{ℕ, zero, suc, ◌+◌, ◌-◌, ◌*◌, ◌/◌, ◌^◌, ◌≤◌, ◌<◌}
 use native.Mathlib.Nat.{zero-lt-suc, zero-mul, mul-pos, le_of_eq, lt_of_le_of_lt, lt_of_lt_of_le, add_comm, mul_assoc, mul_comm, mul-lt-mul_of_pos_right}
@@ -13,7 +14,8 @@ use lib.Ieee.Exact.{HasValue}
 use lib.Ieee.Positive.{positive}
 use lib.Ieee.Scale.{finite}
 use Rattle.number.specs.Ans.{held, refused}
-use Rattle.number.specs.Frac.{lt_f, val_f}
+use Rattle.number.specs.Frac.{le_f, lt_f, val_f}
+use Rattle.number.proofs.Frac.{le_or_lt, lt_le_f, lt_irrefl_f}
 use Rattle.root.specs.Root.{whole_root, positive_root, root, midpoint, square_f, Nearest}
 use Rattle.root.proofs.Align.{zeros, double, moved, moved_fits, moved_long, exact, positive_is}
 use Rattle.root.proofs.Domain.{root_of}
@@ -158,3 +160,12 @@ nearest (fin false (suc m) e) r f h = go (significand (fin false (suc m) e) f p)
 -- a value is a float
 pub root_fits : (x r : Float) → T (fits binary64 x) → root x ≡ held r → T (fits binary64 r)
 root_fits x r f h = (nearest x r f h).is_float
+
+-- two floats that are nearest to one root are equal as fractions: each is at most the other
+pub nearest_le : (x r q : Float) → Nearest r x → Nearest q x → le_f (val_f r) (val_f q)
+nearest_le x r q R Q = go (le_or_lt (val_f r) (val_f q))
+  where
+    go : le_f (val_f r) (val_f q) ⊎ lt_f (val_f q) (val_f r) → le_f (val_f r) (val_f q)
+    go (inl h) = h
+    go (inr h) =
+        absurd (lt_irrefl_f (val_f x) (square_f (midpoint q r)) (lt_le_f (val_f x) (square_f (midpoint q r)) (Q.above r R.is_float R.is_finite h)) (R.below q Q.is_float Q.is_finite Q.not_negative h))

@@ -31,6 +31,20 @@ pub struct Exponents<E> {
     pub la: E,
 }
 
+// 10-point Gauss-Legendre quadrature: positions and weights.
+pub const GLQ10: [[f64; 2]; 10] = [
+    [-0.1488743389816312, 0.2955242247147529],
+    [0.1488743389816312, 0.2955242247147529],
+    [-0.4333953941292472, 0.2692667193099963],
+    [0.4333953941292472, 0.2692667193099963],
+    [-0.6794095682990244, 0.219086362515982],
+    [0.6794095682990244, 0.219086362515982],
+    [-0.8650633666889845, 0.1494513491505806],
+    [0.8650633666889845, 0.1494513491505806],
+    [-0.9739065285171717, 0.0666713443086881],
+    [0.9739065285171717, 0.0666713443086881],
+];
+
 // A run whose inverse radii have a base of powers of their own.
 pub trait InverseBase: PlainNum {
     // `base`, inlined for floats: where it is called, a diameter takes 1.16 times as long.
@@ -196,10 +210,12 @@ pub fn diameter_staged<D: InverseBase>(
         answer_by (D.of w) result ≡ diameter_from A (D.functions w) (D.plain w la) (D.plain w lr) (D.of w c_eps_t) (D.plain w sigma) (D.of w r0) }
 {
     let e = exponents_of::<D>(la, lr);
-    bases_of(r0, bases);
     if !(D::exponent_inside(e.lr) & D::exponent_inside(e.la)) {
+        // That a power is refused is told of a base: one, where the nodes take ten.
+        let _ = inverse_at(r0, 0).inverse_base();
         return Err(Refusal::Domain);
     }
+    bases_of(r0, bases);
     betas_of(e, c_eps_t, bases, betas);
     let mut d = r0;
     for (k, base) in bases.iter().enumerate() {

@@ -62,6 +62,19 @@ pub fn raise(log: Log, slope: f64, exponent: SlopeExponent) -> Dual
     }
 }
 
+// x.powf(e); refused where one of the two powers is outside its domain.
+pub fn powf(x: Dual, e: f64) -> Result<Dual, Refusal>
+    ensures { answer_by dual_of result ≡ real_power port (dual_of x) e }
+{
+    if !binary_log::base_inside(x.re) {
+        return Err(Refusal::Domain);
+    }
+    if !exponent_inside(e) {
+        return Err(Refusal::Domain);
+    }
+    Ok(raise(binary_log::log_base(x.re), x.eps, exponent(e)))
+}
+
 pub fn exp(x: Dual) -> Result<Dual, Refusal>
     ensures { answer_by dual_of result ≡ exp_d port (dual_of x) }
 {
@@ -79,5 +92,15 @@ pub fn ln_1p(x: Dual) -> Result<Dual, Refusal>
     Ok(Dual {
         re: v,
         eps: x.eps / (1.0 + x.re),
+    })
+}
+
+pub fn ln(x: Dual) -> Result<Dual, Refusal>
+    ensures { answer_by dual_of result ≡ ln_d port (dual_of x) }
+{
+    let v = elementary::ln(x.re)?;
+    Ok(Dual {
+        re: v,
+        eps: x.eps / x.re,
     })
 }

@@ -36,10 +36,8 @@ pub fn vrq_energies_slopes(
     if out.len() != 6 {
         return Err(Refusal::Length);
     }
-    if !slopes_lists::sloped_lengths(s.count, q) {
-        return Err(Refusal::Length);
-    }
-    set_lists::quantum_answer(s)?;
+    let right = slopes_lists::sloped_lengths(s.count, q);
+    set_lists::quantum_answer(s, right)?;
     let set = set_lists::quantum_set(s);
     let e = saftvrqmie_slopes::energies_slopes(&set, q, non_additive)?;
     out.copy_from_slice(&slopes_list(e));

@@ -1,23 +1,19 @@
 -- `saftvrmie_diameter::diameter_staged` meets its contract. Assumes nothing.
 use borrow.Author.Rules.{rules}
-use Prim.Native.Nat.{◌<◌}
 use lib.ListN.{get_or}
-use mathlib.Core.Path.{sym}
-use native.Mathlib.Omega.{arith}
+use mathlib.Core.Path.{sym, ap, ◌∙◌}
 use Rattle.number.specs.Ans.{◌>>=◌}
 use Rattle.number.specs.Answer.{answer_by}
 use Rattle.number.proofs.Walk.{via, walk_none, walk_next, walk_stop, walk_end, handed_on}
 use Rattle.saftvrmie_diameter.specs.Diameter.{diameter_from}
-use Rattle.saftvrmie_diameter.proofs.Staged.{first, turn_is, turn_refused, from_refused}
+use Rattle.saftvrmie_diameter.proofs.Staged.{turn_is, turn_refused, from_refused}
 use Rattle.saftvrmie_diameter.proofs.diameter_staged.Goals as goal
 
 pub returns-then-not-exponent_inside : goal.returns-then-not-exponent_inside
 returns-then-not-exponent_inside g c w =
     let D = g.D.DualNum in
     let outside = rw (c.exponent_inside.ensures, c.exponent_inside-2.ensures) at c.if-not-exponent_inside.true in
-    let b = first c.args.bases.now (rw c.told-bases (omega arith)) in
-    let few : 0 < 10 = omega arith in
-    from_refused _ _ _ _ _ _ _ (turn_refused (D.beside w) (D.functions w) (D.plain w c.args.la) (D.plain w c.args.lr) (D.of w c.args.c_eps_t) (D.of w c.args.r0) (D.power_at w) (D.power_by w) D.base_in D.exponent_in (D.raised w) (g.met.D.DualNum.power_law w) c.exponents_of-e.result (c.exponents_of-e.ensures w) 0 (get_or c.bases_of.new.bases 0 b) (c.bases_of.ensures w 0 b few) outside _)
+    from_refused _ _ _ _ _ _ _ (turn_refused (D.beside w) (D.functions w) (D.plain w c.args.la) (D.plain w c.args.lr) (D.of w c.args.c_eps_t) (D.of w c.args.r0) (D.power_at w) (D.power_by w) D.base_in D.exponent_in (D.raised w) (g.met.D.DualNum.power_law w) c.exponents_of-e.result (c.exponents_of-e.ensures w) 0 c.inverse_base.result (c.inverse_base.ensures w ∙ ap (D.functions w).powf (c.inverse_at.ensures w)) outside _)
 
 pub loop-k-init : goal.loop-k-init
 loop-k-init g c = (search rules, λ w. walk_none _ _)
