@@ -25,6 +25,15 @@ module _ (A : Arith) where
   unfolding j_by
   j_is l3 l4 p4 p3 = refl
 
+module _ (A D : Arith) (plain : A.Num → D.Num) where
+  pub zeta_eff_is : (zeta : D.Num) (lambda : A.Num) → zeta_eff A D plain zeta lambda ≡ zeta_eff_by A D plain zeta (lambda_of A lambda)
+  unfolding zeta_eff zeta_eff_by lambda_of
+  zeta_eff_is zeta lambda = refl
+
+  pub a1s_is : (zeta_x : D.Num) (lambda : A.Num) → a1s A D plain zeta_x lambda ≡ a1s_by A D plain zeta_x (lambda_of A lambda)
+  unfolding a1s zeta_eff a1s_by zeta_eff_by lambda_of
+  a1s_is zeta_x lambda = refl
+
 module _ (A D : Arith) (plain : A.Num → D.Num) (w : FluidIn D.Num) where
   pub a1s_b_is : (lambda p p3 p4 : A.Num) → a1s_b_of A D plain w lambda p p3 p4 ≡ a1s_b_by A D plain w (lambda_of A lambda) p p3 p4
   unfolding a1s_b_of a1s zeta_eff i_of j_of a1s_b_by a1s_by zeta_eff_by i_by j_by lambda_of

@@ -82,3 +82,13 @@ module _ (A D : Arith) (plain : A.Num → D.Num) (pow : A.Num → Ans A.Num) (w 
   value_is true true false e e3 e4 u h = let k = rw (e, e3, e4) at h in cc
   value_is true false t4 e e3 e4 u h = let k = rw (e, e3) at h in cc
   value_is false t3 t4 e e3 e4 u h = let k = rw e at h in cc
+
+  -- and 6 elsewhere
+  pub sum_tested : (b n n3 n4 : Bool) → pow y ≡ tested (b && n) x → pow (A.sub (whole A 3) y) ≡ tested (b && n3) x3 → pow (A.sub (whole A 4) y) ≡ tested (b && n4) x4
+      → a1s_b A D plain pow w y ≡ tested (b && (n && (n3 && n4))) (a1s_b_of A D plain w y x x3 x4)
+  unfolding a1s_b ◌>>=◌
+  sum_tested true true true true e e3 e4 = rw (e, e3, e4)
+  sum_tested true true true false e e3 e4 = rw (e, e3, e4)
+  sum_tested true true false n4 e e3 e4 = rw (e, e3)
+  sum_tested true false n3 n4 e e3 e4 = rw e
+  sum_tested false n n3 n4 e e3 e4 = rw e

@@ -15,8 +15,8 @@ pub use crate::chain_num::ChainNum;
 pub use crate::orders::{
     a3, add_pair, add_pure, bar_of, orders_sum, pair_terms, six_of, x0_of, xi,
 };
-pub use crate::slope_sums::{k_hs_dual, orders_dual};
-pub use crate::sutherland::{fluid_of, k_hs, lambda_of};
+pub use crate::slope_sums::{a1s_ij_dual, k_hs_dual, orders_dual, zeta_eff_dual};
+pub use crate::sutherland::{a1s_ij, fluid_of, k_hs, lambda_of, zeta_eff};
 
 // What all pairs, or the components of a chain, share in a state: b1, b2 and b3 are the factors of `b_ij` that hang on zeta_x alone.
 #[derive(Clone, Copy)]

@@ -25,14 +25,14 @@ pub fn k_hs_dual<S: SlopeNum>(zeta_x: S) -> S
     (zeta_x - one).fourth() / ((zeta_x + p.second - p.third) * S::Re::entered(4.0) + p.fourth + one)
 }
 
-fn zeta_eff_dual<S: SlopeNum>(zeta: S, of: Lambda<S::Re>) -> S
+pub fn zeta_eff_dual<S: SlopeNum>(zeta: S, of: Lambda<S::Re>) -> S
     ensures { (w : Bool) → let A = S.Re.beside w in
         slope_by S.parts (S.Re.of w) result ≡ zeta_eff_by A (duals A) (plain_d A) (slope_by S.parts (S.Re.of w) zeta) (lambda_by (S.Re.of w) of) }
 {
     zeta * (zeta * (zeta * (zeta * of.c3 + of.c2) + of.c1) + of.c0)
 }
 
-fn a1s_ij_dual<S: SlopeNum>(zeta_x: S, of: Lambda<S::Re>) -> S
+pub fn a1s_ij_dual<S: SlopeNum>(zeta_x: S, of: Lambda<S::Re>) -> S
     ensures { (w : Bool) → let A = S.Re.beside w in
         slope_by S.parts (S.Re.of w) result ≡ a1s_by A (duals A) (plain_d A) (slope_by S.parts (S.Re.of w) zeta_x) (lambda_by (S.Re.of w) of) }
 {

@@ -1,5 +1,5 @@
--- Laws of the operation, test by test. Assumes nothing.
-use Prim.Native.Nat.{ℕ, ◌≤◌}
+-- Laws of the energies over plain values: unused work leaves a float as it is; the operation, test by test. Assumes nothing.
+use Prim.Native.Nat.{ℕ, zero, suc, ◌≤◌}
 use native.Mathlib.Omega.{arith}
 use lib.Dec.{eqb}
 use lib.Ieee.{Float}
@@ -16,11 +16,22 @@ use Rattle.number.specs.declared.refusal.Refusal.{Refusal}
 use Rattle.number.specs.Arith.{floats}
 use Rattle.number.specs.Functions.{calls}
 use Rattle.sizes.specs.Sizes.{side}
+use Rattle.number.specs.Walk.{turns}
 use Rattle.elementary.specs.Port.{port}
 use Rattle.limits.specs.Limits.{count_within, state_within}
 use Rattle.mie_parameters.proofs.Laws.{count_high}
 use Rattle.saftvrmie_parameters.specs.declared.SaftVRMiePars.{SaftVRMiePars}
+use Rattle.saftvrmie_energies.specs.Properties.{after_lower}
 use Rattle.saftvrmie_energies.specs.Energies.{state_lengths, energy_run, energy_by, energy}
+
+same : {S : Type 0} (n : ℕ) (f : ℕ → S → S) (s : S) → ((i : ℕ) (x : S) → f i x ≡ x) → turns n f s ≡ s
+unfolding turns
+same zero f s h = refl
+same (suc n) f s h = rw (h n (turns n f s), same n f s h)
+
+pub lower_is : (n : ℕ) (f : ℕ → ℕ → Float) (x : Float) → after_lower floats n f x ≡ x
+unfolding after_lower
+lower_is n f x = same n _ x (λ i y. same i _ y (λ j z. refl))
 
 -- ---- 1 at last: the lists are as long as the count
 module _ (n x rho d : ℕ) (p : state_lengths n x rho d ≡ true) where

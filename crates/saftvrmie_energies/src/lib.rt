@@ -8,4 +8,5 @@ mod set;
 mod sums;
 
 pub use energies::{dispersion, energy_run};
-pub use set::{Set, State, tested};
+pub use properties::{Properties, d_ij, properties_of, total, weighted, xs_of};
+pub use set::{Set, State, pure_at, tested};

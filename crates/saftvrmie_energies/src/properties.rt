@@ -138,6 +138,8 @@ fn after_lower<D: PlainNum>(n: usize, d: &[f64], x: D) -> D
     s
 }
 
+// Inlined, as `k_values` is: dispersion alone does not use k0 to k3, and floats then do not work them.
+#[inline(always)]
 pub fn properties_of<D: PlainNum>(s: &State, xs: &[D; SIDE]) -> Result<Properties<D>, Refusal>
     requires { Right s.now }
     ensures { (w : Bool) → let A = D.beside w in

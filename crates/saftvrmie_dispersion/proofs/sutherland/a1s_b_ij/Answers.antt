@@ -1,47 +1,42 @@
 -- `saftvrmie_dispersion::sutherland::a1s_b_ij` meets its contract. Assumes nothing.
 use lib.Ieee.{of_bits}
-use Rattle.number.specs.Ans.{◌>>=◌}
-use Rattle.number.specs.Answer.{answer_by}
+use mathlib.Core.Path.{sym, ◌∙◌}
 use Rattle.number.specs.Arith.{decimal}
-use Rattle.number.proofs.Walk.{via, handed_on}
-use Rattle.saftvrmie_dispersion.specs.Sutherland.{a1s_b}
 use Rattle.saftvrmie_dispersion.proofs.Shared.{a1s_b_is}
+use Rattle.saftvrmie_dispersion.proofs.Staged.{sum_tested}
 use Rattle.saftvrmie_dispersion.proofs.sutherland.a1s_b_ij.Goals as goal
 
-pub returns-in_err-p : goal.returns-in_err-p
-unfolding a1s_b ◌>>=◌ decimal of_bits
-returns-in_err-p g c w = rw (handed_on _ c.from_residual.ensures, via (answer_by (g.D.DualNum.of w)) (c.powf_at.ensures w) c.in_err-p.was)
-
-pub returns-in_err-p3 : goal.returns-in_err-p3
-unfolding a1s_b ◌>>=◌ decimal of_bits
-returns-in_err-p3 g c w =
+pub returns-then-not-base_inside-all : goal.returns-then-not-base_inside-all
+unfolding decimal of_bits
+returns-then-not-base_inside-all g c w =
     let m = g.met.D.DualNum in
-    let of = answer_by (g.D.DualNum.of w) in
-    let q3 = rw (m.plain_sub_law w _ _ _ c.sub.ensures, m.plain_lit_law w _ _ c.lit.ensures) at (via of (c.powf_at-2.ensures w) c.in_err-p3.was) in
-    rw (handed_on _ c.from_residual-in_err-p3.ensures, via of (c.powf_at.ensures w) c.in_ok-p.was, q3)
-
-pub returns-in_err-p4 : goal.returns-in_err-p4
-unfolding a1s_b ◌>>=◌ decimal of_bits
-returns-in_err-p4 g c w =
-    let m = g.met.D.DualNum in
-    let of = answer_by (g.D.DualNum.of w) in
-    let q3 = rw (m.plain_sub_law w _ _ _ c.sub.ensures, m.plain_lit_law w _ _ c.lit.ensures) at (via of (c.powf_at-2.ensures w) c.in_ok-p3.was) in
-    let q4 = rw (m.plain_sub_law w _ _ _ c.sub-2.ensures, m.plain_lit_law w _ _ c.lit-2.ensures) at (via of (c.powf_at-3.ensures w) c.in_err-p4.was) in
-    rw (handed_on _ c.from_residual-in_err-p4.ensures, via of (c.powf_at.ensures w) c.in_ok-p.was, q3, q4)
+    let D = g.D.DualNum in
+    let A = D.beside w in
+    let x0 = c.args.x0 in
+    let t = rw (c.base_inside.ensures, c.exponent_inside.ensures, c.exponent_inside-2.ensures, c.exponent_inside-3.ensures) at c.if-not-base_inside-all.true in
+    let e = sym (c.exponent-n.ensures w x0) ∙ m.power_law w x0 _ in
+    let e3 = sym (rw (m.plain_sub_law w _ _ _ c.sub.ensures, m.plain_lit_law w _ _ c.lit.ensures) at (c.exponent-n3.ensures w x0)) ∙ m.power_law w x0 _ in
+    let e4 = sym (rw (m.plain_sub_law w _ _ _ c.sub-2.ensures, m.plain_lit_law w _ _ c.lit-2.ensures) at (c.exponent-n4.ensures w x0)) ∙ m.power_law w x0 _ in
+    rw (sum_tested A A (λ x. x) (D.power_at w x0) _ (D.plain w c.args.lambda) (D.raised w x0 c.exponent-n.result) (D.raised w x0 c.exponent-n3.result) (D.raised w x0 c.exponent-n4.result) (D.base_in x0) (D.exponent_in c.exponent-n.result) (D.exponent_in c.exponent-n3.result) (D.exponent_in c.exponent-n4.result) e e3 e4, t)
 
 pub returns : goal.returns
-unfolding a1s_b ◌>>=◌ decimal of_bits
+unfolding decimal of_bits
 returns g c w =
     let m = g.met.D.DualNum in
-    let A = g.D.DualNum.beside w in
-    let of = answer_by (g.D.DualNum.of w) in
-    let q3 = rw (m.plain_sub_law w _ _ _ c.sub.ensures, m.plain_lit_law w _ _ c.lit.ensures) at (via of (c.powf_at-2.ensures w) c.in_ok-p3.was) in
-    let q4 = rw (m.plain_sub_law w _ _ _ c.sub-2.ensures, m.plain_lit_law w _ _ c.lit-2.ensures) at (via of (c.powf_at-3.ensures w) c.in_ok-p4.was) in
+    let D = g.D.DualNum in
+    let A = D.beside w in
+    let x0 = c.args.x0 in
+    let t = rw (c.base_inside.ensures, c.exponent_inside.ensures, c.exponent_inside-2.ensures, c.exponent_inside-3.ensures) at c.if-not-base_inside-all.false in
+    let e = sym (c.exponent-n.ensures w x0) ∙ m.power_law w x0 _ in
+    let e3 = sym (rw (m.plain_sub_law w _ _ _ c.sub.ensures, m.plain_lit_law w _ _ c.lit.ensures) at (c.exponent-n3.ensures w x0)) ∙ m.power_law w x0 _ in
+    let e4 = sym (rw (m.plain_sub_law w _ _ _ c.sub-2.ensures, m.plain_lit_law w _ _ c.lit-2.ensures) at (c.exponent-n4.ensures w x0)) ∙ m.power_law w x0 _ in
     rw (
-      via of (c.powf_at.ensures w) c.in_ok-p.was,
-      q3,
-      q4,
+      sum_tested A A (λ x. x) (D.power_at w x0) _ (D.plain w c.args.lambda) (D.raised w x0 c.exponent-n.result) (D.raised w x0 c.exponent-n3.result) (D.raised w x0 c.exponent-n4.result) (D.base_in x0) (D.exponent_in c.exponent-n.result) (D.exponent_in c.exponent-n3.result) (D.exponent_in c.exponent-n4.result) e e3 e4,
+      t,
       a1s_b_is A A (λ x. x),
       c.a1s_b_of.ensures w,
       c.lambda_of.ensures w,
+      c.raise_inside-p.ensures w,
+      c.raise_inside-p3.ensures w,
+      c.raise_inside-p4.ensures w,
     )
