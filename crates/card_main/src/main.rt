@@ -11,6 +11,9 @@ use sizes::{LISTS, SHEET, SHEETS, SIDE};
 use std::fs::File;
 use std::io::{self, Read};
 
+// The most records that are read of a file.
+const MOST: u64 = 100_000;
+
 // Bytes of a record of data/cards.bin, and of the room for a card that is written.
 const CARD: usize = 1600;
 
@@ -61,7 +64,7 @@ fn length_at(record: &[u8; CARD], k: usize) -> usize
 
 // The cards that are read or moved, up to a record whose card or list is too long for it. The numbers of the tasks are matched in this place only, so an enum would say them a second time.
 fn cards(rt: &impl Print, file: &mut impl Read) -> io::Result<()> {
-    for record in Records::<_, CARD>::new(file) {
+    for record in Records::<_, CARD>::new(file, MOST) {
         let record = record?;
         let mut list = [0xa5u8; CARD];
         let Some(card) = record[8..].get(..length_at(&record, 0)) else {
@@ -121,7 +124,7 @@ fn mie_card(f: &[f64], room: &mut [u8], length: &mut usize) -> u8 {
 
 // The cards that are written, up to a record whose list is longer than this program has. The model's number is asked in this place only, so an enum would say it a second time.
 fn written(rt: &impl Print, file: &mut impl Read) -> io::Result<()> {
-    for record in Records::<_, RECORD>::new(file) {
+    for record in Records::<_, RECORD>::new(file, MOST) {
         let record = record?;
         let f: [f64; WORDS] = floats(&record);
         let mut list = [0xa5u8; CARD];

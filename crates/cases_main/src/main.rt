@@ -13,6 +13,9 @@ use std::io;
 
 // ---- lines
 
+// The most lines that are read of the file.
+const MOST: u64 = 10_000_000;
+
 // Places for floats and for bytes: what is read, and each list that is lent.
 const FLOATS: usize = 2080;
 
@@ -234,7 +237,7 @@ fn main(rt: HostRuntime) -> io::Result<()> {
     };
     let mut calls = 0u64;
     let mut other = 0u64;
-    for line in Records::<_, 32>::new(&mut file) {
+    for line in Records::<_, 32>::new(&mut file, MOST) {
         let line = line?;
         match Kind::try_from(word(&line, 0)) {
             Ok(Kind::Name) => rt.write_all(&line[8..])?,

@@ -10,6 +10,9 @@ use std::array;
 use std::fs::File;
 use std::io::{self, Read};
 
+// The most records that are read of the file.
+const MOST: u64 = 100_000;
+
 // All pairs alike, but for one place of sigma; c is 4, the exponents 12 and 6. f is the record's words as floats. A sheet by its number: filled by their names, the six ranges of a list give goals that search gives up at.
 fn entry(record: &[u8; 64], f: &[f64; 8], k: usize) -> f64 {
     match k / SHEET {
@@ -100,7 +103,7 @@ fn main(rt: HostRuntime) -> io::Result<()> {
     let mut file = File::open(&rt, "calls.bin")?;
     let mut floats = [1.5; FLOATS];
     let mut bytes = [1u8; BYTES];
-    for record in Records::<_, 64>::new(&mut file) {
+    for record in Records::<_, 64>::new(&mut file, MOST) {
         let record = record?;
         let first_float = usize::from(record[7] == 1);
         let first_byte = usize::from(record[7] == 2);

@@ -8,6 +8,9 @@ use std::fs::File;
 use std::io::{self, Read};
 use std::rt::Files;
 
+// The most records that are read of the file.
+const MOST: u64 = 100_000_000;
+
 // In the order of the numbers that the records have for them.
 #[derive(Clone, Copy)]
 enum Function {
@@ -73,7 +76,7 @@ struct Tally {
 // The records of one function.
 fn tallied(file: &mut impl Read, function: Function) -> io::Result<Tally> {
     let mut tally = Tally { same: 0, other: 0 };
-    for record in Records::<_, 32>::new(file) {
+    for record in Records::<_, 32>::new(file, MOST) {
         let record = record?;
         if word(&record, 0) == function as u64 {
             if function.agrees(&record) {

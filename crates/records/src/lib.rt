@@ -30,16 +30,15 @@ pub fn is_read<R: Read>(reader: &mut R, bytes: &mut [u8]) -> io::Result<bool>
 #[derive(Drop)]
 pub struct Records<'r, R, const N: usize> {
     reader: &'r mut R,
-    // A reader of unknown bytes may never end, so this many records are the most.
+    // A reader of unknown bytes may never end, so this many records are the most that still come.
     left: u64,
 }
 
 impl<'r, R: Read, const N: usize> Records<'r, R, N> {
-    pub fn new(reader: &'r mut R) -> Self {
-        Records {
-            reader,
-            left: u64::MAX,
-        }
+    pub fn new(reader: &'r mut R, most: u64) -> Self
+        ensures { result.left ≡ most }
+    {
+        Records { reader, left: most }
     }
 }
 

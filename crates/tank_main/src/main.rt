@@ -19,6 +19,9 @@ const NAME: usize = 8 * WORDS;
 
 const RECORD: usize = NAME + 48;
 
+// The most records that are read of the file.
+const MOST: u64 = 100_000;
+
 // The most components and layers of a record.
 const COMPONENTS: usize = 5;
 
@@ -229,7 +232,7 @@ where
 
 fn main(rt: HostRuntime) -> io::Result<()> {
     let mut file = File::open(&rt, "tanks.bin")?;
-    for record in Records::<_, RECORD>::new(&mut file) {
+    for record in Records::<_, RECORD>::new(&mut file, MOST) {
         let record = record?;
         rt.write_all(&record[NAME..])?;
         let f = floats(&record);
