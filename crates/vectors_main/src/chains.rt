@@ -7,9 +7,12 @@ use std::fs::File;
 use std::io::{self, Read};
 use std::rt::Files;
 
+// The most records that are read of a file: of a reader of unknown bytes it is not known that it ends.
+const MOST: usize = 1_000_000;
+
 pub trait Chains: Drop {
-    // Makes a record's call: whether it gave what the record has. A call of the other model does not.
-    fn call(&mut self, operation: Operation, record: &Record) -> bool;
+    // Makes a record's call: whether it gave what the record has. None where it is one of the other model.
+    fn call(&mut self, operation: Operation, record: &Record) -> Option<bool>;
 
     // A new chain.
     fn begin(&mut self);
@@ -25,16 +28,16 @@ pub fn run<C: Chains>(rt: &impl Files, name: &str, chain: C, tally: &mut Tally) 
 
 fn worked<C: Chains>(file: &mut impl Read, mut chain: C, tally: &mut Tally) -> io::Result<()> {
     let mut record = Record::new();
-    // The most records: of a reader of unknown bytes it is not known that it ends.
-    for _ in 0..u64::MAX {
+    for _ in 0..MOST {
         if !record.is_next(file)? {
             break;
         }
         match record.step() {
-            Step::Call(operation) => {
-                let same = chain.call(operation, &record);
-                tally.note(operation, record.word(1), same);
-            }
+            Step::Call(operation) => match chain.call(operation, &record) {
+                Some(same) => tally.note(operation, record.word(1), same),
+                // In this file the number stands for no call, as any other that is none.
+                None => changed(&mut chain, &record),
+            },
             Step::Begin => chain.begin(),
             Step::Changes => changed(&mut chain, &record),
         }

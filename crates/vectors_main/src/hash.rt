@@ -21,7 +21,7 @@ impl Hash {
 
     fn place(&mut self, of: Of, index: usize, bits: u64) {
         if bits != 0 {
-            self.word(u64::from(Place { of, index }));
+            self.word(u64::from(Place::at(of, index)));
             self.word(bits);
         }
     }

@@ -60,14 +60,17 @@ impl Mie {
         record.tells(answer.err()) & (record.word(15) == hash_of(self.set))
     }
 
-    // False where the record lends more than there is.
+    // No call where the record lends more than there is: it has a 9 then.
     fn diameters(&mut self, record: &Record) -> bool {
-        let Some(lent) = self.diameters.get_mut(..record.length(6)) else {
-            return false;
+        let is_told = match self.diameters.get_mut(..record.length(6)) {
+            Some(lent) => {
+                let answer = saftvrmie::hs_diameter(self.set, record.temperature(), lent);
+                record.tells(answer.err())
+            }
+            None => record.word(1) == 9,
         };
-        let answer = saftvrmie::hs_diameter(self.set, record.temperature(), lent);
         let diameters = Hash::new().floats(Of::Worked, 0, &self.diameters);
-        record.tells(answer.err()) & (record.word(15) == diameters.value())
+        is_told & (record.word(15) == diameters.value())
     }
 
     fn dispersion(&self, record: &Record) -> bool {
@@ -87,9 +90,10 @@ impl Mie {
         }
     }
 
-    // By the list's number in the file, which is matched in this place only.
-    fn change_list(&mut self, list: usize, i: usize, bits: u64) {
-        match list {
+    // A list goes by its sheet, which is matched in this place only, and has one row, whatever the place's is.
+    fn change_list(&mut self, place: Place, bits: u64) {
+        let i = usize::from(place.column);
+        match place.sheet {
             0 => put(&mut self.set.m, i, bits),
             1 => put(&mut self.set.sigma, i, bits),
             2 => put(&mut self.set.epsilon_k, i, bits),
@@ -101,13 +105,13 @@ impl Mie {
 }
 
 impl Chains for Mie {
-    fn call(&mut self, operation: Operation, record: &Record) -> bool {
+    fn call(&mut self, operation: Operation, record: &Record) -> Option<bool> {
         match operation {
-            Operation::MieParameters => self.parameters(record),
-            Operation::MieDiameters => self.diameters(record),
-            Operation::MieDispersion | Operation::MieAndChain => self.dispersion(record),
+            Operation::MieParameters => Some(self.parameters(record)),
+            Operation::MieDiameters => Some(self.diameters(record)),
+            Operation::MieDispersion | Operation::MieAndChain => Some(self.dispersion(record)),
             Operation::QuantumParameters | Operation::QuantumTable | Operation::QuantumEnergies =>
-                false,
+                None,
         }
     }
 
@@ -120,9 +124,9 @@ impl Chains for Mie {
             Of::Count => {
                 self.set.count = bits as usize;
             }
-            Of::Lists => self.change_list(place.index / SHEET, place.index % SHEET, bits),
-            Of::Sheets => put(&mut self.set.sheets, place.index, bits),
-            Of::Worked => put(&mut self.diameters, place.index, bits),
+            Of::Lists => self.change_list(place, bits),
+            Of::Sheets => put(&mut self.set.sheets, place.index(), bits),
+            Of::Worked => put(&mut self.diameters, place.index(), bits),
             Of::Orders | Of::Spent => {}
         }
     }

@@ -14,10 +14,29 @@ pub enum Of {
     Spent,
 }
 
+// By the parts of its number: an index would not tell one of another row from one of another sheet.
 #[derive(Clone, Copy)]
 pub struct Place {
     pub of: Of,
-    pub index: usize,
+    pub sheet: u8,
+    pub row: u8,
+    pub column: u8,
+}
+
+impl Place {
+    // The place that lists of sheets have at an index.
+    pub fn at(of: Of, index: usize) -> Place {
+        Place {
+            of,
+            sheet: (index / SHEET % 64) as u8,
+            row: (index % SHEET / SIDE) as u8,
+            column: (index % SIDE) as u8,
+        }
+    }
+
+    pub fn index(self) -> usize {
+        SHEET * usize::from(self.sheet) + SIDE * usize::from(self.row) + usize::from(self.column)
+    }
 }
 
 // A number by its bits, where the list has the index.
@@ -37,22 +56,20 @@ impl From<u64> for Place {
             4 => Of::Worked,
             _ => Of::Spent,
         };
-        let sheet = (number / 10000 % 100) as usize;
-        let row = (number / 100 % 100) as usize;
-        let column = (number % 100) as usize;
         Place {
             of,
-            index: SHEET * sheet + SIDE * row + column,
+            sheet: (number / 10000 % 100) as u8,
+            row: (number / 100 % 100) as u8,
+            column: (number % 100) as u8,
         }
     }
 }
 
 impl From<Place> for u64 {
     fn from(place: Place) -> u64 {
-        let Place { of, index } = place;
-        let sheet = (index / SHEET % 64) as u64;
-        let row = (index % SHEET / SIDE) as u64;
-        let column = (index % SIDE) as u64;
-        1000000 * (of as u64) + 10000 * sheet + 100 * row + column
+        let sheet = u64::from(place.sheet);
+        let row = u64::from(place.row);
+        let column = u64::from(place.column);
+        1000000 * (place.of as u64) + 10000 * sheet + 100 * row + column
     }
 }

@@ -28,11 +28,11 @@ fn hash_of(set: SaftVRQMiePars) -> u64 {
         .value()
 }
 
-// The orders of a list of words, as bytes.
-fn orders_of(words: &[f64]) -> [u8; 16] {
+// The orders of a list of words from one on, as bytes; 0 past its end. Of the words themselves: as floats those of a NaN are all alike.
+fn orders_from(words: &[[u8; 8]], from: usize) -> [u8; 16] {
     let mut orders = [0u8; 16];
-    for (order, word) in orders.iter_mut().zip(words) {
-        *order = bits_of(*word).to_le_bytes()[0];
+    for (order, word) in orders.iter_mut().zip(words.iter().skip(from)) {
+        *order = word[0];
     }
     orders
 }
@@ -48,8 +48,7 @@ fn parameters(record: &Record) -> Result<SaftVRQMiePars, Refusal> {
     let mass = lists.take(record.length(11));
     let k_ij = lists.take(record.length(12));
     let l_ij = lists.take(record.length(13));
-    let fh = lists.take(record.length(14));
-    let orders = orders_of(fh);
+    let orders = orders_from(record.list.as_chunks().0, lists.at());
     saftvrqmie_parameters::saft_vrq_mie_pars(&ComponentLists {
         count: record.word(2) as usize,
         m,
@@ -58,7 +57,7 @@ fn parameters(record: &Record) -> Result<SaftVRQMiePars, Refusal> {
         lr,
         la,
         mass,
-        fh: part(&orders, 0, fh.len()),
+        fh: part(&orders, 0, record.length(14)),
         k_ij,
         l_ij,
     })
@@ -125,15 +124,15 @@ impl Quantum {
 }
 
 impl Chains for Quantum {
-    fn call(&mut self, operation: Operation, record: &Record) -> bool {
+    fn call(&mut self, operation: Operation, record: &Record) -> Option<bool> {
         match operation {
-            Operation::QuantumParameters => self.parameters(record),
-            Operation::QuantumTable => self.table(record),
-            Operation::QuantumEnergies => self.energies(record),
+            Operation::QuantumParameters => Some(self.parameters(record)),
+            Operation::QuantumTable => Some(self.table(record)),
+            Operation::QuantumEnergies => Some(self.energies(record)),
             Operation::MieParameters
             | Operation::MieDiameters
             | Operation::MieDispersion
-            | Operation::MieAndChain => false,
+            | Operation::MieAndChain => None,
         }
     }
 
@@ -147,15 +146,15 @@ impl Chains for Quantum {
             Of::Count => {
                 self.set.count = bits as usize;
             }
-            Of::Lists => put(&mut self.set.m, place.index, bits),
-            Of::Sheets => put(&mut self.set.sheets, place.index, bits),
+            Of::Lists => put(&mut self.set.m, place.index(), bits),
+            Of::Sheets => put(&mut self.set.sheets, place.index(), bits),
             Of::Orders => {
                 let order = FeynmanHibbsOrder::from((bits & 0xff) as u8);
-                if let Some(record) = self.set.orders.get_mut(place.index) {
+                if let Some(record) = self.set.orders.get_mut(place.index()) {
                     *record = OrderRecord { order };
                 }
             }
-            Of::Worked => put(&mut self.table, place.index, bits),
+            Of::Worked => put(&mut self.table, place.index(), bits),
             Of::Spent => {}
         }
     }

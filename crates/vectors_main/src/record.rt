@@ -3,7 +3,7 @@ ghost use Rattle.std.specs.Prelude.{◌<◌, ◌≤◌};
 
 use crate::tally::Operation;
 use number::Refusal;
-use records::{is_read, word};
+use records::{is_read, part, word};
 use std::io::{self, Read};
 
 // A head in bytes, and the most words of a list.
@@ -12,6 +12,9 @@ const HEAD: usize = 192;
 pub const WORDS: usize = 512;
 
 pub const BYTES: usize = 8 * WORDS;
+
+// The most changes by hand that a record makes.
+const CHANGES: usize = 128;
 
 // What a record asks: a call, a new chain, or changes by hand.
 #[derive(Clone, Copy)]
@@ -104,9 +107,9 @@ impl Record {
         self.word(1) == refusal.map_or(0, |r| u64::from(r.code()))
     }
 
-    // The pairs of a place and its bits that the list has.
+    // The pairs of a place and its bits that the list has, up to the most.
     pub fn changes(&self) -> &[[u8; 16]] {
-        let end = 8 * self.length(5);
+        let end = 8 * self.length(5).min(2 * CHANGES);
         self.list[..end].as_chunks().0
     }
 }
@@ -114,22 +117,24 @@ impl Record {
 // A record's numbers, taken list by list.
 #[derive(Drop)]
 pub struct Lists<'a> {
-    rest: &'a [f64],
+    numbers: &'a [f64],
+    at: usize,
 }
 
 impl<'a> Lists<'a> {
     pub fn new(numbers: &'a [f64]) -> Lists<'a> {
-        Lists { rest: numbers }
+        Lists { numbers, at: 0 }
     }
 
-    // The next list; empty where fewer numbers are left.
+    // Where the next list begins.
+    pub fn at(&self) -> usize {
+        self.at
+    }
+
+    // The next list; empty where fewer numbers are left, as are those behind it then.
     pub fn take(&mut self, n: usize) -> &'a [f64] {
-        match self.rest.split_at_checked(n) {
-            Some((list, rest)) => {
-                self.rest = rest;
-                list
-            }
-            None => &[],
-        }
+        let list = part(self.numbers, self.at, n);
+        self.at = self.at.saturating_add(n);
+        list
     }
 }
