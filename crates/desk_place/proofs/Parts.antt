@@ -7,9 +7,22 @@ use mathlib.Core.List.{List, ◌++◌, append_assoc}
 use lib.Dec.{eqb}
 use borrow.Author.Tests.{eqb-true, eqb-false}
 use lib.ListN.{length, get_or, set, take, drop, length-drop, length-set, length-append, take-append-drop}
-use lib.Seq.{get_or-set_same, get_or-set_other, take_at, drop_at, drop-drop, take-take, drop-append-le, length-take-le, get_or-take, get_or-drop, take-add}
+use lib.Seq.{paste-suc, get_or-set_same, get_or-set_other, take_at, drop_at, take-length, drop-drop, take-take, drop-append-le, length-take-le, get_or-take, get_or-drop, take-add}
 use Rattle.number.specs.Walk.{turns, filled}
 use Rattle.desk_place.specs.Layout.{part, over}
+
+-- ---- a loop that lays x over d
+module _ {A : Type 0} (x d : List A) where
+  pub lay_next : (p : List A) (k : ℕ) (z : A) → k < length x → k < length d → p ≡ take k x ++ drop k d → set p k (get_or x k z) ≡ take (suc k) x ++ drop (suc k) d
+  lay_next p k z a b h =
+      let q : 0 + k ≡ k = omega arith in
+      let r : 0 + suc k ≡ suc k = omega arith in
+      rw h ((rw q at (paste-suc d 0 x k z (rw q b) a)) ∙ ap (λ (m : ℕ). take (suc k) x ++ drop m d) r)
+
+  pub lay_end : (p : List A) (k : ℕ) → k ≤ length x → length x ≤ k → p ≡ take k x ++ drop k d → p ≡ x ++ drop (length x) d
+  lay_end p k a b h =
+      let q : k ≡ length x = omega arith in
+      h ∙ ap (λ (n : ℕ). take n x ++ drop n d) q ∙ ap (λ (l : List A). l ++ drop (length x) d) (take-length x)
 
 -- ---- a list that a loop fills
 module _ {A : Type 0} (f : ℕ → A) where

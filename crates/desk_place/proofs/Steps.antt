@@ -44,8 +44,12 @@ pub waits_is : (b : List ℕ) (n i j : ℕ) (r : Bool) → n ≡ count_in b → 
 unfolding waits_in
 waits_is b n i j r p q s e = e ∙ rw (p, q, s)
 
-pub cell_within : (n i j : ℕ) → index_within n i j ≡ true → 12 * i + j < sheet
-cell_within n i j w = let h = inside n i j w in let a = h.high in let b = h.row in let d = h.column in omega (arith, a, b, d)
+-- an index of a pair is below 12, a row as a column: what is asked of an entry hangs on no order of the two
+pub row_below : (n i j : ℕ) → index_within n i j ≡ true → i < 12
+row_below n i j w = let h = inside n i j w in let a = h.high in let b = h.row in omega (arith, a, b)
+
+pub column_below : (n i j : ℕ) → index_within n i j ≡ true → j < 12
+column_below n i j w = let h = inside n i j w in let a = h.high in let d = h.column in omega (arith, a, d)
 
 and_false : (a : Bool) → (a && false) ≡ false
 and_false true = refl
