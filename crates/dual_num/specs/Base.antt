@@ -1,5 +1,5 @@
 -- The power of a base whose logarithm is worked once, in each run: as a function of the exponent it is the run's power (contracts of `base`).
-use Rattle.std.specs.Prelude.{Float, ◌&&◌, cond}
+use Rattle.std.specs.Prelude.{Float, false, ◌&&◌, cond}
 use Rattle.number.specs.Ans.{Ans, held, refused, ◌>>=◌, demand}
 use Rattle.number.specs.Functions.{answered₂}
 use Rattle.enclosure.specs.declared.Enclosure.{Enclosure}
@@ -41,6 +41,14 @@ dual_power b (sloped y) = refused 6
 -- the same by an exponent in fixed point: what a power is where base and exponent are inside, and the power
 abbrev pub float_exponent_of : Float → FloatExponent
 float_exponent_of y = record { fixed = Power.exponent_of y; inside = exponent_inside y }
+
+abbrev pub enclosure_exponent_of : Enclosure → EnclosureExponent
+enclosure_exponent_of y = record { x = y; at = float_exponent_of y.value }
+
+-- with that of its slope; no power has an exponent that carries a slope
+abbrev pub dual_exponent_of : Mixed → DualExponent
+dual_exponent_of (plain y) = record { fixed = slope_exponent_of y; inside = slope_inside y }
+dual_exponent_of (sloped y) = record { fixed = slope_exponent_of y.re; inside = false }
 
 abbrev pub float_raised : FloatBase → FloatExponent → Float
 float_raised b n = Power.power_of b.log n.fixed

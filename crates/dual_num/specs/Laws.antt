@@ -1,9 +1,9 @@
--- A power is refused with 6 alone, where its base or its exponent is outside, and EPSILON has a logarithm: what the runs give to the trait's laws. Assumes nothing.
+-- The power by the base of a number is its power, a power is refused with 6 alone, where its base or its exponent is outside, and EPSILON has a logarithm: what the runs give to the trait's laws. Assumes nothing.
 use lib.Ieee as Ieee
 use lib.Ieee.{Float}
 use native.Mathlib.Omega.{arith}
 use Prim.Native.Nat.{ℕ}
-use mathlib.Core.Path.{◌≡◌, refl, sym, ◌∙◌}
+use mathlib.Core.Path.{◌≡◌, refl, sym, ◌∙◌, fun_ext}
 use mathlib.Core.Bool.{Bool, true, false, ◌&&◌, cond}
 use Rattle.number.specs.Ans.{Ans, held, refused, ◌>>=◌, demand}
 use Rattle.number.specs.Arith.{floats, epsilon64}
@@ -16,8 +16,10 @@ use Rattle.power.specs.Power.{exponent_of, power_of, powf_of}
 use Rattle.enclosure.specs.declared.Enclosure.{Enclosure}
 use Rattle.enclosure.specs.Enclosure.{point, enclosures}
 use Rattle.dual.specs.Dual.{DualOf}
+use Rattle.dual.specs.Value.{dual_of}
+use Rattle.dual.specs.declared.Dual.{Dual}
 use Rattle.slopes.specs.Mixed.{Mixed, plain, sloped}
-use Rattle.slopes.specs.Rules.{real_power, mixed_functions}
+use Rattle.slopes.specs.Rules.{real_power, mixed_power, mixed_functions}
 use Rattle.slopes.specs.Staged.{slope_inside}
 use Rattle.slopes.proofs.Staged.{base_outside, power_held, power_tested}
 use Rattle.dual_num.specs.declared.FloatBase.{FloatBase}
@@ -26,12 +28,40 @@ use Rattle.dual_num.specs.declared.DualBase.{DualBase}
 use Rattle.dual_num.specs.declared.FloatExponent.{FloatExponent}
 use Rattle.dual_num.specs.declared.EnclosureExponent.{EnclosureExponent}
 use Rattle.dual_num.specs.declared.DualExponent.{DualExponent}
-use Rattle.dual_num.specs.Base.{float_raised, float_power_by, enclosure_raised, enclosure_power_by, dual_raised, dual_power_by}
+use Rattle.dual_num.specs.Base.{float_base_of, dual_base_of, float_power, enclosure_power, dual_power, float_raised, float_power_by, enclosure_raised, enclosure_power_by, dual_raised, dual_power_by}
 
 pub asked : (x y : Float) (a : Ans Float) → answered₂ floats a x y ≡ a
 unfolding answered₂ ◌>>=◌
 asked x y (held v) = refl
 asked x y (refused n) = refl
+
+-- ---- the power by the base of a number is its power, as a function of the exponent
+pub float_is : (x : Float) → float_power (float_base_of x) ≡ (calls floats port).powf x
+unfolding float_power powf_of
+float_is x = fun_ext (λ y. sym (asked x y (powf_of x y)))
+
+pub enclosure_is : (x : Enclosure) → enclosure_power (record { x = x; base = float_base_of x.value }) ≡ (calls enclosures port).powf x
+unfolding enclosure_power float_power powf_of
+enclosure_is x = refl
+
+staged : (x : DualOf Float) (y : Float) (s t : Bool) → base_inside x.re ≡ s → slope_inside y ≡ t
+    → dual_power (record { base = float_base_of x.re; slope = x.eps }) (plain y) ≡ (real_power port x y >>= λ v. held (sloped v))
+unfolding dual_power demand ◌>>=◌
+staged x y false t h k = rw (h, base_outside x y h)
+staged x y true true h k = rw (h, k, power_held x y h k)
+staged x y true false h k = rw (h, power_tested x y h, k)
+
+at_exponent : (x : DualOf Float) (y : Mixed) → dual_power (record { base = float_base_of x.re; slope = x.eps }) y ≡ mixed_power port (sloped x) y
+unfolding dual_power
+at_exponent x (plain y) = staged x y (base_inside x.re) (slope_inside y) refl refl
+at_exponent x (sloped y) = refl
+
+pub dual_is : (x : DualOf Float) → dual_power (record { base = float_base_of x.re; slope = x.eps }) ≡ (mixed_functions port).powf (sloped x)
+dual_is x = fun_ext (λ y. at_exponent x y)
+
+pub dual_base_is : (x : Dual) → dual_power (dual_base_of x) ≡ (mixed_functions port).powf (sloped (dual_of x))
+unfolding dual_of
+dual_base_is x = dual_is _
 
 -- ---- where a power is refused
 pub float_power_is : (b : FloatBase) (n : FloatExponent) → float_power_by b n ≡ cond (b.inside && n.inside) (held (float_raised b n)) (refused 6)

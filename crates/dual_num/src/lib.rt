@@ -17,8 +17,8 @@ ghost use Rattle.dual_num.specs.Way.{mixed_way};
 ghost use Rattle.enclosure.specs.Enclosed.{IsEnclosed};
 ghost use Rattle.dual_num.specs.Constants.{constant_of};
 ghost use Rattle.dual_num.specs.declared.DualBase.{DualBase};
-ghost use Rattle.dual_num.specs.Base.{float_base_of, enclosure_base_of, dual_base_of, float_power, enclosure_power, dual_power, float_exponent_of, float_raised, float_power_by, enclosure_raised, enclosure_power_by, dual_raised, dual_power_by};
-ghost use Rattle.dual_num.specs.Laws.{float_power_is, enclosure_power_is, dual_power_is, float_six, enclosure_six, mixed_six, float_epsilon, enclosure_epsilon, mixed_epsilon};
+ghost use Rattle.dual_num.specs.Base.{float_base_of, enclosure_base_of, dual_base_of, float_power, enclosure_power, dual_power, float_exponent_of, enclosure_exponent_of, dual_exponent_of, float_raised, float_power_by, enclosure_raised, enclosure_power_by, dual_raised, dual_power_by};
+ghost use Rattle.dual_num.specs.Laws.{float_is, enclosure_is, dual_base_is, float_power_is, enclosure_power_is, dual_power_is, float_six, enclosure_six, mixed_six, float_epsilon, enclosure_epsilon, mixed_epsilon};
 
 use binary_log::Log;
 use dual::Dual;
@@ -109,8 +109,10 @@ pub trait DualNum: Copy
 
     ghost power_by: { (w : Bool) → Self.Base → Self.Exponent → Ans (beside w).Num };
 
-    // The base of a number.
+    // The base of a number, and the exponent of a plain one.
     ghost base_of: { Self → Self.Base };
+
+    ghost exponent_of: { (w : Bool) → (beside w).Num → Self.Exponent };
 
     // Where a power is refused, and what it is elsewhere.
     ghost base_in: { Self.Base → Bool };
@@ -142,7 +144,8 @@ pub trait DualNum: Copy
     }
 
     fn exponent(e: Self::Plain) -> Self::Exponent
-        ensures { (w : Bool) (b : Self.Base) → power_by w b result ≡ power_at w b (plain w e) };
+        ensures power { (w : Bool) (b : Self.Base) → power_by w b result ≡ power_at w b (plain w e) }
+        ensures value { (w : Bool) → result ≡ exponent_of w (plain w e) };
 
     fn exponent_inside(n: Self::Exponent) -> bool
         ensures { result ≡ exponent_in n };
@@ -309,6 +312,9 @@ pub trait DualNum: Copy
 
     ghost plain_pow_law: { (w : Bool) (x c : Self.Plain) (n : ℕ) → Self.Plain.of c ≡ Self.Plain.arith.pow (Self.Plain.of x) n → plain w c ≡ (beside w).pow (plain w x) n };
 
+    // The power by the base of a number is its power.
+    ghost base_law: { (w : Bool) (x : Self) → power_at w (base_of x) ≡ (functions w).powf (of w x) };
+
     // A power is refused with 6 alone: where its base or its exponent is outside.
     ghost power_law: { (w : Bool) (b : Self.Base) (n : Self.Exponent) → power_by w b n ≡ cond (base_in b && exponent_in n) (held (raised w b n)) (refused 6) };
 
@@ -365,6 +371,8 @@ impl DualNum for f64 {
     ghost power_by = { λ w b n. float_power_by b n };
 
     ghost base_of = { λ x. float_base_of x };
+
+    ghost exponent_of = { λ w y. float_exponent_of y };
 
     ghost base_in = { λ b. b.inside };
 
@@ -520,6 +528,8 @@ impl DualNum for f64 {
 
     ghost plain_pow_law = { Prim.search rules };
 
+    ghost base_law = { λ w x. float_is x };
+
     ghost power_law = { λ w b n. float_power_is b n };
 
     ghost powf_law = { λ w x y n. float_six x y n };
@@ -538,7 +548,7 @@ fn enclosure_base(x: Enclosure) -> EnclosureBase
 }
 
 fn enclosure_exponent(y: Enclosure) -> EnclosureExponent
-    ensures { result ≡ record { x = y; at = float_exponent_of y.value } }
+    ensures { result ≡ enclosure_exponent_of y }
 {
     EnclosureExponent {
         x: y,
@@ -566,6 +576,8 @@ impl DualNum for Enclosure {
     ghost power_by = { λ w b n. enclosure_power_by b n };
 
     ghost base_of = { λ x. enclosure_base_of x };
+
+    ghost exponent_of = { λ w y. enclosure_exponent_of y };
 
     ghost base_in = { λ b. b.base.inside };
 
@@ -721,6 +733,8 @@ impl DualNum for Enclosure {
 
     ghost plain_pow_law = { Prim.search rules };
 
+    ghost base_law = { λ w x. enclosure_is x };
+
     ghost power_law = { λ w b n. enclosure_power_is b n };
 
     ghost powf_law = { λ w x y n. enclosure_six x y n };
@@ -739,7 +753,8 @@ fn dual_base(x: Dual) -> DualBase
 }
 
 fn dual_exponent(y: f64) -> DualExponent
-    ensures { (b : DualBase) → dual_power_by b result ≡ dual_power b (plain y) }
+    ensures power { (b : DualBase) → dual_power_by b result ≡ dual_power b (plain y) }
+    ensures value { result ≡ dual_exponent_of (plain y) }
 {
     DualExponent {
         fixed: slopes::exponent(y),
@@ -767,6 +782,8 @@ impl DualNum for Dual {
     ghost power_by = { λ w b n. dual_power_by b n };
 
     ghost base_of = { λ x. dual_base_of x };
+
+    ghost exponent_of = { λ w y. dual_exponent_of y };
 
     ghost base_in = { λ b. b.base.inside };
 
@@ -927,6 +944,8 @@ impl DualNum for Dual {
     ghost plain_neg_law = { Prim.search rules };
 
     ghost plain_pow_law = { Prim.search rules };
+
+    ghost base_law = { λ w x. dual_base_is x };
 
     ghost power_law = { λ w b n. dual_power_is b n };
 

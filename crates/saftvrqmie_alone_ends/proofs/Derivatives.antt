@@ -28,8 +28,7 @@ use Rattle.enclosure.specs.Enclosure.{enclosures, point, add_e, sub_e, mul_e, di
 use Rattle.dual_num.specs.declared.EnclosureBase.{EnclosureBase}
 use Rattle.dual_num.specs.declared.EnclosureExponent.{EnclosureExponent}
 use Rattle.dual_num.specs.Base.{float_base_of, float_exponent_of, float_power, enclosure_power, enclosure_power_by, enclosure_raised}
-use Rattle.dual_num.specs.Laws.{enclosure_power_is}
-use Rattle.dual_num.proofs.Powers.{enclosure_is}
+use Rattle.dual_num.specs.Laws.{enclosure_is, enclosure_power_is}
 use Rattle.saftvrqmie_potential.specs.Potential.{PairIn, PotentialIn, first_order, second_order, quantum_d, q1, q2, recip, u_mie, u_quantum, scaled, after_shared, potential}
 use Rattle.saftvrqmie_potential.specs.Shared.{Stands, alone, exponents_inside}
 use Rattle.saftvrqmie_potential.proofs.Orders.{not_first}

@@ -5,3 +5,4 @@ pub mod Parts
 pub mod Prefactor
 pub mod Relation
 pub mod Slopes
+pub mod Values

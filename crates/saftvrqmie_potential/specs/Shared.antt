@@ -1,8 +1,8 @@
 -- What the code works once for a pair, and what that is: the contracts of helpers alone, which say that what they work from it is the formula's.
-use Rattle.std.specs.Prelude.{Float, ◌≡◌, Bool, true, ◌&&◌, cond, Err, Ok, Result}
+use Rattle.std.specs.Prelude.{ℕ, Float, ◌≡◌, Bool, true, ◌&&◌, cond, Err, Ok, Result}
 use Rattle.number.specs.declared.refusal.Refusal.{Refusal}
 use Rattle.number.specs.Answer.{code}
-use Rattle.number.specs.Ans.{Ans, held, refused, ◌>>=◌}
+use Rattle.number.specs.Ans.{Ans, held, refused, ◌>>=◌, demand}
 use Rattle.number.specs.Arith.{Arith, floats, whole}
 use Rattle.number.specs.Functions.{Functions, calls}
 use Rattle.elementary.specs.Port.{port}
@@ -39,6 +39,10 @@ module _ {B E N : Type 0} where
   abbrev pub Stands : (B → N → Ans N) → (B → E → Ans N) → E → N → Type 0
   Stands power_at power_by n e = (b : B) → power_by b n ≡ power_at b e
 
+-- sigma has not both its powers
+abbrev pub Unraised : (A : Arith) → Functions A.Num → PairIn A.Num → ℕ → Type 0
+Unraised A F p n = (F.powf p.sigma p.lr >>= λ _. F.powf p.sigma p.la) ≡ refused n
+
 -- ---- what is shared: plain numbers read by `plain`, others by `of`, and the powers of a base at a number or by an exponent
 module _ (A : Arith) (F : Functions A.Num) {P B E : Type 0} (plain : P → A.Num) (power_at : B → A.Num → Ans A.Num) (power_by : B → E → Ans A.Num) where
   -- the term of the exponent l
@@ -55,6 +59,7 @@ module _ (A : Arith) (F : Functions A.Num) {P B E : Type 0} (plain : P → A.Num
     pub e5 : Stands power_at power_by t.e5 (A.add l (whole A 5))
     pub e6 : Stands power_at power_by t.e6 (A.add l (whole A 6))
 
+  -- refused where sigma has no power
   abbrev pub IsTerm : A.Num → A.Num → Result (Term P E) Refusal → Type 0
   IsTerm sigma l (Ok t) = TermOf sigma l t
   IsTerm sigma l (Err e) = F.powf sigma l ≡ refused (code e)
@@ -69,10 +74,68 @@ module _ (A : Arith) (F : Functions A.Num) {P B E : Type 0} (plain : P → A.Num
       pub order : s.order ≡ p.order
       pub inside : s.inside ≡ exponents_inside exponent_in s.order s.r s.a
 
-    -- what is shared, or that no radius has a potential
+    -- what is shared, or that no radius of the run has a potential: where sigma has no power, no other number has one either
     abbrev pub Shares : PairIn A.Num → Result (Shared D P E) Refusal → Type 0
     Shares p (Ok s) = Sharing p s
-    Shares p (Err e) = (r : A.Num) → potential A F p r ≡ refused (code e)
+    Shares p (Err e) = ((r : D) → potential A F p (of r) ≡ refused (code e)) × (Unraised A F p (code e) → (r : A.Num) → potential A F p r ≡ refused (code e))
+
+-- ---- the value of what is shared, its numbers read by `plain` and `of`
+abbrev pub term_by : {P N E : Type 0} → (P → N) → Term P E → Term N E
+term_by plain t =
+    record {
+      lambda = plain t.lambda;
+      q1 = plain t.q1;
+      q2 = plain t.q2;
+      power = plain t.power;
+      e0 = t.e0;
+      e1 = t.e1;
+      e2 = t.e2;
+      e3 = t.e3;
+      e4 = t.e4;
+      e5 = t.e5;
+      e6 = t.e6;
+    }
+
+abbrev pub shared_by : {D P N E : Type 0} → (P → N) → (D → N) → Shared D P E → Shared N N E
+shared_by plain of s =
+    record {
+      r = term_by plain s.r;
+      a = term_by plain s.a;
+      d = of s.d;
+      d2 = of s.d2;
+      ce = plain s.ce;
+      order = s.order;
+      inside = s.inside;
+    }
+
+module _ (A : Arith) (F : Functions A.Num) {E : Type 0} (exponent_of : A.Num → E) where
+  -- one of the two terms, lr's or la's: its exponents, and its power of sigma
+  unfoldable pub term_of : A.Num → A.Num → Ans (Term A.Num E)
+  term_of sigma l =
+      F.powf sigma l >>= λ power.
+      held
+      (record {
+        lambda = l;
+        q1 = q1 A l;
+        q2 = q2 A l;
+        power = power;
+        e0 = exponent_of l;
+        e1 = exponent_of (A.add l (whole A 1));
+        e2 = exponent_of (A.add l (whole A 2));
+        e3 = exponent_of (A.add l (whole A 3));
+        e4 = exponent_of (A.add l (whole A 4));
+        e5 = exponent_of (A.add l (whole A 5));
+        e6 = exponent_of (A.add l (whole A 6));
+      })
+
+  -- 6 where sigma or an exponent of the order is outside: then no radius of the run has a potential
+  unfoldable pub shared_of : (E → Bool) → PairIn A.Num → Ans (Shared A.Num A.Num E)
+  shared_of exponent_in p =
+      let d = quantum_d A F p.mass p.temperature in
+      term_of p.sigma p.lr >>= λ r.
+      term_of p.sigma p.la >>= λ a.
+      demand 6 (exponents_inside exponent_in p.order r a) >>= λ _.
+      held (record { r = r; a = a; d = d; d2 = A.pow d 2; ce = A.mul p.c p.epsilon_k; order = p.order; inside = true })
 
 -- in floats
 abbrev pub FloatShared : Type 0

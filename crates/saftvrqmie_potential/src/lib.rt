@@ -6,7 +6,7 @@ ghost use Rattle.std.specs.Prelude.{◌≡◌, ◌<◌, false, Bool};
 ghost use Rattle.number.specs.Answer.{answer_by};
 ghost use Rattle.sizes.specs.Sizes.{sheet};
 ghost use Rattle.saftvrqmie_potential.specs.Potential.{PairIn, prefactor, pair_by, pair_at_entry, potential_by, first_order, second_order, quantum_d, q1, q2, u_mie, u_quantum, potential};
-ghost use Rattle.saftvrqmie_potential.specs.Shared.{alone, IsTerm, Sharing, Shares, powers_by, both_inside, exponents_inside, mie_from, first_from, second_from, after_factors, finished_from, potential_from};
+ghost use Rattle.saftvrqmie_potential.specs.Shared.{alone, term_by, term_of, shared_by, shared_of, IsTerm, Sharing, Shares, powers_by, both_inside, exponents_inside, mie_from, first_from, second_from, after_factors, finished_from, potential_from};
 
 use dual_num::DualNum;
 use number::{Arithmetic, Refusal};
@@ -182,7 +182,8 @@ pub fn q2_of<D: DualNum>(l: D::Plain) -> D::Plain
 
 // Refuses with 6 where sigma has no power.
 fn term_of<D: DualNum>(sigma: D::Plain, l: D::Plain) -> Result<Term<D::Plain, D::Exponent>, Refusal>
-    ensures { (w : Bool) → IsTerm (D.beside w) (D.functions w) (D.plain w) (D.power_at w) (D.power_by w) (D.plain w sigma) (D.plain w l) result }
+    ensures stands { (w : Bool) → IsTerm (D.beside w) (D.functions w) (D.plain w) (D.power_at w) (D.power_by w) (D.plain w sigma) (D.plain w l) result }
+    ensures value { (w : Bool) → answer_by (term_by (D.plain w)) result ≡ term_of (D.beside w) (D.functions w) (D.exponent_of w) (D.plain w sigma) (D.plain w l) }
 {
     let power = D::plain_powf(sigma, l)?;
     Ok(Term {
@@ -223,16 +224,17 @@ fn exponents_inside<D: DualNum>(
     mie & ((!first_order(order) | one) & (!second_order(order) | two))
 }
 
-// Refuses with 6 where sigma has no power: then no radius has a potential.
+// Refuses with 6 where sigma has no power or an exponent of the order is outside: then no radius of the run has a potential.
 pub fn share<D: DualNum>(p: &Pair<D, D::Plain>) -> Result<Shared<D, D::Plain, D::Exponent>, Refusal>
-    ensures { (w : Bool) → Shares (D.beside w) (D.functions w) (D.plain w) (D.power_at w) (D.power_by w) (D.of w) D.exponent_in (pair_by (D.plain w) (D.of w) p.now) result }
+    ensures shares { (w : Bool) → Shares (D.beside w) (D.functions w) (D.plain w) (D.power_at w) (D.power_by w) (D.of w) D.exponent_in (pair_by (D.plain w) (D.of w) p.now) result }
+    ensures value { (w : Bool) → answer_by (shared_by (D.plain w) (D.of w)) result ≡ shared_of (D.beside w) (D.functions w) (D.exponent_of w) D.exponent_in (pair_by (D.plain w) (D.of w) p.now) }
 {
     let r = term_of::<D>(p.sigma, p.lr)?;
     let a = term_of::<D>(p.sigma, p.la)?;
     let order = p.order;
     let inside = exponents_inside::<D>(order, &r, &a);
     let d = quantum_d(p.mass, p.temperature);
-    Ok(Shared {
+    let s = Shared {
         r,
         a,
         d,
@@ -240,7 +242,8 @@ pub fn share<D: DualNum>(p: &Pair<D, D::Plain>) -> Result<Shared<D, D::Plain, D:
         ce: p.c * p.epsilon_k,
         order,
         inside,
-    })
+    };
+    if inside { Ok(s) } else { Err(Refusal::Domain) }
 }
 
 // The base and the order's exponents were tested for the radius.

@@ -1,6 +1,6 @@
 -- The ways of a pair's properties where unused work does not count, one for each refusal and one for the values. Assumes nothing.
 use Prim.Native.Nat.{ℕ}
-use mathlib.Core.Path.{◌≡◌, fun_ext}
+use mathlib.Core.Path.{◌≡◌}
 use Rattle.number.specs.Ans.{Ans, held, refused, ◌>>=◌}
 use Rattle.number.specs.Arith.{Arith}
 use Rattle.number.specs.Functions.{Functions}
@@ -9,7 +9,7 @@ use Rattle.saftvrqmie_searches.specs.declared.Search.{Search}
 use Rattle.saftvrqmie_searches.specs.declared.Search.TheVariants.{Found, Spent}
 use Rattle.saftvrqmie_searches.specs.Searches.{Counted, search_by, sigma_search, zero_search, depth_search}
 use Rattle.saftvrqmie_searches.specs.Diameter.{diameter_by}
-use Rattle.saftvrqmie_searches.proofs.Loops.{sigma_none}
+use Rattle.saftvrqmie_searches.proofs.Loops.{sigma_refused}
 use Rattle.saftvrqmie_properties.specs.Properties.{PairPropertiesIn, radius_of, last_of, properties_from}
 
 -- ---- a search read by `of`
@@ -25,9 +25,9 @@ module _ (A : Arith) (F : Functions A.Num) (U : A.Num → Ans (PotentialIn A.Num
   abbrev result : Ans (PairPropertiesIn A.Num)
   result = properties_from A F U start mass t
 
-  pub no_shared : (n : ℕ) → ((r : A.Num) → U r ≡ refused n) → refused n ≡ result
+  pub no_shared : (n : ℕ) → U start ≡ refused n → refused n ≡ result
   unfolding ◌>>=◌
-  no_shared n h = rw (fun_ext h, ← sigma_none A n start)
+  no_shared n h = rw (← sigma_refused A n U start h)
 
   module _ (x : A.Num) (is_x : x ≡ start) where
     pub no_sigma : (n : ℕ) → sigma_search A U x ≡ refused n → refused n ≡ result

@@ -51,8 +51,8 @@ pub fn pair_properties<D: WithoutEnds>(
         let start = (D.beside false).mul (D.taken false (whole (D.beside false) 1)) (D.plain false pair.sigma) in
         answer_by (pair_properties_by (D.of false)) result ≡ properties_from (D.beside false) (D.functions false) U start (D.plain false pair.mass) (D.of false pair.temperature) }
 {
-    let w = saftvrqmie_potential::share(&pair)?;
     let sigma = D::lift(D::Plain::lit(1.0)) * pair.sigma;
+    let w = saftvrqmie_potential::share(&pair)?;
     let (s, sigma_count) = saftvrqmie_searches::sigma_search(&w, sigma)?;
     let t = pair.temperature;
     let sigma_eff = radius(s);

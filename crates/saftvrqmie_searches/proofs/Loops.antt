@@ -58,6 +58,11 @@ module _ (A : Arith) (n : ℕ) where
   unfolding sigma_search searched search_from ◌>>=◌
   sigma_none s = refl
 
+  -- at its first radius
+  pub sigma_refused : (U : A.Num → Ans (PotentialIn A.Num)) (s : A.Num) → U s ≡ refused n → refused n ≡ sigma_search A U s
+  unfolding sigma_search searched search_from ◌>>=◌
+  sigma_refused U s h = rw h
+
   depth_none : (s : A.Num) → refused n ≡ depth_search A none s
   unfolding depth_search searched search_from ◌>>=◌
   depth_none s = refl

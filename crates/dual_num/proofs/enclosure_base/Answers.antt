@@ -1,5 +1,5 @@
 -- `dual_num::enclosure_base` meets its contract. Assumes nothing.
-use Rattle.dual_num.proofs.Powers.{enclosure_is}
+use Rattle.dual_num.specs.Laws.{enclosure_is}
 use Rattle.dual_num.proofs.enclosure_base.Goals as goal
 
 pub returns : goal.returns

@@ -1,5 +1,5 @@
 -- `dual_num::float_base` meets its contract. Assumes nothing.
-use Rattle.dual_num.proofs.Powers.{float_is}
+use Rattle.dual_num.specs.Laws.{float_is}
 use Rattle.dual_num.proofs.float_base.Goals as goal
 
 pub returns : goal.returns

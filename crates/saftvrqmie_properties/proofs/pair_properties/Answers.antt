@@ -11,9 +11,13 @@ use Rattle.saftvrqmie_properties.proofs.Ways.{radius_by, last_by, no_shared, no_
 use Rattle.saftvrqmie_properties.proofs.pair_properties.Goals as goal
 
 pub returns-in_err-w : goal.returns-in_err-w
+unfolding decimal of_bits
 returns-in_err-w g c =
     let d = g.D.DualNum in
-    rw (handed_on _ c.from_residual.ensures) (no_shared _ _ _ _ _ _ _ (subst (Shares (d.beside false) (d.functions false) (d.plain false) (d.power_at false) (d.power_by false) (d.of false) d.exponent_in _) c.in_err-w.was (c.share.ensures false)))
+    let m = g.met.D.DualNum in
+    let x = rw (c.lift.ensures false, m.plain_lit_law false _ _ c.lit.ensures) at (m.mul_plain_law false _ _ _ c.mul-sigma.ensures) in
+    let h = (subst (Shares (d.beside false) (d.functions false) (d.plain false) (d.power_at false) (d.power_by false) (d.of false) d.exponent_in _) c.in_err-w.was (c.share.ensures.shares false)).0 c.mul-sigma.result in
+    rw (handed_on _ c.from_residual.ensures) (no_shared _ _ _ _ _ _ _ (rw x at h))
 
 pub returns-in_err-s : goal.returns-in_err-s
 unfolding decimal of_bits
@@ -21,7 +25,7 @@ returns-in_err-s g c =
     let d = g.D.DualNum in
     let m = g.met.D.DualNum in
     let of = answer_by (counted_by (d.of false)) in
-    let w = subst (Shares (d.beside false) (d.functions false) (d.plain false) (d.power_at false) (d.power_by false) (d.of false) d.exponent_in _) c.in_ok-w.was (c.share.ensures false) in
+    let w = subst (Shares (d.beside false) (d.functions false) (d.plain false) (d.power_at false) (d.power_by false) (d.of false) d.exponent_in _) c.in_ok-w.was (c.share.ensures.shares false) in
     let x = rw (c.lift.ensures false, m.plain_lit_law false _ _ c.lit.ensures) at (m.mul_plain_law false _ _ _ c.mul-sigma.ensures) in
     rw (handed_on _ c.from_residual-in_err-s.ensures) (no_sigma _ _ _ _ _ _ _ x _ (via of (c.sigma_search.ensures.formula _ w) c.in_err-s.was))
 
@@ -31,7 +35,7 @@ returns-in_err-z g c =
     let d = g.D.DualNum in
     let m = g.met.D.DualNum in
     let of = answer_by (counted_by (d.of false)) in
-    let w = subst (Shares (d.beside false) (d.functions false) (d.plain false) (d.power_at false) (d.power_by false) (d.of false) d.exponent_in _) c.in_ok-w.was (c.share.ensures false) in
+    let w = subst (Shares (d.beside false) (d.functions false) (d.plain false) (d.power_at false) (d.power_by false) (d.of false) d.exponent_in _) c.in_ok-w.was (c.share.ensures.shares false) in
     let x = rw (c.lift.ensures false, m.plain_lit_law false _ _ c.lit.ensures) at (m.mul_plain_law false _ _ _ c.mul-sigma.ensures) in
     let s = via of (c.sigma_search.ensures.formula _ w) c.in_ok-s.was in
     let sigma = radius_by (d.of false) _ _ c.radius-sigma_eff.ensures in
@@ -43,7 +47,7 @@ returns-in_err-d g c =
     let d = g.D.DualNum in
     let m = g.met.D.DualNum in
     let of = answer_by (counted_by (d.of false)) in
-    let w = subst (Shares (d.beside false) (d.functions false) (d.plain false) (d.power_at false) (d.power_by false) (d.of false) d.exponent_in _) c.in_ok-w.was (c.share.ensures false) in
+    let w = subst (Shares (d.beside false) (d.functions false) (d.plain false) (d.power_at false) (d.power_by false) (d.of false) d.exponent_in _) c.in_ok-w.was (c.share.ensures.shares false) in
     let x = rw (c.lift.ensures false, m.plain_lit_law false _ _ c.lit.ensures) at (m.mul_plain_law false _ _ _ c.mul-sigma.ensures) in
     let s = via of (c.sigma_search.ensures.formula _ w) c.in_ok-s.was in
     let sigma = radius_by (d.of false) _ _ c.radius-sigma_eff.ensures in
@@ -57,7 +61,7 @@ returns-in_err-e g c =
     let d = g.D.DualNum in
     let m = g.met.D.DualNum in
     let of = answer_by (counted_by (d.of false)) in
-    let w = subst (Shares (d.beside false) (d.functions false) (d.plain false) (d.power_at false) (d.power_by false) (d.of false) d.exponent_in _) c.in_ok-w.was (c.share.ensures false) in
+    let w = subst (Shares (d.beside false) (d.functions false) (d.plain false) (d.power_at false) (d.power_by false) (d.of false) d.exponent_in _) c.in_ok-w.was (c.share.ensures.shares false) in
     let x = rw (c.lift.ensures false, m.plain_lit_law false _ _ c.lit.ensures) at (m.mul_plain_law false _ _ _ c.mul-sigma.ensures) in
     let s = via of (c.sigma_search.ensures.formula _ w) c.in_ok-s.was in
     let sigma = radius_by (d.of false) _ _ c.radius-sigma_eff.ensures in
@@ -72,7 +76,7 @@ returns g c =
     let d = g.D.DualNum in
     let m = g.met.D.DualNum in
     let of = answer_by (counted_by (d.of false)) in
-    let w = subst (Shares (d.beside false) (d.functions false) (d.plain false) (d.power_at false) (d.power_by false) (d.of false) d.exponent_in _) c.in_ok-w.was (c.share.ensures false) in
+    let w = subst (Shares (d.beside false) (d.functions false) (d.plain false) (d.power_at false) (d.power_by false) (d.of false) d.exponent_in _) c.in_ok-w.was (c.share.ensures.shares false) in
     let x = rw (c.lift.ensures false, m.plain_lit_law false _ _ c.lit.ensures) at (m.mul_plain_law false _ _ _ c.mul-sigma.ensures) in
     let s = via of (c.sigma_search.ensures.formula _ w) c.in_ok-s.was in
     let sigma = radius_by (d.of false) _ _ c.radius-sigma_eff.ensures in

@@ -11,8 +11,8 @@ use Rattle.saftvrqmie_searches.proofs.Loops.{no_zero_integrand}
 use Rattle.saftvrqmie_searches.proofs.zero_integrand.Goals as goal
 
 pub returns-in_err-w : goal.returns-in_err-w
-returns-in_err-w c = rw (handed_on _ c.from_residual.ensures) (no_zero_integrand _ _ (subst (FloatShares (pair_in c.args.pair)) c.in_err-w.was (c.share.ensures true)) _)
+returns-in_err-w c = rw (handed_on _ c.from_residual.ensures) (no_zero_integrand _ _ (subst (FloatShares (pair_in c.args.pair)) c.in_err-w.was (c.share.ensures.shares true)).0 _)
 
 pub returns : goal.returns
 unfolding zero_integrand decimal of_bits
-returns c = c.zero_search.ensures.formula _ (subst (FloatShares (pair_in c.args.pair)) c.in_ok-w.was (c.share.ensures true))
+returns c = c.zero_search.ensures.formula _ (subst (FloatShares (pair_in c.args.pair)) c.in_ok-w.was (c.share.ensures.shares true))

@@ -1,5 +1,5 @@
 -- `saftvrmie_diameter::F64InverseBase::inverse_base` meets its contract. Assumes nothing.
-use Rattle.dual_num.proofs.Powers.{float_is}
+use Rattle.dual_num.specs.Laws.{float_is}
 use Rattle.saftvrmie_diameter.proofs.F64InverseBase.inverse_base.Goals as goal
 
 pub returns : goal.returns

@@ -13,9 +13,9 @@ returns g c w u h =
     let n = g.met.S.Re.DualNum in
     let A = g.S.Re.DualNum.beside w in
     let x0 = c.args.x0 in
-    let e = sym (c.exponent.ensures w x0) ∙ n.power_law w x0 _ in
-    let e3 = sym (rw (n.plain_sub_law w _ _ _ c.sub.ensures, c.lit.ensures w) at (c.exponent-n3.ensures w x0)) ∙ n.power_law w x0 _ in
-    let e4 = sym (rw (n.plain_sub_law w _ _ _ c.sub-2.ensures, c.lit-2.ensures w) at (c.exponent-n4.ensures w x0)) ∙ n.power_law w x0 _ in
+    let e = sym (c.exponent.ensures.power w x0) ∙ n.power_law w x0 _ in
+    let e3 = sym (rw (n.plain_sub_law w _ _ _ c.sub.ensures, c.lit.ensures w) at (c.exponent-n3.ensures.power w x0)) ∙ n.power_law w x0 _ in
+    let e4 = sym (rw (n.plain_sub_law w _ _ _ c.sub-2.ensures, c.lit-2.ensures w) at (c.exponent-n4.ensures.power w x0)) ∙ n.power_law w x0 _ in
     rw (
       c.a1s_b_of_dual.ensures w,
       c.lambda_in.ensures w,

@@ -11,9 +11,9 @@ unfolding powers_held decimal of_bits
 returns g c w =
     let m = g.met.D.DualNum in
     let x0 = c.args.x0 in
-    let e = sym (c.exponent.ensures w x0) ∙ m.power_law w x0 _ in
-    let e3 = sym (rw (m.plain_sub_law w _ _ _ c.sub.ensures, m.plain_lit_law w _ _ c.lit.ensures) at (c.exponent-2.ensures w x0)) ∙ m.power_law w x0 _ in
-    let e4 = sym (rw (m.plain_sub_law w _ _ _ c.sub-2.ensures, m.plain_lit_law w _ _ c.lit-2.ensures) at (c.exponent-3.ensures w x0)) ∙ m.power_law w x0 _ in
+    let e = sym (c.exponent.ensures.power w x0) ∙ m.power_law w x0 _ in
+    let e3 = sym (rw (m.plain_sub_law w _ _ _ c.sub.ensures, m.plain_lit_law w _ _ c.lit.ensures) at (c.exponent-2.ensures.power w x0)) ∙ m.power_law w x0 _ in
+    let e4 = sym (rw (m.plain_sub_law w _ _ _ c.sub-2.ensures, m.plain_lit_law w _ _ c.lit-2.ensures) at (c.exponent-3.ensures.power w x0)) ∙ m.power_law w x0 _ in
     rw (
       c.base_inside.ensures,
       c.exponent_inside-n.ensures,
